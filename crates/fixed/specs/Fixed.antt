@@ -1,0 +1,80 @@
+-- Signed sixteen-bit arithmetic over ℤ: what the functions of `fixed` compute (docs/SCOPE.md, "Signed arithmetic").
+-- `pos n` is n and `negsuc n` is -(n + 1), so -32768 is `negsuc 32767`. The library's `quotZ` divides towards zero, and its `shrZ z m` divides by m and rounds
+-- down, as a shift that copies the sign bit does.
+use mathlib.Core.Bool.{Bool, true, false, cond}
+use Prim.Native.Nat.{ℕ, zero, suc, _+_, _-_, _*_, _/_, _%_, _^_, min}
+use lib.Dec.{ltb}
+use lib.IntN.{ℤ, pos, negsuc, negℤ, _+ℤ_, _-ℤ_, _*ℤ_}
+use lib.Signed.{ltZ, quotZ, shrZ}
+
+-- ---- clamping: "sums clamp to -32768..32767", colours "clamp to 0..255"
+unfoldable pub clampI16 : ℤ → ℤ
+clampI16 (pos n) = pos (min n 32767)
+clampI16 (negsuc n) = negsuc (min n 32767)
+
+unfoldable pub clampU8 : ℤ → ℕ
+clampU8 (pos n) = min n 255
+clampU8 (negsuc n) = 0
+
+-- ---- wrapping: "each sample keeps its low sixteen bits, read as signed"
+-- the number that the low sixteen bits of z are
+unfoldable pub low16 : ℤ → ℕ
+low16 (pos n) = n % 65536
+low16 (negsuc n) = 65535 - n % 65536
+
+-- sixteen bits, read as signed: from 32768 on, less 65536
+unfoldable pub signed16 : ℕ → ℤ
+signed16 m = cond (ltb m 32768) (pos m) (negsuc (65535 - m))
+
+unfoldable pub wrapI16 : ℤ → ℤ
+wrapI16 z = signed16 (low16 z)
+
+-- ---- halving, which has two forms: the wavelet's goes towards zero, a shift by one place rounds down
+abbrev pub halfTowardZero : ℤ → ℤ
+halfTowardZero z = quotZ z (pos 2)
+
+abbrev pub halfFloor : ℤ → ℤ
+halfFloor z = shrZ z 2
+
+-- ---- shifts by k places
+-- right, with floor
+abbrev pub floorShift : ℤ → ℕ → ℤ
+floorShift z k = shrZ z (2 ^ k)
+
+-- right, rounded: half of 2 ^ k is added first ("adds 2^(5-q) and shifts right 6-q with floor"); a shift by 0 places adds nothing
+unfoldable pub roundShift : ℤ → ℕ → ℤ
+roundShift z k = floorShift (z +ℤ pos (2 ^ k / 2)) k
+
+-- left, clamped ("shifts left q-6 and clamps")
+unfoldable pub shiftLeftClamp : ℤ → ℕ → ℤ
+shiftLeftClamp z k = clampI16 (z *ℤ pos (2 ^ k))
+
+-- ---- an upgrade of one coefficient: a number times 2 ^ k is added or subtracted, and the sum clamps
+unfoldable pub addScaled : ℤ → ℕ → ℕ → ℤ
+addScaled c m k = clampI16 (c +ℤ pos (m * 2 ^ k))
+
+unfoldable pub subScaled : ℤ → ℕ → ℕ → ℤ
+subScaled c m k = clampI16 (c -ℤ pos (m * 2 ^ k))
+
+-- ---- signs
+abbrev pub isNegative : ℤ → Bool
+isNegative z = ltZ z (pos 0)
+
+abbrev pub isPositive : ℤ → Bool
+isPositive z = ltZ (pos 0) z
+
+unfoldable pub isZero : ℤ → Bool
+isZero (pos zero) = true
+isZero (pos (suc n)) = false
+isZero (negsuc n) = false
+
+-- 1, 0 or -1
+unfoldable pub signOf : ℤ → ℤ
+signOf (pos zero) = pos 0
+signOf (pos (suc n)) = pos 1
+signOf (negsuc n) = negsuc 0
+
+-- a magnitude with a sign: "a sign bit (1 negative)"
+abbrev pub withSign : Bool → ℕ → ℤ
+withSign false m = pos m
+withSign true m = negℤ (pos m)

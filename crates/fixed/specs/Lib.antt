@@ -1,0 +1,3 @@
+-- What the contracts of `fixed` cite.
+pub mod Fixed
+pub mod Inner
