@@ -1,0 +1,141 @@
+-- Bands that lie one after another: one test that computes, run over both tables, and what follows from it for every list of bands that passes it.
+-- Assumes nothing.
+use mathlib.Core.Bool.{Bool, true, false, cond, _&&_}
+use mathlib.Core.List.{List, [], _∷_}
+use mathlib.Core.Path.{_≡_, refl, sym, ap, _∙_}
+use Prim.Native.Nat.{ℕ, zero, suc, _+_, _<_, _≤_}
+use native.Mathlib.Omega.{arith}
+use borrow.Author.Tests.{le-leb, lt-ltb, le-ltb, ltb-true, ltb-false}
+use lib.Dec.{T, eqb, leb, ltb, eqb→eq, leb→le, ltb→lt}
+use lib.ListN.{length, getD, List·getD-eq-default}
+use mir.Facts.{and-yes}
+use Rattle.bands.specs.declared.BandInfo.{BandInfo}
+use Rattle.bands.specs.Bands.{layout, countOf, bandAt, none}
+use Rattle.bands.specs.Tables.{encloses, bandOfPlace, countBefore, OnlyBand, BandTables}
+
+-- the bands lie one after another from a place to another, with no gap
+abbrev pub laid : ℕ → List BandInfo → ℕ → Bool
+laid at [] end = eqb at end
+laid at (i ∷ is) end = eqb (i .offset) at && laid (at + countOf i) is end
+
+-- the test, over both tables
+both-laid : T (laid 0 (layout true) 4096 && laid 0 (layout false) 4096)
+both-laid = tt
+
+pub layout-laid : (e : Bool) → T (laid 0 (layout e) 4096)
+layout-laid true = and-yes (laid 0 (layout true) 4096) (laid 0 (layout false) 4096) both-laid .0
+layout-laid false = and-yes (laid 0 (layout true) 4096) (laid 0 (layout false) 4096) both-laid .1
+
+-- ---- what passes the test
+module _ (i : BandInfo) (is : List BandInfo) (at end : ℕ) (t : T (laid at (i ∷ is) end)) where
+  pub first : i .offset ≡ at
+  first = eqb→eq (i .offset) at (and-yes (eqb (i .offset) at) (laid (at + countOf i) is end) t .0)
+
+  pub rest : T (laid (at + countOf i) is end)
+  rest = and-yes (eqb (i .offset) at) (laid (at + countOf i) is end) t .1
+
+-- an offset is the running sum of the counts
+pub running-sum : (at : ℕ) (l : List BandInfo) (end b : ℕ) → T (laid at l end) → b < length l → getD l b none .offset ≡ at + countBefore l b
+unfolding countBefore
+running-sum at [] end b t h = absurd (omega arith)
+running-sum at (i ∷ is) end zero t h = first i is at end t ∙ omega arith
+running-sum at (i ∷ is) end (suc b) t h = running-sum (at + countOf i) is end b (rest i is at end t) (omega arith) ∙ omega arith
+
+-- the last band ends where the test says
+pub whole-sum : (at : ℕ) (l : List BandInfo) (end : ℕ) → T (laid at l end) → at + countBefore l (length l) ≡ end
+unfolding countBefore
+whole-sum at [] end t = omega (arith, eqb→eq at end t)
+whole-sum at (i ∷ is) end t = omega (arith, whole-sum (at + countOf i) is end (rest i is at end t))
+
+-- a band ends no later than where the test says
+ordered : (at : ℕ) (l : List BandInfo) (end : ℕ) → T (laid at l end) → at ≤ end
+ordered at [] end t = omega (arith, eqb→eq at end t)
+ordered at (i ∷ is) end t = omega (arith, ordered (at + countOf i) is end (rest i is at end t))
+
+ends-within : (at : ℕ) (l : List BandInfo) (end b : ℕ) → T (laid at l end) → b < length l → getD l b none .offset + countOf (getD l b none) ≤ end
+ends-within at [] end b t h = absurd (omega arith)
+ends-within at (i ∷ is) end zero t h = omega (arith, first i is at end t, ordered (at + countOf i) is end (rest i is at end t))
+ends-within at (i ∷ is) end (suc b) t h = ends-within (at + countOf i) is end b (rest i is at end t) (omega arith)
+
+-- ---- enclosing
+enclosed : (i : BandInfo) (p : ℕ) → T (encloses i p) → (i .offset ≤ p) × (p < i .offset + countOf i)
+enclosed i p t =
+    let both = and-yes (leb (i .offset) p) (ltb p (i .offset + countOf i)) t in
+    (leb→le (i .offset) p (both .0), ltb→lt p (i .offset + countOf i) (both .1))
+
+within : (i : BandInfo) (p : ℕ) → i .offset ≤ p → p < i .offset + countOf i → encloses i p ≡ true
+within i p h k = rw (le-leb (i .offset) p h, lt-ltb p (i .offset + countOf i) k)
+
+past : (i : BandInfo) (p : ℕ) → i .offset + countOf i ≤ p → encloses i p ≡ false
+past i p h = rw (le-leb (i .offset) p (omega arith), le-ltb p (i .offset + countOf i) h)
+
+is-yes : (b : Bool) → b ≡ true → T b
+is-yes b e = rw e tt
+
+-- a band encloses no place before the first band
+no-earlier : (at : ℕ) (l : List BandInfo) (end b p : ℕ) → T (laid at l end) → b < length l → T (encloses (getD l b none) p) → at ≤ p
+no-earlier at l end b p t h k = omega (arith, running-sum at l end b t h, enclosed (getD l b none) p k)
+
+-- each place is enclosed
+pub some-band : (at : ℕ) (l : List BandInfo) (end p : ℕ) → T (laid at l end) → at ≤ p → p < end → (bandOfPlace l p < length l) × T (encloses (getD l (bandOfPlace l p) none) p)
+unfolding bandOfPlace
+some-band at [] end p t h k = absurd (omega (arith, eqb→eq at end t))
+some-band at (i ∷ is) end p t h k =
+    pick (ltb p (at + countOf i)) refl (λ l. some-band (at + countOf i) is end p (rest i is at end t) l k)
+  where
+    pick : (q : Bool) → ltb p (at + countOf i) ≡ q → (at + countOf i ≤ p → (bandOfPlace is p < length is) × T (encloses (getD is (bandOfPlace is p) none) p)) → (bandOfPlace (i ∷ is) p < suc (length is)) × T (encloses (getD (i ∷ is) (bandOfPlace (i ∷ is) p) none) p)
+    pick true e later =
+        let w : encloses i p ≡ true = within i p (omega (arith, first i is at end t)) (omega (arith, first i is at end t, ltb-true)) in
+        rw w (omega arith, is-yes (encloses i p) w)
+    pick false e later =
+        let r = later (omega (arith, ltb-false)) in
+        rw (past i p (omega (arith, first i is at end t, ltb-false))) (omega (arith, r .0), r .1)
+
+-- by one band only
+pub only-band : (at : ℕ) (l : List BandInfo) (end b p : ℕ) → T (laid at l end) → b < length l → T (encloses (getD l b none) p) → b ≡ bandOfPlace l p
+unfolding bandOfPlace
+only-band at [] end b p t h k = absurd (omega arith)
+only-band at (i ∷ is) end zero p t h k = rw (within i p (enclosed i p k .0) (enclosed i p k .1))
+only-band at (i ∷ is) end (suc b) p t h k =
+    let later : at + countOf i ≤ p = no-earlier (at + countOf i) is end b p (rest i is at end t) (omega arith) k in
+    rw (past i p (omega (arith, first i is at end t))) (ap suc (only-band (at + countOf i) is end b p (rest i is at end t) (omega arith) k))
+
+-- ---- the theorem
+pub ten-bands : (e : Bool) → length (layout e) ≡ 10
+ten-bands true = refl
+ten-bands false = refl
+
+ten-more : (e : Bool) {b : ℕ} → b < 10 → b < length (layout e)
+ten-more e h = rw (ten-bands e) h
+
+place-band : (e : Bool) (p : ℕ) → p < 4096 → OnlyBand e p (bandOfPlace (layout e) p)
+place-band e p h =
+    let s = some-band 0 (layout e) 4096 p (layout-laid e) (omega arith) h in
+    record {
+      number = rw (ten-bands e) at (s .0);
+      in-band = s .1;
+      no-other = λ k g t. only-band 0 (layout e) 4096 k p (layout-laid e) (ten-more e g) t;
+    }
+
+pub tables : BandTables
+tables = record {
+  ten = ten-bands;
+  running = λ e b h. running-sum 0 (layout e) 4096 b (layout-laid e) (ten-more e h) ∙ omega arith;
+  whole = λ e. ap (countBefore (layout e)) (sym (ten-bands e)) ∙ (omega (arith, whole-sum 0 (layout e) 4096 (layout-laid e)));
+  bottom-extrapolate = refl;
+  bottom-standard = refl;
+  one-band = place-band;
+}
+
+-- ---- one band of a layout
+-- past the tenth there is none
+pub no-band : (e : Bool) (b : ℕ) → 10 ≤ b → none ≡ bandAt e b
+no-band e b h = sym (List·getD-eq-default (layout e) none (rw (ten-bands e) h))
+
+-- a band lies within the component's 4,096 places
+pub band-within : (e : Bool) (b : ℕ) → bandAt e b .offset + countOf (bandAt e b) ≤ 4096
+band-within e b = pick (ltb b 10) refl
+  where
+    pick : (q : Bool) → ltb b 10 ≡ q → bandAt e b .offset + countOf (bandAt e b) ≤ 4096
+    pick true q = ends-within 0 (layout e) 4096 b (layout-laid e) (ten-more e (ltb-true b 10 q))
+    pick false q = rw (← no-band e b (ltb-false b 10 q)) (omega arith)

@@ -1,0 +1,3 @@
+-- The laws of `bands`, for its own proofs and for those of the crates above it.
+pub mod Every
+pub mod Laid

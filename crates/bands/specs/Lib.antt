@@ -1,0 +1,4 @@
+-- What the contracts of `bands` cite.
+pub mod Bands
+pub mod Positions
+pub mod Tables
