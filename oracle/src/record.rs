@@ -1,0 +1,93 @@
+//! The form of a recorded file: records one after another, each a kind (1 byte), the length of its
+//! payload (4 bytes, little-endian) and the payload.
+
+use std::io::{self, Write};
+
+use crate::random::Random;
+
+/// The longest payload of a record, in bytes.
+pub const LONGEST_PAYLOAD: usize = 65536;
+
+/// One run of the recorder: where the records go, and what was asked for.
+pub struct Recording<'a> {
+    out: &'a mut dyn Write,
+    seed: u64,
+    scale: u32,
+}
+
+impl<'a> Recording<'a> {
+    pub fn new(out: &'a mut dyn Write, seed: u64, scale: u32) -> Self {
+        Self { out, seed, scale }
+    }
+
+    /// Writes one record.
+    pub fn record(&mut self, kind: u8, payload: &[u8]) -> io::Result<()> {
+        assert!(payload.len() <= LONGEST_PAYLOAD, "the payload is too long");
+        let length = u32::try_from(payload.len()).expect("the longest payload fits");
+        self.out.write_all(&[kind])?;
+        self.out.write_all(&length.to_le_bytes())?;
+        self.out.write_all(payload)
+    }
+
+    /// Random numbers for one kind. Each kind has its own, so a new kind changes no other.
+    pub fn random(&self, kind: u8) -> Random {
+        Random::new(self.seed, kind)
+    }
+
+    /// How many random cases to record where there are `count` at scale 1.
+    pub fn scaled(&self, count: u32) -> u64 {
+        u64::from(count) * u64::from(self.scale)
+    }
+
+    /// Begins the cases of a kind whose cases all have the same size.
+    pub fn cases(&mut self, kind: Kind) -> Cases<'_, 'a> {
+        Cases {
+            recording: self,
+            kind,
+            payload: Vec::new(),
+        }
+    }
+}
+
+/// A kind whose cases all have the same size, in bytes.
+#[derive(Clone, Copy)]
+pub struct Kind {
+    pub number: u8,
+    pub size: usize,
+}
+
+/// Gathers cases of one kind into records, as many in each as fit.
+pub struct Cases<'r, 'a> {
+    recording: &'r mut Recording<'a>,
+    kind: Kind,
+    payload: Vec<u8>,
+}
+
+impl Cases<'_, '_> {
+    /// Adds one case, given as its fields in order.
+    pub fn add(&mut self, fields: &[&[u8]]) -> io::Result<()> {
+        let size: usize = fields.iter().map(|field| field.len()).sum();
+        assert_eq!(size, self.kind.size, "a case of kind {}", self.kind.number);
+        if self.payload.len() + size > LONGEST_PAYLOAD {
+            self.write()?;
+        }
+        for field in fields {
+            self.payload.extend_from_slice(field);
+        }
+        Ok(())
+    }
+
+    /// Writes the cases that are not written yet.
+    pub fn finish(mut self) -> io::Result<()> {
+        if self.payload.is_empty() {
+            return Ok(());
+        }
+        self.write()
+    }
+
+    fn write(&mut self) -> io::Result<()> {
+        self.recording.record(self.kind.number, &self.payload)?;
+        self.payload.clear();
+        Ok(())
+    }
+}
