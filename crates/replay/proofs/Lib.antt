@@ -1,0 +1,2 @@
+-- The law that the proofs of `number` cite.
+pub mod BelowZero

@@ -1,0 +1,163 @@
+// The kinds of cases: how many bytes a case has, and whether the port agrees with what the Rust answered. oracle/README.md lists them.
+use crate::number;
+
+// The size of a case; 0 for a kind that is not known.
+pub fn case_size(kind: u8) -> usize {
+    match kind {
+        1 | 3 | 9 => 6,
+        2 => 9,
+        4 | 5 | 6 | 11 => 5,
+        7 | 8 => 7,
+        10 => 4,
+        12 | 21 => 3,
+        13 => 12,
+        14 => 14,
+        20 => 10,
+        _ => 0,
+    }
+}
+
+fn clamp_i16(c: &[u8]) -> bool {
+    fixed::clamp_i16(number::i32_at(c, 0)) == number::i16_at(c, 4)
+}
+
+fn clamp_u8(c: &[u8]) -> bool {
+    fixed::clamp_u8(number::i64_at(c, 0)) == number::u8_at(c, 8)
+}
+
+fn t(c: &[u8]) -> bool {
+    fixed::t(number::i32_at(c, 0)) == number::i16_at(c, 4)
+}
+
+fn round_shift_right(c: &[u8]) -> bool {
+    fixed::round_shift_right(number::i16_at(c, 0), number::u8_at(c, 2)) == number::i16_at(c, 3)
+}
+
+fn shift_left_clamp(c: &[u8]) -> bool {
+    fixed::shift_left_clamp(number::i16_at(c, 0), number::u8_at(c, 2)) == number::i16_at(c, 3)
+}
+
+fn shift_right_floor(c: &[u8]) -> bool {
+    fixed::shift_right_floor(number::i16_at(c, 0), number::u8_at(c, 2)) == number::i16_at(c, 3)
+}
+
+fn add_scaled(c: &[u8]) -> bool {
+    fixed::add_scaled(
+        number::i16_at(c, 0),
+        number::u16_at(c, 2),
+        number::u8_at(c, 4),
+    )
+        == number::i16_at(c, 5)
+}
+
+fn sub_scaled(c: &[u8]) -> bool {
+    fixed::sub_scaled(
+        number::i16_at(c, 0),
+        number::u16_at(c, 2),
+        number::u8_at(c, 4),
+    )
+        == number::i16_at(c, 5)
+}
+
+fn sub_clamp(c: &[u8]) -> bool {
+    fixed::sub_clamp(number::i16_at(c, 0), number::i16_at(c, 2)) == number::i16_at(c, 4)
+}
+
+fn magnitude(c: &[u8]) -> bool {
+    fixed::magnitude(number::i16_at(c, 0)) == number::u16_at(c, 2)
+}
+
+fn with_sign(c: &[u8]) -> bool {
+    fixed::with_sign(number::u16_at(c, 0), number::flag_at(c, 2)) == number::i16_at(c, 3)
+}
+
+// The sign, and the three tests that go with it.
+fn sign_of(c: &[u8]) -> bool {
+    let value = number::i16_at(c, 0);
+    let sign = number::i8_at(c, 2);
+    if fixed::is_zero(value) != (sign == 0) {
+        return false;
+    }
+    if fixed::is_positive(value) != (sign == 1) {
+        return false;
+    }
+    if fixed::is_negative(value) != (sign == -1) {
+        return false;
+    }
+    fixed::sign_of(value) == sign
+}
+
+fn halves(c: &[u8]) -> bool {
+    let value = number::i32_at(c, 0);
+    if fixed::half_toward_zero(value) != number::i32_at(c, 4) {
+        return false;
+    }
+    fixed::half_floor(value) == number::i32_at(c, 8)
+}
+
+fn widen(c: &[u8]) -> bool {
+    let value = number::i16_at(c, 0);
+    if fixed::widen(value) != number::i32_at(c, 2) {
+        return false;
+    }
+    fixed::widen_i64(value) == number::i64_at(c, 6)
+}
+
+fn same_band(a: bands::BandInfo, b: bands::BandInfo) -> bool {
+    if a.width != b.width {
+        return false;
+    }
+    if a.height != b.height {
+        return false;
+    }
+    a.offset == b.offset
+}
+
+// One band, by itself and as a row of its whole table, and the number of its coefficients.
+fn band(c: &[u8]) -> bool {
+    let extrapolate = number::flag_at(c, 0);
+    let index = number::u8_at(c, 1) as usize;
+    let answer = bands::BandInfo {
+        width: number::u16_at(c, 2) as usize,
+        height: number::u16_at(c, 4) as usize,
+        offset: number::u16_at(c, 6) as usize,
+    };
+    if !same_band(bands::band(extrapolate, index), answer) {
+        return false;
+    }
+    if index >= bands::NUM_BANDS {
+        return false;
+    }
+    let table = bands::get_band_layout(extrapolate);
+    if !same_band(table[index], answer) {
+        return false;
+    }
+    bands::band_count(extrapolate, index) == number::u16_at(c, 8) as usize
+}
+
+fn ll3_offset(c: &[u8]) -> bool {
+    bands::ll3_offset(number::flag_at(c, 0)) == number::u16_at(c, 1) as usize
+}
+
+// Whether the port's answer to a case is the recorded one.
+pub fn agrees(kind: u8, c: &[u8]) -> bool {
+    match kind {
+        1 => clamp_i16(c),
+        2 => clamp_u8(c),
+        3 => t(c),
+        4 => round_shift_right(c),
+        5 => shift_left_clamp(c),
+        6 => shift_right_floor(c),
+        7 => add_scaled(c),
+        8 => sub_scaled(c),
+        9 => sub_clamp(c),
+        10 => magnitude(c),
+        11 => with_sign(c),
+        12 => sign_of(c),
+        13 => halves(c),
+        14 => widen(c),
+        20 => band(c),
+        21 => ll3_offset(c),
+        _ => false,
+    }
+}

@@ -1,0 +1,129 @@
+// Replays recorded answers of the Rust. Reads recorded cases from standard input (oracle/README.md has the format), calls the port on each and
+// compares; writes a line for each kind with the number of cases and of differences, and shows the first case of each kind that differs.
+use libc::STDIN_FILENO;
+
+mod kinds;
+mod number;
+mod report;
+
+// What the input has at the start of a record.
+enum Found {
+    // A record that was replayed.
+    Record,
+    // Nothing: the input ends where it should.
+    End,
+    // The start of a record, and then the input's end, or a payload that ends within a case.
+    Cut,
+    // A record of a kind that is not known here.
+    Unknown,
+    // A record with a payload of more than 65,536 bytes.
+    Long,
+}
+
+// Replays one case, which is counted.
+fn replay_case(kind: u8, case: &[u8], cases: &mut [u64; 64], differences: &mut [u64; 64]) {
+    let k = (kind % 64) as usize;
+    cases[k] = std::num::wrapping_add_u64(cases[k], 1);
+    if kinds::agrees(kind, case) {
+        return;
+    }
+    if differences[k] == 0 {
+        report::difference(kind, cases[k], case);
+    }
+    differences[k] = std::num::wrapping_add_u64(differences[k], 1);
+}
+
+// Replays the cases of a payload, which lie one after another; false where bytes are left over.
+fn replay_cases(
+    kind: u8,
+    payload: &[u8],
+    cases: &mut [u64; 64],
+    differences: &mut [u64; 64],
+) -> bool {
+    let size = kinds::case_size(kind);
+    if size == 0 {
+        return false;
+    }
+    let mut at: usize = 0;
+    while at < payload.len() {
+        if payload.len() - at < size {
+            return false;
+        }
+        let end = at + size;
+        replay_case(kind, &payload[at..end], cases, differences);
+        at = end;
+    }
+    true
+}
+
+// Reads a payload of `length` bytes into `buffer` and replays it; false where the input has fewer bytes, or some are left over.
+fn replay_payload(
+    kind: u8,
+    buffer: &mut [u8],
+    length: usize,
+    cases: &mut [u64; 64],
+    differences: &mut [u64; 64],
+) -> bool {
+    if length > buffer.len() {
+        return false;
+    }
+    if io::read_full(STDIN_FILENO, &mut buffer[..length]) != length {
+        return false;
+    }
+    replay_cases(kind, &buffer[..length], cases, differences)
+}
+
+// Reads one record and replays it.
+fn replay_record(cases: &mut [u64; 64], differences: &mut [u64; 64]) -> Found {
+    let mut head = [0u8; 5];
+    let got = io::read_full(STDIN_FILENO, &mut head);
+    if got == 0 {
+        return Found::End;
+    }
+    if got < 5 {
+        return Found::Cut;
+    }
+    let kind = head[0];
+    let length = number::u32_at(&head, 1);
+    if kinds::case_size(kind) == 0 {
+        return Found::Unknown;
+    }
+    if length > 65536 {
+        return Found::Long;
+    }
+    let mut buffer = io::large_buffer();
+    if replay_payload(kind, &mut buffer, length as usize, cases, differences) {
+        return Found::Record;
+    }
+    Found::Cut
+}
+
+// Replays records up to the end of the input, or up to what cannot be replayed. A proved loop has to end, so it counts its turns down from
+// a number that no run uses up.
+fn replay_all(cases: &mut [u64; 64], differences: &mut [u64; 64]) -> Found {
+    let mut turns = u64::MAX;
+    while turns > 0 {
+        let found = replay_record(cases, differences);
+        let Found::Record = found else {
+            return found;
+        };
+        turns -= 1;
+    }
+    Found::Record
+}
+
+fn main() {
+    let mut cases = [0u64; 64];
+    let mut differences = [0u64; 64];
+    let found = replay_all(&mut cases, &mut differences);
+    report::kinds(&cases, &differences);
+    match found {
+        Found::End => report::line(b"the input was read to its end\n"),
+        Found::Record => report::line(b"the input goes on\n"),
+        Found::Cut => report::line(b"the input ends within a record, or a record within a case\n"),
+        Found::Unknown => report::line(b"a record of an unknown kind: nothing after it was read\n"),
+        Found::Long => report::line(
+            b"a record of more than 65536 bytes: nothing after it was read\n",
+        ),
+    }
+}
