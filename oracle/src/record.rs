@@ -13,11 +13,17 @@ pub struct Recording<'a> {
     out: &'a mut dyn Write,
     seed: u64,
     scale: u32,
+    first_cases: Vec<(Kind, Vec<u8>)>,
 }
 
 impl<'a> Recording<'a> {
     pub fn new(out: &'a mut dyn Write, seed: u64, scale: u32) -> Self {
-        Self { out, seed, scale }
+        Self {
+            out,
+            seed,
+            scale,
+            first_cases: Vec::new(),
+        }
     }
 
     /// Writes one record.
@@ -39,6 +45,11 @@ impl<'a> Recording<'a> {
         u64::from(count) * u64::from(self.scale)
     }
 
+    /// The first case of each kind whose cases all have the same size.
+    pub fn first_cases(&self) -> &[(Kind, Vec<u8>)] {
+        &self.first_cases
+    }
+
     /// Begins the cases of a kind whose cases all have the same size.
     pub fn cases(&mut self, kind: Kind) -> Cases<'_, 'a> {
         Cases {
@@ -49,10 +60,13 @@ impl<'a> Recording<'a> {
     }
 }
 
-/// A kind whose cases all have the same size, in bytes.
+/// A kind whose cases all have the same size.
 #[derive(Clone, Copy)]
 pub struct Kind {
     pub number: u8,
+    /// The bytes of a case before its answer.
+    pub inputs: usize,
+    /// The bytes of a case.
     pub size: usize,
 }
 
@@ -66,13 +80,17 @@ pub struct Cases<'r, 'a> {
 impl Cases<'_, '_> {
     /// Adds one case, given as its fields in order.
     pub fn add(&mut self, fields: &[&[u8]]) -> io::Result<()> {
-        let size: usize = fields.iter().map(|field| field.len()).sum();
-        assert_eq!(size, self.kind.size, "a case of kind {}", self.kind.number);
+        let case = fields.concat();
+        let Kind { number, size, .. } = self.kind;
+        assert_eq!(case.len(), size, "a case of kind {number}");
         if self.payload.len() + size > LONGEST_PAYLOAD {
             self.write()?;
         }
-        for field in fields {
-            self.payload.extend_from_slice(field);
+        self.payload.extend_from_slice(&case);
+
+        let first_cases = &mut self.recording.first_cases;
+        if first_cases.iter().all(|(kind, _)| kind.number != number) {
+            first_cases.push((self.kind, case));
         }
         Ok(())
     }

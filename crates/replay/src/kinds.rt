@@ -13,6 +13,7 @@ pub fn case_size(kind: u8) -> usize {
         13 => 12,
         14 => 14,
         20 => 10,
+        31 => 16,
         _ => 0,
     }
 }
@@ -140,7 +141,7 @@ fn ll3_offset(c: &[u8]) -> bool {
 }
 
 // Whether the port's answer to a case is the recorded one.
-pub fn agrees(kind: u8, c: &[u8]) -> bool {
+fn same(kind: u8, c: &[u8]) -> bool {
     match kind {
         1 => clamp_i16(c),
         2 => clamp_u8(c),
@@ -160,4 +161,27 @@ pub fn agrees(kind: u8, c: &[u8]) -> bool {
         21 => ll3_offset(c),
         _ => false,
     }
+}
+
+// A case of another kind, after the kind's number, with a wrong answer: the port must not agree with it.
+fn wrong_answer(c: &[u8]) -> bool {
+    let kind = number::u8_at(c, 0);
+    let size = case_size(kind);
+    if size == 0 {
+        return false;
+    }
+    if size >= c.len() {
+        return false;
+    }
+    let from: usize = 1;
+    let to = from + size;
+    !same(kind, &c[from..to])
+}
+
+// Whether the port agrees with a case.
+pub fn agrees(kind: u8, c: &[u8]) -> bool {
+    if kind == 31 {
+        return wrong_answer(c);
+    }
+    same(kind, c)
 }

@@ -10,9 +10,9 @@ mod report;
 enum Found {
     // A record that was replayed.
     Record,
-    // Nothing: the input ends where it should.
+    // The record that ends a recording.
     End,
-    // The start of a record, and then the input's end, or a payload that ends within a case.
+    // The input's end, before that record or within one, or a payload that ends within a case.
     Cut,
     // A record of a kind that is not known here.
     Unknown,
@@ -77,13 +77,13 @@ fn replay_payload(
 fn replay_record(cases: &mut [u64; 64], differences: &mut [u64; 64]) -> Found {
     let mut head = [0u8; 5];
     let got = io::read_full(STDIN_FILENO, &mut head);
-    if got == 0 {
-        return Found::End;
-    }
     if got < 5 {
         return Found::Cut;
     }
     let kind = head[0];
+    if kind == 0 {
+        return Found::End;
+    }
     let length = number::u32_at(&head, 1);
     if kinds::case_size(kind) == 0 {
         return Found::Unknown;
@@ -118,9 +118,9 @@ fn main() {
     let found = replay_all(&mut cases, &mut differences);
     report::kinds(&cases, &differences);
     match found {
-        Found::End => report::line(b"the input was read to its end\n"),
-        Found::Record => report::line(b"the input goes on\n"),
-        Found::Cut => report::line(b"the input ends within a record, or a record within a case\n"),
+        Found::End => report::line(b"the recording was read to its end\n"),
+        Found::Record => report::line(b"the recording goes on\n"),
+        Found::Cut => report::line(b"the recording is cut\n"),
         Found::Unknown => report::line(b"a record of an unknown kind: nothing after it was read\n"),
         Found::Long => report::line(
             b"a record of more than 65536 bytes: nothing after it was read\n",

@@ -8,10 +8,12 @@ use crate::record::{Kind, Recording};
 
 const BAND: Kind = Kind {
     number: 20,
+    inputs: 2,
     size: 10,
 };
 const LL3_OFFSET: Kind = Kind {
     number: 21,
+    inputs: 1,
     size: 3,
 };
 

@@ -12,23 +12,27 @@ use oracle::{dwt_extrapolate, srl};
 use crate::random::{Number, Random, limits};
 use crate::record::{Cases, Kind, Recording};
 
-const CLAMP_I16: Kind = kind(1, 6);
-const CLAMP_U8: Kind = kind(2, 9);
-const T: Kind = kind(3, 6);
-const ROUND_SHIFT_RIGHT: Kind = kind(4, 5);
-const SHIFT_LEFT_CLAMP: Kind = kind(5, 5);
-const SHIFT_RIGHT_FLOOR: Kind = kind(6, 5);
-const ADD_SCALED: Kind = kind(7, 7);
-const SUB_SCALED: Kind = kind(8, 7);
-const SUB_CLAMP: Kind = kind(9, 6);
-const MAGNITUDE: Kind = kind(10, 4);
-const WITH_SIGN: Kind = kind(11, 5);
-const SIGN_OF: Kind = kind(12, 3);
-const HALVES: Kind = kind(13, 12);
-const WIDEN: Kind = kind(14, 14);
+const CLAMP_I16: Kind = kind(1, 4, 6);
+const CLAMP_U8: Kind = kind(2, 8, 9);
+const T: Kind = kind(3, 4, 6);
+const ROUND_SHIFT_RIGHT: Kind = kind(4, 3, 5);
+const SHIFT_LEFT_CLAMP: Kind = kind(5, 3, 5);
+const SHIFT_RIGHT_FLOOR: Kind = kind(6, 3, 5);
+const ADD_SCALED: Kind = kind(7, 5, 7);
+const SUB_SCALED: Kind = kind(8, 5, 7);
+const SUB_CLAMP: Kind = kind(9, 4, 6);
+const MAGNITUDE: Kind = kind(10, 2, 4);
+const WITH_SIGN: Kind = kind(11, 3, 5);
+const SIGN_OF: Kind = kind(12, 2, 3);
+const HALVES: Kind = kind(13, 4, 12);
+const WIDEN: Kind = kind(14, 2, 14);
 
-const fn kind(number: u8, size: usize) -> Kind {
-    Kind { number, size }
+const fn kind(number: u8, inputs: usize, size: usize) -> Kind {
+    Kind {
+        number,
+        inputs,
+        size,
+    }
 }
 
 /// The most magnitude bits that a band can have in an upgrade pass.

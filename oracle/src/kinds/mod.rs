@@ -2,13 +2,19 @@
 
 mod bands;
 mod fixed;
+mod wrong;
 
 use std::io;
 
 use crate::record::Recording;
 
-/// Records the cases of every kind.
+/// The kind of the last record, which has no payload. A file without it is cut.
+const END: u8 = 0;
+
+/// Records the cases of every kind, and the end.
 pub fn record_all(recording: &mut Recording<'_>) -> io::Result<()> {
     fixed::record_all(recording)?;
-    bands::record_all(recording)
+    bands::record_all(recording)?;
+    wrong::record_all(recording)?;
+    recording.record(END, &[])
 }
