@@ -1,4 +1,4 @@
--- The ten bands of a tile component, in both layouts (docs/SCOPE.md, "Bands"; MS-RDPEGFX 3.2.8.1.2.1 for the sizes of the reduce-extrapolate transform).
+-- The ten bands of a tile component, in both layouts (docs/SCOPE.md, "Bands").
 -- A layout is a list of sizes, in the order HL1 LH1 HH1 HL2 LH2 HH2 HL3 LH3 HH3 LL3; "offsets are running sums".
 use mathlib.Core.Bool.{Bool, true, false}
 use mathlib.Core.List.{List, [], _∷_}

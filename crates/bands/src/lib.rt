@@ -19,18 +19,6 @@ pub struct BandInfo {
     pub offset: usize,
 }
 
-impl BandInfo {
-    // The number of coefficients in the band.
-    fn count(self) -> usize
-        requires { ⌜ self .width * self .height < 2 ^ 64 ⌝ }
-        ensures { λ r. ⌜ r ≡ countOf self ⌝ }
-    {
-        self.width * self.height
-    }
-}
-
-// ---- the tables
-
 // Reduce-extrapolate: HL1 LH1 HH1 HL2 LH2 HH2 HL3 LH3 HH3 LL3.
 const EXTRAPOLATE: [BandInfo; 10] = [
     BandInfo {
@@ -138,6 +126,16 @@ const STANDARD: [BandInfo; 10] = [
         offset: 4032,
     },
 ];
+
+impl BandInfo {
+    // The number of coefficients in the band.
+    fn count(self) -> usize
+        requires { ⌜ self .width * self .height < 2 ^ 64 ⌝ }
+        ensures { λ r. ⌜ r ≡ countOf self ⌝ }
+    {
+        self.width * self.height
+    }
+}
 
 // The reduce-extrapolate layout.
 pub fn band_layout() -> [BandInfo; 10]

@@ -21,8 +21,8 @@ enum Found {
 }
 
 // Replays one case, which is counted.
-fn replay_case(kind: u8, case: &[u8], cases: &mut [u64; 64], differences: &mut [u64; 64]) {
-    let k = (kind % 64) as usize;
+fn replay_case(kind: u8, case: &[u8], cases: &mut [u64; 256], differences: &mut [u64; 256]) {
+    let k = kind as usize;
     cases[k] = std::num::wrapping_add_u64(cases[k], 1);
     if kinds::agrees(kind, case) {
         return;
@@ -37,8 +37,8 @@ fn replay_case(kind: u8, case: &[u8], cases: &mut [u64; 64], differences: &mut [
 fn replay_cases(
     kind: u8,
     payload: &[u8],
-    cases: &mut [u64; 64],
-    differences: &mut [u64; 64],
+    cases: &mut [u64; 256],
+    differences: &mut [u64; 256],
 ) -> bool {
     let size = kinds::case_size(kind);
     if size == 0 {
@@ -56,25 +56,25 @@ fn replay_cases(
     true
 }
 
-// Reads a payload of `length` bytes into `buffer` and replays it; false where the input has fewer bytes, or some are left over.
+// Reads a payload of `len` bytes into `buffer` and replays it; false where the input has fewer bytes, or some are left over.
 fn replay_payload(
     kind: u8,
     buffer: &mut [u8],
-    length: usize,
-    cases: &mut [u64; 64],
-    differences: &mut [u64; 64],
+    len: usize,
+    cases: &mut [u64; 256],
+    differences: &mut [u64; 256],
 ) -> bool {
-    if length > buffer.len() {
+    if len > buffer.len() {
         return false;
     }
-    if io::read_full(STDIN_FILENO, &mut buffer[..length]) != length {
+    if io::read_full(STDIN_FILENO, &mut buffer[..len]) != len {
         return false;
     }
-    replay_cases(kind, &buffer[..length], cases, differences)
+    replay_cases(kind, &buffer[..len], cases, differences)
 }
 
 // Reads one record and replays it.
-fn replay_record(cases: &mut [u64; 64], differences: &mut [u64; 64]) -> Found {
+fn replay_record(cases: &mut [u64; 256], differences: &mut [u64; 256]) -> Found {
     let mut head = [0u8; 5];
     let got = io::read_full(STDIN_FILENO, &mut head);
     if got < 5 {
@@ -84,15 +84,15 @@ fn replay_record(cases: &mut [u64; 64], differences: &mut [u64; 64]) -> Found {
     if kind == 0 {
         return Found::End;
     }
-    let length = number::u32_at(&head, 1);
+    let len = number::u32_at(&head, 1);
     if kinds::case_size(kind) == 0 {
         return Found::Unknown;
     }
-    if length > 65536 {
+    if len > 65536 {
         return Found::Long;
     }
     let mut buffer = io::large_buffer();
-    if replay_payload(kind, &mut buffer, length as usize, cases, differences) {
+    if replay_payload(kind, &mut buffer, len as usize, cases, differences) {
         return Found::Record;
     }
     Found::Cut
@@ -100,7 +100,7 @@ fn replay_record(cases: &mut [u64; 64], differences: &mut [u64; 64]) -> Found {
 
 // Replays records up to the end of the input, or up to what cannot be replayed. A proved loop has to end, so it counts its turns down from
 // a number that no run uses up.
-fn replay_all(cases: &mut [u64; 64], differences: &mut [u64; 64]) -> Found {
+fn replay_all(cases: &mut [u64; 256], differences: &mut [u64; 256]) -> Found {
     let mut turns = u64::MAX;
     while turns > 0 {
         let found = replay_record(cases, differences);
@@ -113,8 +113,8 @@ fn replay_all(cases: &mut [u64; 64], differences: &mut [u64; 64]) -> Found {
 }
 
 fn main() {
-    let mut cases = [0u64; 64];
-    let mut differences = [0u64; 64];
+    let mut cases = [0u64; 256];
+    let mut differences = [0u64; 256];
     let found = replay_all(&mut cases, &mut differences);
     report::kinds(&cases, &differences);
     match found {

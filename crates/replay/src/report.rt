@@ -89,8 +89,8 @@ pub fn difference(kind: u8, number: u64, case: &[u8]) {
 }
 
 // One kind's line.
-fn kind_line(kind: u8, cases: &[u64; 64], differences: &[u64; 64]) {
-    let k = (kind % 64) as usize;
+fn kind_line(kind: u8, cases: &[u64; 256], differences: &[u64; 256]) {
+    let k = kind as usize;
     if kinds::case_size(kind) == 0 {
         return;
     }
@@ -98,10 +98,10 @@ fn kind_line(kind: u8, cases: &[u64; 64], differences: &[u64; 64]) {
     counts(cases[k], differences[k]);
 }
 
-fn total(numbers: &[u64; 64]) -> u64 {
+fn total(numbers: &[u64; 256]) -> u64 {
     let mut sum: u64 = 0;
     let mut i: usize = 0;
-    while i < 64 {
+    while i < 256 {
         sum = std::num::wrapping_add_u64(sum, numbers[i]);
         i += 1;
     }
@@ -109,9 +109,9 @@ fn total(numbers: &[u64; 64]) -> u64 {
 }
 
 // A line for each kind, and one for all.
-pub fn kinds(cases: &[u64; 64], differences: &[u64; 64]) {
+pub fn kinds(cases: &[u64; 256], differences: &[u64; 256]) {
     let mut kind: u8 = 0;
-    while kind < 64 {
+    while kind < 255 {
         kind_line(kind, cases, differences);
         kind += 1;
     }

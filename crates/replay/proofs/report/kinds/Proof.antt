@@ -5,10 +5,10 @@ use Rattle.replay.proofs.report.kinds.Statement.{statement}
 use Rattle.replay.proofs.report.kinds.Tie as tie
 
 abbrev Inv-loop : tie.InvT-loop
-Inv-loop cases differences kind₀ t4 kind = kind ≤ 64
+Inv-loop cases differences kind₀ t4 kind = kind ≤ 255
 
 abbrev μ-loop : tie.MeasureT-loop
-μ-loop cases differences kind₀ t4 kind = 64 - kind
+μ-loop cases differences kind₀ t4 kind = 255 - kind
 
 pub kinds-spec : {M : Type 1} → statement M
 kinds-spec =

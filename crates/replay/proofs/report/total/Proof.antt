@@ -5,10 +5,10 @@ use Rattle.replay.proofs.report.total.Statement.{statement}
 use Rattle.replay.proofs.report.total.Tie as tie
 
 abbrev Inv-loop : tie.InvT-loop
-Inv-loop numbers sum₀ i₀ sum i = i ≤ 64
+Inv-loop numbers sum₀ i₀ sum i = i ≤ 256
 
 abbrev μ-loop : tie.MeasureT-loop
-μ-loop numbers sum₀ i₀ sum i = 64 - i
+μ-loop numbers sum₀ i₀ sum i = 256 - i
 
 pub total-spec : {M : Type 1} → statement M
 total-spec =
