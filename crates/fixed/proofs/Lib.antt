@@ -7,3 +7,4 @@ pub mod Wrap
 pub mod Shift
 pub mod Sign
 pub mod Scaled
+mod Samples
