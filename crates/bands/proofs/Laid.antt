@@ -1,4 +1,4 @@
--- Bands that lie one after another: one test that computes, run over both tables, and what follows from it for every list of bands that passes it.
+-- Bands that lie one after another: one test that computes, run over both tables, and what follows for every list of bands that lies so.
 -- Assumes nothing.
 use mathlib.Core.Bool.{Bool, true, false, cond, _&&_}
 use mathlib.Core.List.{List, [], _∷_}
@@ -10,7 +10,7 @@ use lib.Dec.{T, eqb, leb, ltb, eqb→eq, leb→le, ltb→lt}
 use lib.ListN.{length, getD, List·getD-eq-default}
 use mir.Facts.{and-yes}
 use Rattle.bands.specs.declared.BandInfo.{BandInfo}
-use Rattle.bands.specs.Bands.{layout, countOf, bandAt, none}
+use Rattle.bands.specs.Bands.{layout, countOf, bandAt, bottomOffset, none}
 use Rattle.bands.specs.Tables.{encloses, bandOfPlace, countBefore, OnlyBand, BandTables}
 
 -- the bands lie one after another from a place to another, with no gap
@@ -18,15 +18,41 @@ abbrev pub laid : ℕ → List BandInfo → ℕ → Bool
 laid at [] end = eqb at end
 laid at (i ∷ is) end = eqb (i .offset) at && laid (at + countOf i) is end
 
--- the test, over both tables
-both-laid : T (laid 0 (layout true) 4096 && laid 0 (layout false) 4096)
-both-laid = tt
+-- the test of a table: ten bands that fill the 4,096 places, the bottom one at a given place
+abbrev right : Bool → ℕ → Bool
+right e bottom = laid 0 (layout e) 4096 && (eqb (length (layout e)) 10 && eqb (bottomOffset e) bottom)
+
+-- run over both tables
+both-right : T (right true 4015 && right false 4032)
+both-right = tt
+
+-- what it says of one
+pub record Right (e : Bool) (bottom : ℕ) : Type 0 where
+  pub filled : T (laid 0 (layout e) 4096)
+  pub ten : length (layout e) ≡ 10
+  pub lowest : bottomOffset e ≡ bottom
+
+parts : (e : Bool) (bottom : ℕ) → T (right e bottom) → Right e bottom
+parts e bottom t =
+    let p = and-yes (laid 0 (layout e) 4096) (eqb (length (layout e)) 10 && eqb (bottomOffset e) bottom) t in
+    let q = and-yes (eqb (length (layout e)) 10) (eqb (bottomOffset e) bottom) (p .1) in
+    record { filled = p .0; ten = eqb→eq (length (layout e)) 10 (q .0); lowest = eqb→eq (bottomOffset e) bottom (q .1) }
+
+extrapolate-right : Right true 4015
+extrapolate-right = parts true 4015 (and-yes (right true 4015) (right false 4032) both-right .0)
+
+standard-right : Right false 4032
+standard-right = parts false 4032 (and-yes (right true 4015) (right false 4032) both-right .1)
 
 pub layout-laid : (e : Bool) → T (laid 0 (layout e) 4096)
-layout-laid true = and-yes (laid 0 (layout true) 4096) (laid 0 (layout false) 4096) both-laid .0
-layout-laid false = and-yes (laid 0 (layout true) 4096) (laid 0 (layout false) 4096) both-laid .1
+layout-laid true = extrapolate-right .filled
+layout-laid false = standard-right .filled
 
--- ---- what passes the test
+pub ten-bands : (e : Bool) → length (layout e) ≡ 10
+ten-bands true = extrapolate-right .ten
+ten-bands false = standard-right .ten
+
+-- ---- what lies so
 module _ (i : BandInfo) (is : List BandInfo) (at end : ℕ) (t : T (laid at (i ∷ is) end)) where
   pub first : i .offset ≡ at
   first = eqb→eq (i .offset) at (and-yes (eqb (i .offset) at) (laid (at + countOf i) is end) t .0)
@@ -101,10 +127,6 @@ only-band at (i ∷ is) end (suc b) p t h k =
     rw (past i p (omega (arith, first i is at end t))) (ap suc (only-band (at + countOf i) is end b p (rest i is at end t) (omega arith) k))
 
 -- ---- the theorem
-pub ten-bands : (e : Bool) → length (layout e) ≡ 10
-ten-bands true = refl
-ten-bands false = refl
-
 ten-more : (e : Bool) {b : ℕ} → b < 10 → b < length (layout e)
 ten-more e h = rw (ten-bands e) h
 
@@ -122,8 +144,8 @@ tables = record {
   ten = ten-bands;
   running = λ e b h. running-sum 0 (layout e) 4096 b (layout-laid e) (ten-more e h) ∙ omega arith;
   whole = λ e. ap (countBefore (layout e)) (sym (ten-bands e)) ∙ (omega (arith, whole-sum 0 (layout e) 4096 (layout-laid e)));
-  bottom-extrapolate = refl;
-  bottom-standard = refl;
+  bottom-extrapolate = extrapolate-right .lowest;
+  bottom-standard = standard-right .lowest;
   one-band = place-band;
 }
 
