@@ -7,7 +7,7 @@ use lib.Dec.{ltb}
 use lib.IntN.{ℤ, pos, negsuc, negℤ, _+ℤ_, _-ℤ_, _*ℤ_}
 use lib.Signed.{ltZ, quotZ, shrZ}
 
--- ---- clamping: "sums clamp to -32768..32767", colours "clamp to 0..255"
+-- ---- clamping: "Sums clamp to -32768..32767", and colours "all clamp to 0..255"
 unfoldable pub clampI16 : ℤ → ℤ
 clampI16 (pos n) = pos (min n 32767)
 clampI16 (negsuc n) = negsuc (min n 32767)
@@ -16,7 +16,7 @@ unfoldable pub clampU8 : ℤ → ℕ
 clampU8 (pos n) = min n 255
 clampU8 (negsuc n) = 0
 
--- ---- wrapping: "each sample keeps its low sixteen bits, read as signed"
+-- ---- wrapping: "Each sample keeps its low sixteen bits, read as signed"
 -- the number that the low sixteen bits of z are
 unfoldable pub low16 : ℤ → ℕ
 low16 (pos n) = n % 65536
@@ -41,11 +41,11 @@ halfFloor z = shrZ z 2
 abbrev pub floorShift : ℤ → ℕ → ℤ
 floorShift z k = shrZ z (2 ^ k)
 
--- right, rounded: half of 2 ^ k is added first ("adds 2^(5-q) and shifts right 6-q with floor"); a shift by 0 places adds nothing
+-- right, rounded: half of 2 ^ k is added first ("adds 2^(5-q) and shifts right 6 - q places with floor"); a shift by 0 places adds nothing
 unfoldable pub roundShift : ℤ → ℕ → ℤ
 roundShift z k = floorShift (z +ℤ pos (2 ^ k / 2)) k
 
--- left, clamped ("shifts left q-6 and clamps")
+-- left, clamped ("shifts left q - 6 places and clamps")
 unfoldable pub shiftLeftClamp : ℤ → ℕ → ℤ
 shiftLeftClamp z k = clampI16 (z *ℤ pos (2 ^ k))
 
@@ -74,7 +74,7 @@ signOf (pos zero) = pos 0
 signOf (pos (suc n)) = pos 1
 signOf (negsuc n) = negsuc 0
 
--- a magnitude with a sign: "a sign bit (1 negative)"
+-- a magnitude with a sign: "a sign bit (1 is negative)"
 abbrev pub withSign : Bool → ℕ → ℤ
 withSign false m = pos m
 withSign true m = negℤ (pos m)
