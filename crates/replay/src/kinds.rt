@@ -18,46 +18,44 @@ pub fn case_size(kind: u8) -> usize {
     }
 }
 
-fn clamp_i16(c: &[u8]) -> bool {
-    fixed::clamp_i16(number::i32_at(c, 0)) == number::i16_at(c, 4)
+// Kinds 1 and 3: thirty-two bits to sixteen.
+fn narrowed(kind: u8, c: &[u8]) -> bool {
+    let value = number::i32_at(c, 0);
+    let answer = number::i16_at(c, 4);
+    if kind == 1 {
+        return fixed::clamp_i16(value) == answer;
+    }
+    fixed::t(value) == answer
 }
 
 fn clamp_u8(c: &[u8]) -> bool {
     fixed::clamp_u8(number::i64_at(c, 0)) == number::u8_at(c, 8)
 }
 
-fn t(c: &[u8]) -> bool {
-    fixed::t(number::i32_at(c, 0)) == number::i16_at(c, 4)
+// Kinds 4 to 6: a value and a shift.
+fn shifted(kind: u8, c: &[u8]) -> bool {
+    let value = number::i16_at(c, 0);
+    let shift = number::u8_at(c, 2);
+    let answer = number::i16_at(c, 3);
+    if kind == 4 {
+        return fixed::round_shift_right(value, shift) == answer;
+    }
+    if kind == 5 {
+        return fixed::shift_left_clamp(value, shift) == answer;
+    }
+    fixed::shift_right_floor(value, shift) == answer
 }
 
-fn round_shift_right(c: &[u8]) -> bool {
-    fixed::round_shift_right(number::i16_at(c, 0), number::u8_at(c, 2)) == number::i16_at(c, 3)
-}
-
-fn shift_left_clamp(c: &[u8]) -> bool {
-    fixed::shift_left_clamp(number::i16_at(c, 0), number::u8_at(c, 2)) == number::i16_at(c, 3)
-}
-
-fn shift_right_floor(c: &[u8]) -> bool {
-    fixed::shift_right_floor(number::i16_at(c, 0), number::u8_at(c, 2)) == number::i16_at(c, 3)
-}
-
-fn add_scaled(c: &[u8]) -> bool {
-    fixed::add_scaled(
-        number::i16_at(c, 0),
-        number::u16_at(c, 2),
-        number::u8_at(c, 4),
-    )
-        == number::i16_at(c, 5)
-}
-
-fn sub_scaled(c: &[u8]) -> bool {
-    fixed::sub_scaled(
-        number::i16_at(c, 0),
-        number::u16_at(c, 2),
-        number::u8_at(c, 4),
-    )
-        == number::i16_at(c, 5)
+// Kinds 7 and 8: one coefficient's upgrade.
+fn scaled(kind: u8, c: &[u8]) -> bool {
+    let coefficient = number::i16_at(c, 0);
+    let magnitude = number::u16_at(c, 2);
+    let shift = number::u8_at(c, 4);
+    let answer = number::i16_at(c, 5);
+    if kind == 7 {
+        return fixed::add_scaled(coefficient, magnitude, shift) == answer;
+    }
+    fixed::sub_scaled(coefficient, magnitude, shift) == answer
 }
 
 fn sub_clamp(c: &[u8]) -> bool {
@@ -143,14 +141,10 @@ fn ll3_offset(c: &[u8]) -> bool {
 // Whether the port's answer to a case is the recorded one.
 fn same(kind: u8, c: &[u8]) -> bool {
     match kind {
-        1 => clamp_i16(c),
+        1 | 3 => narrowed(kind, c),
         2 => clamp_u8(c),
-        3 => t(c),
-        4 => round_shift_right(c),
-        5 => shift_left_clamp(c),
-        6 => shift_right_floor(c),
-        7 => add_scaled(c),
-        8 => sub_scaled(c),
+        4 | 5 | 6 => shifted(kind, c),
+        7 | 8 => scaled(kind, c),
         9 => sub_clamp(c),
         10 => magnitude(c),
         11 => with_sign(c),

@@ -1,7 +1,7 @@
 // Numbers in recorded bytes: little-endian, signed ones in two's complement. A byte past the end is 0.
 ghost use Prim.Native.Nat.{_+_, _^_, _<_};
 
-fn byte_at(s: &[u8], at: usize) -> u8 {
+pub fn u8_at(s: &[u8], at: usize) -> u8 {
     if at < s.len() {
         return s[at];
     }
@@ -9,17 +9,13 @@ fn byte_at(s: &[u8], at: usize) -> u8 {
 }
 
 pub fn flag_at(s: &[u8], at: usize) -> bool {
-    byte_at(s, at) != 0
-}
-
-pub fn u8_at(s: &[u8], at: usize) -> u8 {
-    byte_at(s, at)
+    u8_at(s, at) != 0
 }
 
 pub fn u16_at(s: &[u8], at: usize) -> u16
     requires { ⌜ at + 2 < 2 ^ 32 ⌝ }
 {
-    byte_at(s, at) as u16 + byte_at(s, at + 1) as u16 * 256
+    u8_at(s, at) as u16 + u8_at(s, at + 1) as u16 * 256
 }
 
 pub fn u32_at(s: &[u8], at: usize) -> u32
@@ -35,7 +31,7 @@ fn u64_at(s: &[u8], at: usize) -> u64
 }
 
 pub fn i8_at(s: &[u8], at: usize) -> i8 {
-    let bits = byte_at(s, at);
+    let bits = u8_at(s, at);
     if bits < 128 {
         return bits as i8;
     }

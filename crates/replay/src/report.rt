@@ -77,13 +77,17 @@ fn bytes(s: &[u8]) {
     }
 }
 
-// A case in which the port does not agree: its kind, its number within the kind, and its bytes.
-pub fn difference(kind: u8, number: u64, case: &[u8]) {
-    line(b"difference: ");
+// A case's kind, and its number within the kind.
+fn case_number(kind: u8, number: u64) {
     name(kind);
     line(b", case ");
     io::print_decimal(STDOUT_FILENO, number);
-    line(b":");
+}
+
+// A case in which the port does not agree, with its bytes.
+pub fn difference(kind: u8, number: u64, case: &[u8]) {
+    line(b"difference: ");
+    case_number(kind, number);
     bytes(case);
     line(b"\n");
 }

@@ -10,4 +10,4 @@ use Rattle.replay.proofs.number.i8_at.Tie as tie
 pub i8-at-spec : {M : Type 1} → statement M
 i8-at-spec =
     tie.close
-    (tie.spec (λ c κs. search needs) (λ c. search needs) (λ c. search needs) (λ c. search needs) (λ c. search needs) (λ c. below-zero w8 (255 - c .before .byte-at .result) (omega arith)) (λ c. search needs))
+    (tie.spec (λ c κs. search needs) (λ c. search needs) (λ c. search needs) (λ c. search needs) (λ c. search needs) (λ c. below-zero w8 (255 - c .before .u8-at .result) (omega arith)) (λ c. search needs))
