@@ -82,6 +82,7 @@ fn case_number(kind: u8, number: u64) {
     name(kind);
     line(b", case ");
     io::print_decimal(STDOUT_FILENO, number);
+    line(b":");
 }
 
 // A case in which the port does not agree, with its bytes.
