@@ -1,5 +1,5 @@
 // Signed sixteen-bit arithmetic: the signed operations of the port, each in a small function with an exact equation over ℤ.
-// No function here requires anything: each is exact for every argument of its types.
+// No public function here requires anything: each is exact for every argument of its types.
 ghost use mathlib.Core.Path.{_≡_};
 ghost use Prim.Native.Nat.{_/_, _^_, _≤_};
 ghost use lib.IntN.{ℤ, pos, natAbs, _-ℤ_};
