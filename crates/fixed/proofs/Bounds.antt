@@ -2,7 +2,7 @@
 -- A sum is under N where both summands are under N / 2, a product by k where the other factor is under (N - 1) / k; at literals all of that computes.
 -- The bounds are generous: where 32 bits leave little room, prove the bound by hand (`Scaled.antt`), or compute in 64.
 -- Assumes nothing.
-use Prim.Native.Nat.{ℕ, _-_, _/_, _^_, _<_, _≤_}
+use Prim.Native.Nat.{ℕ, _-_, _/_, _<_}
 use native.Mathlib.Nat.{lt-of-lt-of-le, lt-of-le-of-lt}
 use lib.Dec.{T, ltb, leb, ltb→lt, leb→le}
 use lib.IntN.{ℤ, pos, negsuc, _+ℤ_, _-ℤ_, _*ℤ_, *ℤ-comm}

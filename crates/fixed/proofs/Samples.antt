@@ -1,7 +1,7 @@
 -- The definitions at numbers that are known: dequantizing, the wavelet's first sample, one coefficient's upgrade from position 3 to 1.
 -- Assumes nothing.
 use mathlib.Core.Path.{_≡_, refl}
-use lib.IntN.{ℤ, pos, negsuc, _-ℤ_}
+use lib.IntN.{pos, negsuc, _-ℤ_}
 use Rattle.fixed.specs.Fixed.{clampI16, clampU8, low16, signed16, wrapI16, halfTowardZero, halfFloor, floorShift, roundShift, shiftLeftClamp, addScaled, subScaled}
 
 -- quantizer 5: -1 gives 0, 1 gives 1, -3 gives -1; quantizer 7: 20000 gives 32767

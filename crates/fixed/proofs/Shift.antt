@@ -1,7 +1,7 @@
 -- Shifts by k places of a sixteen-bit number: the bounds that the machine's thirty-two bits ask for k up to 15, and what a longer shift gives.
 -- Assumes nothing.
 use mathlib.Core.Path.{_≡_, refl, sym, ap, _∙_}
-use Prim.Native.Nat.{ℕ, zero, suc, _+_, _-_, _*_, _/_, _^_, _<_, _≤_, min}
+use Prim.Native.Nat.{ℕ, zero, suc, _+_, _-_, _*_, _/_, _^_, _<_, _≤_}
 use native.Mathlib.Omega.{arith}
 use native.Mathlib.Nat.{div-lt-iff-lt-mul, mul-le-mul-right}
 use mathlib.Core.Bool.{Bool, true, false, cond}

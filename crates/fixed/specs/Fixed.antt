@@ -2,7 +2,7 @@
 -- `pos n` is n and `negsuc n` is -(n + 1), so -32768 is `negsuc 32767`. The library's `quotZ` divides towards zero, and its `shrZ z m` divides by m and rounds
 -- down, as a shift that copies the sign bit does.
 use mathlib.Core.Bool.{Bool, true, false, cond}
-use Prim.Native.Nat.{ℕ, zero, suc, _+_, _-_, _*_, _/_, _%_, _^_, min}
+use Prim.Native.Nat.{ℕ, zero, suc, _-_, _*_, _/_, _%_, _^_, min}
 use lib.Dec.{ltb}
 use lib.IntN.{ℤ, pos, negsuc, negℤ, _+ℤ_, _-ℤ_, _*ℤ_}
 use lib.Signed.{ltZ, quotZ, shrZ}

@@ -2,7 +2,7 @@
 // No public function here requires anything: each is exact for every argument of its types.
 ghost use mathlib.Core.Path.{_≡_};
 ghost use Prim.Native.Nat.{_/_, _^_, _≤_};
-ghost use lib.IntN.{ℤ, pos, natAbs, _-ℤ_};
+ghost use lib.IntN.{pos, natAbs, _-ℤ_};
 ghost use Rattle.fixed.specs.Fixed.{clampI16, clampU8, wrapI16, halfTowardZero, halfFloor, floorShift, roundShift, shiftLeftClamp, addScaled, subScaled, isNegative, isPositive, isZero, signOf, withSign};
 ghost use Rattle.fixed.specs.Inner.{step};
 
