@@ -6,17 +6,34 @@ use native.Mathlib.Omega.{arith}
 use borrow.Author.Tests.{ltb-true, ltb-false}
 use lib.IntN.{ℤ, pos, negsuc, natAbs, negℤ, _-ℤ_, +ℤ-idl}
 use lib.Signed.{ltZ}
-use Rattle.fixed.specs.Fixed.{isZero, signOf, withSign}
+use mir.Syntax.{Width}
+use mir.Val.{SFits, ofZ}
+use Rattle.fixed.specs.Fixed.{isZero, isOne, signOf, withSign}
+use Rattle.fixed.proofs.Machine.{same-bits}
 
-pub zero-yes : (v : ℤ) → v ≡ pos 0 → true ≡ isZero v
+-- ---- tests, at every width: what `v == 0` and `v == 1` say of the bits
+pub zero-yes : (w : Width) (v : ℤ) → SFits w v → SFits w (pos 0) → ofZ w v ≡ 0 → true ≡ isZero v
 unfolding isZero
-zero-yes v e = cc
+zero-yes w v f g e = let s : v ≡ pos 0 = same-bits w v (pos 0) f g e in cc
 
-pub zero-no : (v : ℤ) → (v ≡ pos 0 → ⊥) → false ≡ isZero v
+pub zero-no : (w : Width) (v : ℤ) → (ofZ w v ≡ 0 → ⊥) → false ≡ isZero v
 unfolding isZero
-zero-no (pos zero) f = absurd (f refl)
-zero-no (pos (suc n)) f = refl
-zero-no (negsuc n) f = refl
+zero-no w (pos zero) f = absurd (f refl)
+zero-no w (pos (suc n)) f = refl
+zero-no w (negsuc n) f = refl
+
+pub one-yes : (w : Width) (v : ℤ) → SFits w v → SFits w (pos 1) → ofZ w v ≡ 1 → true ≡ isOne v
+unfolding isOne
+one-yes w v f g e = let s : v ≡ pos 1 = same-bits w v (pos 1) f g e in cc
+
+pub one-no : (w : Width) (v : ℤ) → (ofZ w v ≡ 1 → ⊥) → false ≡ isOne v
+unfolding isOne
+one-no w (pos zero) f = refl
+one-no w (pos (suc zero)) f = absurd (f refl)
+one-no w (pos (suc (suc n))) f = refl
+one-no w (negsuc n) f = refl
+
+-- ---- the sign of a value
 
 pub sign-zero : (v : ℤ) → v ≡ pos 0 → pos 0 ≡ signOf v
 unfolding signOf

@@ -68,6 +68,12 @@ isZero (pos zero) = true
 isZero (pos (suc n)) = false
 isZero (negsuc n) = false
 
+unfoldable pub isOne : ℤ → Bool
+isOne (pos zero) = false
+isOne (pos (suc zero)) = true
+isOne (pos (suc (suc n))) = false
+isOne (negsuc n) = false
+
 -- 1, 0 or -1
 unfoldable pub signOf : ℤ → ℤ
 signOf (pos zero) = pos 0

@@ -3,7 +3,7 @@
 ghost use mathlib.Core.Path.{_≡_};
 ghost use Prim.Native.Nat.{_/_, _^_, _≤_};
 ghost use lib.IntN.{pos, natAbs, _-ℤ_};
-ghost use Rattle.fixed.specs.Fixed.{clampI16, clampU8, wrapI16, halfTowardZero, halfFloor, floorShift, roundShift, shiftLeftClamp, addScaled, subScaled, isNegative, isPositive, isZero, signOf, withSign};
+ghost use Rattle.fixed.specs.Fixed.{clampI16, clampU8, wrapI16, halfTowardZero, halfFloor, floorShift, roundShift, shiftLeftClamp, addScaled, subScaled, isNegative, isPositive, isZero, isOne, signOf, withSign};
 ghost use Rattle.fixed.specs.Inner.{step};
 
 // ---- widening
@@ -138,6 +138,26 @@ pub fn is_zero(value: i16) -> bool
     ensures { λ r. ⌜ r ≡ isZero value ⌝ }
 {
     if value == 0 {
+        return true;
+    }
+    false
+}
+
+// Whether a coefficient's sign says that nothing is known of it yet.
+pub fn is_zero_sign(sign: i8) -> bool
+    ensures { λ r. ⌜ r ≡ isZero sign ⌝ }
+{
+    if sign == 0 {
+        return true;
+    }
+    false
+}
+
+// Whether a coefficient's sign is 1, at which raw bits are added; at every other they are subtracted.
+pub fn is_positive_sign(sign: i8) -> bool
+    ensures { λ r. ⌜ r ≡ isOne sign ⌝ }
+{
+    if sign == 1 {
         return true;
     }
     false

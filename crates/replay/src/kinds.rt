@@ -10,6 +10,7 @@ pub fn case_size(kind: u8) -> usize {
         7 | 8 => 7,
         10 => 4,
         12 | 21 => 3,
+        15 => 2,
         13 => 12,
         14 => 14,
         20 => 10,
@@ -102,6 +103,19 @@ fn widen(c: &[u8]) -> bool {
     fixed::widen_i64(value) == number::i64_at(c, 6)
 }
 
+// What a pass does at a sign: 0 reads the SRL stream, 1 adds raw bits, 2 subtracts them.
+fn sign_use(c: &[u8]) -> bool {
+    let sign = number::i8_at(c, 0);
+    let answer = number::u8_at(c, 1);
+    if fixed::is_zero_sign(sign) {
+        return answer == 0;
+    }
+    if fixed::is_positive_sign(sign) {
+        return answer == 1;
+    }
+    answer == 2
+}
+
 fn same_band(a: bands::BandInfo, b: bands::BandInfo) -> bool {
     if a.width != b.width {
         return false;
@@ -151,6 +165,7 @@ fn same(kind: u8, c: &[u8]) -> bool {
         12 => sign_of(c),
         13 => halves(c),
         14 => widen(c),
+        15 => sign_use(c),
         20 => band(c),
         21 => ll3_offset(c),
         _ => false,

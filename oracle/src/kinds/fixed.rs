@@ -26,6 +26,7 @@ const WITH_SIGN: Kind = kind(11, 3, 5);
 const SIGN_OF: Kind = kind(12, 2, 3);
 const HALVES: Kind = kind(13, 4, 12);
 const WIDEN: Kind = kind(14, 2, 14);
+const SIGN_USE: Kind = kind(15, 1, 2);
 
 const fn kind(number: u8, inputs: usize, size: usize) -> Kind {
     Kind {
@@ -63,7 +64,8 @@ pub fn record_all(recording: &mut Recording<'_>) -> io::Result<()> {
     with_sign(recording)?;
     sign_of(recording)?;
     halves(recording)?;
-    widen(recording)
+    widen(recording)?;
+    sign_use(recording)
 }
 
 /// Records a case for every limit and for `count` random values, times the scale.
@@ -147,6 +149,39 @@ fn widen(recording: &mut Recording<'_>) -> io::Result<()> {
             &i64::from(value).to_le_bytes(),
         ])
     })
+}
+
+/// What a pass does at a place with each of the 256 signs.
+fn sign_use(recording: &mut Recording<'_>) -> io::Result<()> {
+    let mut cases = recording.cases(SIGN_USE);
+    for sign in i8::MIN..=i8::MAX {
+        cases.add(&[&sign.to_le_bytes(), &[used(sign)]])?;
+    }
+    cases.finish()
+}
+
+/// 0 where the place takes its value from the SRL stream, 1 where raw bits are added and 2 where
+/// they are subtracted. The place is the first, its coefficient 0; the SRL stream is empty and
+/// brings 0, the raw stream has a 1 for every place.
+fn used(sign: i8) -> u8 {
+    let mut coefficients = [0; COEFFICIENTS_PER_COMPONENT];
+    let mut signs = [sign; COEFFICIENTS_PER_COMPONENT];
+    progressive::decode_upgrade_pass(
+        &[],
+        &[0xFF; COEFFICIENTS_PER_COMPONENT / 8],
+        &ComponentCodecQuant::all(1),
+        &ComponentCodecQuant::all(0),
+        false,
+        &mut coefficients,
+        &mut signs,
+    )
+    .expect("the width is one the decoder takes");
+    match coefficients[0] {
+        0 => 0,
+        1 => 1,
+        -1 => 2,
+        other => panic!("sign {sign} gives {other}"),
+    }
 }
 
 /// Records the cases of a function of a value and a shift: every shift from `least` on with every
