@@ -29,15 +29,17 @@ signed16 m = cond (ltb m 32768) (pos m) (negsuc (65535 - m))
 unfoldable pub wrapI16 : ℤ → ℤ
 wrapI16 z = signed16 (low16 z)
 
--- ---- halving, which has two forms: the wavelet's goes towards zero, a shift by one place rounds down
+-- ---- halving, which has two forms
+-- the wavelet's: "Halving goes towards zero"
 abbrev pub halfTowardZero : ℤ → ℤ
 halfTowardZero z = quotZ z (pos 2)
 
+-- "a shift by one place rounds down"
 abbrev pub halfFloor : ℤ → ℤ
 halfFloor z = shrZ z 2
 
 -- ---- shifts by k places
--- right, with floor
+-- right: "shifted right by the current position with floor"
 abbrev pub floorShift : ℤ → ℕ → ℤ
 floorShift z k = shrZ z (2 ^ k)
 
@@ -49,32 +51,36 @@ roundShift z k = floorShift (z +ℤ pos (2 ^ k / 2)) k
 unfoldable pub shiftLeftClamp : ℤ → ℕ → ℤ
 shiftLeftClamp z k = clampI16 (z *ℤ pos (2 ^ k))
 
--- ---- an upgrade of one coefficient: a number times 2 ^ k is added or subtracted, and the sum clamps
+-- ---- an upgrade of one coefficient: "width raw bits form a number times 2^current"
+-- "It is added in the bottom band and where the sign is 1"
 unfoldable pub addScaled : ℤ → ℕ → ℕ → ℤ
 addScaled c m k = clampI16 (c +ℤ pos (m * 2 ^ k))
 
+-- "and subtracted for every other sign"
 unfoldable pub subScaled : ℤ → ℕ → ℕ → ℤ
 subScaled c m k = clampI16 (c -ℤ pos (m * 2 ^ k))
 
--- ---- signs
+-- ---- signs of values
 abbrev pub isNegative : ℤ → Bool
 isNegative z = ltZ z (pos 0)
 
 abbrev pub isPositive : ℤ → Bool
 isPositive z = ltZ (pos 0) z
 
+-- of a value, and of a sign: "0 where nothing is known of it yet"
 unfoldable pub isZero : ℤ → Bool
 isZero (pos zero) = true
 isZero (pos (suc n)) = false
 isZero (negsuc n) = false
 
+-- of a sign: "where the sign is 1"
 unfoldable pub isOne : ℤ → Bool
 isOne (pos zero) = false
 isOne (pos (suc zero)) = true
 isOne (pos (suc (suc n))) = false
 isOne (negsuc n) = false
 
--- 1, 0 or -1
+-- the sign that a coefficient has: "1 or -1 once it is" known
 unfoldable pub signOf : ℤ → ℤ
 signOf (pos zero) = pos 0
 signOf (pos (suc n)) = pos 1

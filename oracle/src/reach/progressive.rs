@@ -14,10 +14,6 @@ pub fn round_shift_right(value: i16, shift: u8) -> i16 {
     super::round_shift_right(value, shift)
 }
 
-pub fn ycbcr_to_rgb(y: i16, cb: i16, cr: i16) -> [u8; 3] {
-    super::ycbcr_to_rgb(y, cb, cr)
-}
-
 pub fn capture_sign(coefficients: &[i16], sign: &mut [i8]) {
     super::capture_sign(coefficients, sign);
 }
@@ -50,10 +46,6 @@ pub fn ll3_offset(use_reduce_extrapolate: bool) -> usize {
     super::ll3_offset(use_reduce_extrapolate)
 }
 
-pub fn band_zero_count(sign: &[i8], band: &BandInfo) -> usize {
-    super::band_zero_count(sign, band)
-}
-
 /// The stream that `RawBitWriter` makes of values, each of `width` bits.
 pub fn write_raw(values: impl IntoIterator<Item = u32>, width: u32) -> Vec<u8> {
     let mut writer = RawBitWriter::new();
@@ -61,10 +53,4 @@ pub fn write_raw(values: impl IntoIterator<Item = u32>, width: u32) -> Vec<u8> {
         writer.write_bits(value, width);
     }
     writer.finish()
-}
-
-/// The values, each of `width` bits, that `RawBitReader` finds at the start of a stream.
-pub fn read_raw(data: &[u8], count: usize, width: u32) -> Vec<u32> {
-    let mut reader = RawBitReader::new(data);
-    (0..count).map(|_| reader.read_bits(width)).collect()
 }
