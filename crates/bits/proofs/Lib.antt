@@ -1,0 +1,1 @@
+-- Laws of streams of bits, for the proofs here and in the crates above.

@@ -1,0 +1,1 @@
+-- Laws of SRL, for the proofs here and in the crates above.

@@ -1,0 +1,43 @@
+-- The end of an SRL stream: what `finish` answers and stores (docs/SCOPE.md, "SRL", "Refusals").
+use mathlib.Core.Bool.{Bool, cond}
+use mathlib.Core.List.{List, [], _∷_, _++_}
+use Prim.Native.Nat.{ℕ, zero, suc}
+use lib.ListN.{length}
+use Rattle.bits.specs.Written.{pack}
+use Rattle.srl.specs.Decode.{noRoom, stored}
+use Rattle.srl.specs.Encode.{runBits, writerOk}
+use Rattle.srl.specs.declared.SrlWriter.{SrlWriter}
+use Rattle.srl.specs.declared.Finished.{Finished}
+use Rattle.srl.specs.declared.Finished.the-variants.{Stream, Refused}
+
+-- "`finish` writes a pending run as if a value followed"
+abbrev pub flush : ℕ → ℕ → List Bool
+flush kp zero = []
+flush kp (suc z) = runBits (suc (suc z)) kp (suc z)
+
+-- "`finish` writes a pending run as if a value followed, pads with zeros, and appends one byte 0"
+abbrev pub finishBytes : SrlWriter → List ℕ
+finishBytes st = pack (st .current) (st .«bit_count») (flush (st .kp) (st .«pending_zeros»)) ++ (0 ∷ [])
+
+-- "order: 8, .. 7"
+abbrev pub finishRefusal : SrlWriter → ℕ → ℕ
+finishRefusal st room = cond (writerOk st) (noRoom room (length (finishBytes st))) 8
+
+abbrev pub finished : ℕ → ℕ → SrlWriter → Finished
+finished zero n st = Stream n
+finished (suc k) n st = Refused (suc k) st
+
+abbrev pub finishAnswer : SrlWriter → ℕ → Finished
+finishAnswer st room = finished (finishRefusal st room) (length (finishBytes st)) st
+
+abbrev pub finishOut : SrlWriter → List ℕ → List ℕ
+finishOut st out = stored (finishRefusal st (length out)) (finishBytes st) out
+
+-- the number and the count of bytes of each case
+abbrev pub finishedNumber : Finished → ℕ
+finishedNumber (Stream n) = 0
+finishedNumber (Refused k st) = k
+
+abbrev pub finishedCount : Finished → ℕ
+finishedCount (Stream n) = n
+finishedCount (Refused k st) = 0

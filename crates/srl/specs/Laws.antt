@@ -1,0 +1,88 @@
+-- The laws of the two coders, as statements. Each is what a function with an empty body ensures.
+use mathlib.Core.Path.{_≡_}
+use mathlib.Core.Bool.{true}
+use mathlib.Core.List.{List, [], _∷_, _++_}
+use Prim.Native.Nat.{ℕ, _^_, _<_}
+use lib.IntN.{ℤ, pos, natAbs}
+use lib.ListN.{length, replicate}
+use Rattle.srl.specs.Srl.{Reader, values}
+use Rattle.srl.specs.Decode.{startState, stateOk, decodeAnswer, decodeOut, numberOf, stateOf}
+use Rattle.srl.specs.Encode.{freshWriter, writerOk, callBytes, callAfter, encodeRefusal}
+use Rattle.srl.specs.Finish.{finishBytes}
+use Rattle.srl.specs.declared.SrlState.{SrlState}
+use Rattle.srl.specs.declared.SrlWriter.{SrlWriter}
+
+-- ════ magnitudes ════
+
+-- each width is at least 1
+pub data Wide : List ℕ → Type 0 where
+  none : Wide []
+  wide : {w : ℕ} {ws : List ℕ} → 0 < w → Wide ws → Wide (w ∷ ws)
+
+-- each value is 0, or its magnitude is 1 to 2^w - 1
+pub data Legal : List ℕ → List ℤ → Type 0 where
+  none : Legal [] []
+  legal : {w : ℕ} {v : ℤ} {ws : List ℕ} {vs : List ℤ} → natAbs v < 2 ^ w → Legal ws vs → Legal (w ∷ ws) (v ∷ vs)
+
+pub record DecodedMagnitudes : Type 0 where
+  -- whatever the stream holds and wherever the reader stands
+  pub bounded : (s ws : List ℕ) (r : Reader) → Wide ws → Legal ws (values s ws r)
+
+-- ════ the round trip ════
+
+-- a call of `encode`
+pub record Call : Type 0 where
+  pub width : ℕ
+  pub given : List ℤ
+
+-- a call of `decode`
+pub record Ask : Type 0 where
+  pub width : ℕ
+  pub count : ℕ
+
+-- every call is accepted, each from the state that the one before handed back, with just the room that it needs
+abbrev pub Accepted : SrlWriter → List Call → Type 0
+Accepted st [] = Unit {0}
+Accepted st (c ∷ cs) =
+    (encodeRefusal st (c .given) (length (callBytes (c .width) st (c .given))) (c .width) ≡ 0) × Accepted (callAfter (c .width) st (c .given)) cs
+
+-- the bytes of these calls and of `finish`, one after another
+abbrev pub streamFrom : SrlWriter → List Call → List ℕ
+streamFrom st [] = finishBytes st
+streamFrom st (c ∷ cs) = callBytes (c .width) st (c .given) ++ streamFrom (callAfter (c .width) st (c .given)) cs
+
+-- the values, and the width of each
+abbrev pub given : List Call → List ℤ
+given [] = []
+given (c ∷ cs) = c .given ++ given cs
+
+abbrev pub widths : List Call → List ℕ
+widths [] = []
+widths (c ∷ cs) = replicate (length (c .given)) (c .width) ++ widths cs
+
+abbrev pub asked : List Ask → List ℕ
+asked [] = []
+asked (a ∷ asks) = replicate (a .count) (a .width) ++ asked asks
+
+-- what calls of `decode` store, each from the state that the one before handed back, into an output of just the size
+abbrev pub room : Ask → List ℤ
+room a = replicate (a .count) (pos 0)
+
+abbrev pub readBack : List ℕ → SrlState → List Ask → List ℤ
+readBack s st [] = []
+readBack s st (a ∷ asks) =
+    decodeOut s st (room a) (a .count) (a .width) ++ readBack s (stateOf (decodeAnswer s st (a .count) (a .count) (a .width))) asks
+
+pub record RoundTrip : Type 0 where
+  -- what `encode` and `finish` wrote is read back: both sides may split the values into calls as they like, so long as each value is
+  -- read at the width at which it was written
+  pub back : (cs : List Call) (asks : List Ask) → Accepted freshWriter cs → asked asks ≡ widths cs → readBack (streamFrom freshWriter cs) startState asks ≡ given cs
+
+-- ════ states ════
+
+pub record DecoderResumes : Type 0 where
+  -- a state that `decode` hands back is one that it accepts, where the one handed in was
+  pub again : (s : List ℕ) (st : SrlState) (room n w : ℕ) → stateOk st ≡ true → stateOk (stateOf (decodeAnswer s st room n w)) ≡ true
+
+pub record EncoderResumes : Type 0 where
+  pub again : (st : SrlWriter) (vs : List ℤ) (room w : ℕ) → encodeRefusal st vs room w ≡ 0 → writerOk (callAfter w st vs) ≡ true

@@ -1,0 +1,2 @@
+// The decoder, value by value.
+use crate::SrlState;

@@ -1,0 +1,2 @@
+// The encoder, value by value.
+use crate::SrlWriter;
