@@ -3,3 +3,4 @@ pub mod Numbers
 pub mod Ones
 pub mod Tops
 pub mod Places
+pub mod Powers
