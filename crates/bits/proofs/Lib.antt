@@ -3,4 +3,5 @@ pub mod Numbers
 pub mod Ones
 pub mod Tops
 pub mod Places
+pub mod Past
 pub mod Powers
