@@ -3,3 +3,4 @@ pub mod Widths
 pub mod Codes
 pub mod Values
 pub mod Due
+pub mod States

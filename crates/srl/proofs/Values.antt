@@ -79,6 +79,14 @@ value-held s w r = next-alike s w (reader-held s r) .0
 pub next-held : (s : List ℕ) (w : ℕ) (r : Reader) → heldReader s (nextReader s w (heldReader s r)) ≡ heldReader s (nextReader s w r)
 next-held s w r = held-readers s (next-alike s w (reader-held s r) .1)
 
+pub values-alike : (s ws : List ℕ) {r q : Reader} → AlikeReader s r q → (values s ws r ≡ values s ws q) × AlikeReader s (readerAfter s ws r) (readerAfter s ws q)
+unfolding values readerAfter
+values-alike s [] a = (refl, a)
+values-alike s (w ∷ ws) a =
+    let n = next-alike s w a in
+    let i = values-alike s ws (n .1) in
+    (ap₂ (λ (v : ℤ) (vs : List ℤ). v ∷ vs) (n .0) (i .0), i .1)
+
 -- ════ one value more ════
 
 pub after-append : (s : List ℕ) (a b : List ℕ) (r : Reader) → readerAfter s (a ++ b) r ≡ readerAfter s b (readerAfter s a r)

@@ -5,8 +5,9 @@ ghost use Prim.Native.Nat.{_*_, _^_, _+_, _≤_};
 ghost use lib.ListN.{length, drop, replicate};
 ghost use Rattle.bits.specs.Bits.{bitsRead, placeOf};
 ghost use Rattle.srl.specs.Srl.{nonzero, behind, codeWord, readied, nextValue, nextReader, values, readerAfter};
-ghost use Rattle.srl.specs.Decode.{opened, stateOk, dueAmong};
+ghost use Rattle.srl.specs.Decode.{opened, closed, stateOk, dueAmong, noRoom, decoded, stored};
 ghost use Rattle.srl.specs.Inner.{Width, Sound, shut, heldReader, handed};
+use crate::Decoded;
 use crate::MAX_KP;
 use crate::SrlState;
 use crate::rules;
@@ -201,4 +202,22 @@ pub fn any_due(src: &[u8], st: SrlState, num_values: usize) -> bool
         cur = code_word(src, cur);
     }
     false
+}
+
+// Stores the next `num_values` values if there is room for them, and refuses with 7 if not.
+pub fn store_if_room(
+    src: &[u8],
+    st: SrlState,
+    out: &mut [i16],
+    num_values: usize,
+    num_bits: u8,
+) -> Decoded
+    requires { ⌜ (st .reader .«bit_idx» ≤ 7) × (st .kp ≤ 80) × Width «num_bits» ⌝ }
+    ensures { λ r. ⌜ (r ≡ decoded (noRoom (length (now (out .entry))) «num_values») «num_values» (closed (now (src .entry)) st (readerAfter (now (src .entry)) (replicate «num_values» «num_bits») (opened st))) st) × (now (out .exit) ≡ stored (noRoom (length (now (out .entry))) «num_values») (values (now (src .entry)) (replicate «num_values» «num_bits») (opened st)) (now (out .entry))) ⌝ }
+{
+    if out.len() < num_values {
+        return Decoded::Refused(7, st);
+    }
+    let done = store_values(src, hold(src, st), out, num_values, num_bits);
+    Decoded::Values(num_values, hand_back(src, st, done))
 }

@@ -3,7 +3,8 @@
 // (docs/SCOPE.md, "Refusals"), hands back the state and alters nothing.
 
 ghost use mathlib.Core.Path.{_≡_};
-ghost use Rattle.srl.specs.Decode.{startState};
+ghost use lib.ListN.{length};
+ghost use Rattle.srl.specs.Decode.{startState, decodeAnswer, decodeOut};
 ghost use Rattle.srl.specs.Encode.{freshWriter};
 
 mod decoder;
@@ -66,6 +67,29 @@ impl SrlState {
             nonzero_pending: false,
         }
     }
+}
+
+// Stores the next `num_values` values, of `num_bits` bits where they are nonzero, at the front of `out`.
+// A width that no nonzero value can have is refused only where one is due, which is found out before anything is stored.
+pub fn decode(
+    src: &[u8],
+    state: SrlState,
+    out: &mut [i16],
+    num_values: usize,
+    num_bits: u8,
+) -> Decoded
+    ensures { λ r. ⌜ (r ≡ decodeAnswer (now (src .entry)) state (length (now (out .entry))) «num_values» «num_bits») × (now (out .exit) ≡ decodeOut (now (src .entry)) state (now (out .entry)) «num_values» «num_bits») ⌝ }
+{
+    if !decoder::state_ok(state) {
+        return Decoded::Refused(8, state);
+    }
+    if rules::width_ok(num_bits) {
+        return decoder::store_if_room(src, state, out, num_values, num_bits);
+    }
+    if decoder::any_due(src, state, num_values) {
+        return Decoded::Refused(4, state);
+    }
+    decoder::store_if_room(src, state, out, num_values, 1)
 }
 
 impl SrlWriter {
