@@ -5,3 +5,5 @@ pub mod Tops
 pub mod Places
 pub mod Past
 pub mod Powers
+pub mod Puts
+pub mod Packed

@@ -5,7 +5,9 @@
 ghost use mathlib.Core.Path.{_≡_};
 ghost use lib.ListN.{length};
 ghost use Rattle.srl.specs.Decode.{startState, decodeAnswer, decodeOut};
-ghost use Rattle.srl.specs.Encode.{freshWriter};
+ghost use Rattle.srl.specs.Encode.{freshWriter, encodeAnswer, encodeOut};
+ghost use Rattle.srl.specs.Finish.{finishAnswer, finishOut};
+ghost use Rattle.srl.specs.Laws.{EncoderResumes};
 
 mod decoder;
 mod encoder;
@@ -105,3 +107,47 @@ impl SrlWriter {
         }
     }
 }
+
+// ---- encoding
+
+// Writes the whole bytes that the values complete, from the start of `out`.
+pub fn encode(values: &[i16], state: SrlWriter, out: &mut [u8], num_bits: u8) -> Encoded
+    ensures { λ r. ⌜ (r ≡ encodeAnswer state (now (values .entry)) (length (now (out .entry))) «num_bits») × (now (out .exit) ≡ encodeOut state (now (values .entry)) (now (out .entry)) «num_bits») ⌝ }
+{
+    if !encoder::writer_ok(state) {
+        return Encoded::Refused(8, state);
+    }
+    if !rules::width_ok(num_bits) {
+        return Encoded::Refused(4, state);
+    }
+    let f = encoder::find_fault(values, state.pending_zeros, num_bits);
+    if f != 0 {
+        return Encoded::Refused(f, state);
+    }
+    if encoder::too_many(values, encoder::measure_start(state), num_bits, out.len()) {
+        return Encoded::Refused(7, state);
+    }
+    let done = encoder::put_values(values, encoder::call_start(state), out, num_bits);
+    let sink = done.sink;
+    Encoded::Bytes(sink.at, encoder::writer_of(done))
+}
+
+// Writes the end of the stream from the start of `out`: the pending zeros, the padding and a byte 0.
+pub fn finish(state: SrlWriter, out: &mut [u8]) -> Finished
+    ensures { λ r. ⌜ (r ≡ finishAnswer state (length (now (out .entry)))) × (now (out .exit) ≡ finishOut state (now (out .entry))) ⌝ }
+{
+    if !encoder::writer_ok(state) {
+        return Finished::Refused(8, state);
+    }
+    let need = encoder::end_length(state);
+    if out.len() < need {
+        return Finished::Refused(7, state);
+    }
+    encoder::put_end(out, state);
+    Finished::Stream(need)
+}
+
+// A state that `encode` hands back with bytes is one that it accepts.
+pub fn encoder_resumes()
+    ensures { λ _. ⌜ EncoderResumes ⌝ }
+{}

@@ -1,0 +1,109 @@
+-- Laws of a call of `encode`: value by value, measured, and as a whole. Assumes nothing.
+use mathlib.Core.Path.{_≡_, refl, ap, sym, _∙_}
+use mathlib.Core.Bool.{Bool, true, false, cond}
+use mathlib.Core.List.{List, [], _∷_, _++_}
+use Prim.Native.Nat.{ℕ, zero, suc, _+_, _≤_}
+use native.Mathlib.Nat.{zero-add}
+use native.Mathlib.Omega.{arith}
+use lib.Dec.{leb}
+use lib.IntN.{ℤ}
+use lib.ListN.{length, drop, length-append}
+use borrow.Author.Tests.{ltb-true, leb-true}
+use Rattle.bits.specs.Written.{after, counted}
+use Rattle.bits.proofs.Puts.{after-append, write-append}
+use Rattle.bits.proofs.Packed.{write-whole, after-whole, count-after, counted-two, sets-start}
+use Rattle.srl.specs.Decode.{widthOk, noRoom, stored}
+use Rattle.srl.specs.Encode.{valueBits, valueKp, valueZeros, callBits, callKp, callZeros, sink, bitsFrom, callBytes, callAfter, firstOf, fault, writerOk, encodeRefusal, encoded, encodeAnswer, encodeOut}
+use Rattle.srl.specs.EncodeInner.{callStart, measureStart, valueState, valueWrite, callState, callWrite, valueMeasure, callCount, GoodWriter}
+use Rattle.srl.specs.declared.SrlWriter.{SrlWriter}
+use Rattle.srl.specs.declared.Encoded.the-variants.{Bytes, Refused}
+use Rattle.srl.specs.declared.encoder.CallState.{CallState}
+use Rattle.srl.specs.declared.encoder.Measured.{Measured}
+use Rattle.srl.proofs.Widths.{both}
+
+-- what the test of a state says
+pub writerOk-good : (st : SrlWriter) → writerOk st ≡ true → GoodWriter st
+writerOk-good st h =
+    let k = both (leb (st .kp) 80) _ h in
+    let b = both (leb (st .«bit_count») 7) _ (k .1) in
+    let z = both (leb (st .«pending_zeros») 4096) _ (b .1) in
+    ((leb-true _ _ (b .0), ltb-true _ _ (z .1)), leb-true _ _ (k .0), leb-true _ _ (z .0))
+
+-- ════ value by value ════
+
+pub call-step : (w : ℕ) (c : CallState) (v : ℤ) (vs : List ℤ) → callState w c (v ∷ vs) ≡ callState w (valueState w c v) vs
+call-step w c v vs =
+    let s = after-append (c .sink) (valueBits w (c .kp) (c .zeros) v) (callBits w (valueKp (c .kp) (c .zeros) v) (valueZeros (c .zeros) v) vs) in
+    λ i. record { sink = s i; kp = callKp (c .kp) (c .zeros) (v ∷ vs); zeros = callZeros (c .zeros) (v ∷ vs) }
+
+pub write-step : (w : ℕ) (out : List ℕ) (c : CallState) (v : ℤ) (vs : List ℤ) → callWrite w out c (v ∷ vs) ≡ callWrite w (valueWrite w out c v) (valueState w c v) vs
+write-step w out c v vs =
+    write-append out (c .sink) (valueBits w (c .kp) (c .zeros) v) (callBits w (valueKp (c .kp) (c .zeros) v) (valueZeros (c .zeros) v) vs)
+
+pub count-step : (w : ℕ) (p : Measured) (v : ℤ) (vs : List ℤ) → callCount w p (v ∷ vs) ≡ callCount w (valueMeasure w p v) vs
+count-step w p v vs =
+    let a = valueBits w (p .kp) (p .zeros) v in
+    let b = callBits w (valueKp (p .kp) (p .zeros) v) (valueZeros (p .zeros) v) vs in
+    ap (λ n. counted (p .place) n .at) (length-append a b) ∙ ap (λ x. x .at) (sym (counted-two (p .place) (length a) (length b)))
+
+pub count-none : (w : ℕ) (p : Measured) → p .place .«bit_count» ≤ 7 → callCount w p [] ≡ p .place .at
+count-none w p h = omega arith
+
+pub count-mono : (w : ℕ) (p : Measured) (vs : List ℤ) → p .place .at ≤ callCount w p vs
+count-mono w p vs = omega arith
+
+-- ════ a whole call ════
+
+-- the bytes that are counted are those of `callBytes`, and so are those that are stored
+pub call-sink : (w : ℕ) (st : SrlWriter) (vs : List ℤ) → after (sink st) (bitsFrom w st vs) .at ≡ length (callBytes w st vs)
+call-sink w st vs =
+    after-whole (bitsFrom w st vs) 0 (st .current) (st .«bit_count») ∙ zero-add (length (callBytes w st vs))
+
+pub call-count : (w : ℕ) (st : SrlWriter) (vs : List ℤ) → st .«bit_count» ≤ 7 → callCount w (measureStart st) vs ≡ length (callBytes w st vs)
+call-count w st vs h = sym (ap (λ p. p .at) (count-after (sink st) (bitsFrom w st vs) h)) ∙ call-sink w st vs
+
+pub call-out : (w : ℕ) (out : List ℕ) (st : SrlWriter) (vs : List ℤ) → length (callBytes w st vs) ≤ length out
+    → callWrite w out (callStart st) vs ≡ callBytes w st vs ++ drop (length (callBytes w st vs)) out
+call-out w out st vs h =
+    write-whole (bitsFrom w st vs) out 0 (st .current) (st .«bit_count») ∙ sets-start (callBytes w st vs) out h
+
+-- ════ what `encode` refuses, test by test, and what it answers then ════
+
+pub encoded-some : (n m : ℕ) (next st : SrlWriter) → (n ≡ 0 → ⊥) → encoded n m next st ≡ Refused n st
+encoded-some zero m next st h = absurd (h refl)
+encoded-some (suc n) m next st h = refl
+
+pub stored-some : (n : ℕ) (bytes out : List ℕ) → (n ≡ 0 → ⊥) → stored n bytes out ≡ out
+stored-some zero bytes out h = absurd (h refl)
+stored-some (suc n) bytes out h = refl
+
+module _ (st : SrlWriter) (vs : List ℤ) (out : List ℕ) (w : ℕ) where
+  -- `encodeRefusal` by its two tests and the values' refusal
+  abbrev refusal : Bool → Bool → ℕ → ℕ
+  refusal s q f = cond s (cond q (firstOf f (noRoom (length out) (length (callBytes w st vs)))) 4) 8
+
+  pub refusal-state : writerOk st ≡ false → encodeRefusal st vs (length out) w ≡ 8
+  refusal-state s = ap (λ b. refusal b (widthOk w) (fault w (st .«pending_zeros») vs)) s
+
+  pub refusal-width : writerOk st ≡ true → widthOk w ≡ false → encodeRefusal st vs (length out) w ≡ 4
+  refusal-width s q = ap (λ b. refusal b (widthOk w) (fault w (st .«pending_zeros») vs)) s ∙ ap (λ b. refusal true b (fault w (st .«pending_zeros») vs)) q
+
+  pub refusal-rest : writerOk st ≡ true → widthOk w ≡ true → {f : ℕ} → f ≡ fault w (st .«pending_zeros») vs
+      → encodeRefusal st vs (length out) w ≡ firstOf f (noRoom (length out) (length (callBytes w st vs)))
+  refusal-rest s q e =
+      ap (λ b. refusal b (widthOk w) (fault w (st .«pending_zeros») vs)) s
+      ∙ ap (λ b. refusal true b (fault w (st .«pending_zeros») vs)) q
+      ∙ ap (refusal true true) (sym e)
+
+  pub refused : (n : ℕ) → (n ≡ 0 → ⊥) → encodeRefusal st vs (length out) w ≡ n → (Refused n st ≡ encodeAnswer st vs (length out) w) × (out ≡ encodeOut st vs out w)
+  refused n h r = (
+    sym (ap (λ x. encoded x (length (callBytes w st vs)) (callAfter w st vs) st) r ∙ encoded-some n (length (callBytes w st vs)) (callAfter w st vs) st h),
+    sym (ap (λ x. stored x (callBytes w st vs) out) r ∙ stored-some n (callBytes w st vs) out h),
+  )
+
+  pub accepted : encodeRefusal st vs (length out) w ≡ 0
+      → (Bytes (length (callBytes w st vs)) (callAfter w st vs) ≡ encodeAnswer st vs (length out) w) × (callBytes w st vs ++ drop (length (callBytes w st vs)) out ≡ encodeOut st vs out w)
+  accepted r = (
+    sym (ap (λ x. encoded x (length (callBytes w st vs)) (callAfter w st vs) st) r),
+    sym (ap (λ x. stored x (callBytes w st vs) out) r),
+  )
