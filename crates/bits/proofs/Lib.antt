@@ -7,3 +7,4 @@ pub mod Past
 pub mod Powers
 pub mod Puts
 pub mod Packed
+pub mod Holds

@@ -21,6 +21,12 @@ alike-held s n = by (decLt n (8 * length s))
     by (yes h) = same (omega arith)
     by (no h) = past (omega arith) (omega arith)
 
+pub alike-trans : (s : List ℕ) {m n k : ℕ} → Alike s m n → Alike s n k → Alike s m k
+alike-trans s (same e) (same f) = same (e ∙ f)
+alike-trans s (same e) (past g h) = past (omega arith) h
+alike-trans s (past g h) (same f) = past g (omega arith)
+alike-trans s (past g h) (past i j) = past g j
+
 pub alike-on : (s : List ℕ) {m n : ℕ} (k : ℕ) → Alike s m n → Alike s (m + k) (n + k)
 alike-on s k (same e) = same (ap (λ (i : ℕ). i + k) e)
 alike-on s k (past g h) = past (omega arith) (omega arith)

@@ -82,6 +82,11 @@ past-kp s w r h = by (r .run)
     by zero = h
     by (suc run) = h
 
+pub ready-mono : (s : List ℕ) (n kp run : ℕ) (pending : Bool) → n ≤ ready s n kp run pending .read
+ready-mono s n kp (suc run) pending = omega arith
+ready-mono s n kp zero true = omega arith
+ready-mono s n kp zero false = omega (arith, code-moves s n kp)
+
 code-run : (s : List ℕ) (n kp : ℕ) → kp ≤ 80 → codeWord s n kp .run ≤ 1024
 code-run s n kp h = by (bitAt s n)
   where

@@ -37,7 +37,7 @@ abbrev dueFrom : List ℕ → ℕ → Reader → Bool
 dueFrom s n r = cond (due (r .run)) true (dueAmong s (past s 0 (r .read) (r .kp) (r .run) (r .pending)) n)
 
 -- a code word leaves a run or a nonzero value
-code-ready : (s : List ℕ) (p kp : ℕ) → readied s (codeWord s p kp) ≡ codeWord s p kp
+pub code-ready : (s : List ℕ) (p kp : ℕ) → readied s (codeWord s p kp) ≡ codeWord s p kp
 code-ready s p kp = by (bitAt s p)
   where
     run : (z : ℕ) (m : ℕ) → suc m ≡ z → readied s (reader (p + 1) (min (kp + 4) 80) z false) ≡ reader (p + 1) (min (kp + 4) 80) z false

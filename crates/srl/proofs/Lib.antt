@@ -7,5 +7,8 @@ pub mod Streamed
 pub mod Widths
 pub mod Codes
 pub mod Values
+pub mod Magnitudes
 pub mod Due
 pub mod States
+pub mod Trip
+pub mod Back

@@ -12,7 +12,7 @@ use Rattle.bits.specs.Written.{pack}
 use Rattle.bits.proofs.Puts.{after-sound}
 use Rattle.bits.proofs.Packed.{pack-append}
 use Rattle.srl.specs.Decode.{widthOk, noRoom}
-use Rattle.srl.specs.Encode.{valueKp, valueZeros, callBits, callKp, callZeros, sink, bitsFrom, callBytes, callAfter, writerOk, valueFault, firstOf, fault}
+use Rattle.srl.specs.Encode.{valueKp, valueZeros, callBits, callKp, callZeros, sink, bitsFrom, callBytes, callAfter, writerOk, valueFault, firstOf, fault, encodeRefusal}
 use Rattle.srl.specs.Finish.{flush}
 use Rattle.srl.specs.Laws.{Call, streamFrom, EncoderResumes}
 use Rattle.srl.specs.declared.SrlWriter.{SrlWriter}
@@ -43,7 +43,7 @@ call-kp : (kp z : ℕ) (vs : List ℤ) → kp ≤ 80 → callKp kp z vs ≤ 80
 call-kp kp z [] h = h
 call-kp kp z (v ∷ vs) h = call-kp (valueKp kp z v) (valueZeros z v) vs (value-kp kp z v h)
 
-first-none : (n f : ℕ) → firstOf n f ≡ 0 → (n ≡ 0) × (f ≡ 0)
+pub first-none : (n f : ℕ) → firstOf n f ≡ 0 → (n ≡ 0) × (f ≡ 0)
 first-none zero f e = (refl, e)
 first-none (suc n) f e = absurd (omega arith)
 
@@ -63,16 +63,20 @@ call-zeros w z (v ∷ vs) h e =
     call-zeros w (valueZeros z v) vs (value-small w z v h (f .0)) (f .1)
 
 -- an accepted call passed every test
-tests : (s q : Bool) (f n : ℕ) → _≡_ {A = ℕ} (cond s (cond q (firstOf f n) 4) 8) 0 → (s ≡ true) × (f ≡ 0)
-tests true true f n e = (refl, first-none f n e .0)
+tests : (s q : Bool) (f n : ℕ) → _≡_ {A = ℕ} (cond s (cond q (firstOf f n) 4) 8) 0 → (s ≡ true) × (q ≡ true) × (f ≡ 0)
+tests true true f n e = (refl, refl, first-none f n e .0)
 tests true false f n e = absurd (omega arith)
 tests false q f n e = absurd (omega arith)
+
+pub accepted : (st : SrlWriter) (vs : List ℤ) (room w : ℕ) → encodeRefusal st vs room w ≡ 0
+    → (writerOk st ≡ true) × (widthOk w ≡ true) × (fault w (st .«pending_zeros») vs ≡ 0)
+accepted st vs room w e = tests (writerOk st) (widthOk w) (fault w (st .«pending_zeros») vs) (noRoom room (length (callBytes w st vs))) e
 
 pub resumes : EncoderResumes
 resumes = record {
   again = λ st vs room w e.
-      let t = tests (writerOk st) (widthOk w) (fault w (st .«pending_zeros») vs) (noRoom room (length (callBytes w st vs))) e in
+      let t = accepted st vs room w e in
       let g = writerOk-good st (t .0) in
       let s = after-sound (sink st) (bitsFrom w st vs) (g .0) in
-      simp (le-leb _ _ (call-kp (st .kp) (st .«pending_zeros») vs (g .1)), le-leb _ _ (s .0), le-leb _ _ (call-zeros w (st .«pending_zeros») vs (g .2) (t .1)), lt-ltb _ _ (s .1));
+      simp (le-leb _ _ (call-kp (st .kp) (st .«pending_zeros») vs (g .1)), le-leb _ _ (s .0), le-leb _ _ (call-zeros w (st .«pending_zeros») vs (g .2) (t .2)), lt-ltb _ _ (s .1));
 }

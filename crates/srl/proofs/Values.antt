@@ -13,7 +13,7 @@ use Rattle.fixed.specs.Fixed.{withSign}
 use Rattle.bits.specs.Bits.{bitAt, num, zeros, bitsRead, placeOf}
 use Rattle.bits.specs.declared.reader.BitReader.{BitReader}
 use Rattle.bits.proofs.Places.{place-is, read-place}
-use Rattle.bits.proofs.Past.{Alike, alike-held, alike-on, held-alike, bit-alike, num-alike, zeros-alike}
+use Rattle.bits.proofs.Past.{Alike, alike-held, alike-trans, alike-on, held-alike, bit-alike, num-alike, zeros-alike}
 use Rattle.srl.specs.Srl.{Reader, reader, mostZeros, nonzero, behind, codeWord, ready, value, past, readied, nextValue, nextReader, values, readerAfter}
 use Rattle.srl.specs.Decode.{opened}
 use Rattle.srl.specs.Inner.{shut, heldReader}
@@ -40,6 +40,9 @@ reader-held s r = alike (alike-held s (r .read))
 
 pub held-readers : (s : List ℕ) {r q : Reader} → AlikeReader s r q → heldReader s r ≡ heldReader s q
 held-readers s (alike {kp = kp} {run = run} {pending = pending} a) = ap (λ (n : ℕ). reader n kp run pending) (held-alike s a)
+
+pub reader-trans : (s : List ℕ) {p q r : Reader} → AlikeReader s p q → AlikeReader s q r → AlikeReader s p r
+reader-trans s (alike a) (alike b) = alike (alike-trans s a b)
 
 code-alike : (s : List ℕ) {m n : ℕ} (kp : ℕ) → Alike s m n → AlikeReader s (codeWord s m kp) (codeWord s n kp)
 code-alike s {m} {n} kp a = rw (← bit-alike s a, ← num-alike s (kp / 8) (alike-on s 1 a)) (by (bitAt s m) (num s (m + 1) (kp / 8)))

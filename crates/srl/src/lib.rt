@@ -7,7 +7,7 @@ ghost use lib.ListN.{length};
 ghost use Rattle.srl.specs.Decode.{startState, decodeAnswer, decodeOut};
 ghost use Rattle.srl.specs.Encode.{freshWriter, encodeAnswer, encodeOut};
 ghost use Rattle.srl.specs.Finish.{finishAnswer, finishOut};
-ghost use Rattle.srl.specs.Laws.{EncoderResumes};
+ghost use Rattle.srl.specs.Laws.{DecodedMagnitudes, RoundTrip, DecoderResumes, EncoderResumes};
 
 mod decoder;
 mod encoder;
@@ -146,6 +146,23 @@ pub fn finish(state: SrlWriter, out: &mut [u8]) -> Finished
     encoder::put_end(out, state);
     Finished::Stream(need)
 }
+
+// ---- laws: each is what its function ensures
+
+// Whatever the stream holds, a decoded value is 0 or has a magnitude of 1 to 2^w - 1, where w is its width.
+pub fn decoded_magnitudes()
+    ensures { λ _. ⌜ DecodedMagnitudes ⌝ }
+{}
+
+// What `encode` and `finish` wrote `decode` gives back, however both sides split the values into calls.
+pub fn round_trip()
+    ensures { λ _. ⌜ RoundTrip ⌝ }
+{}
+
+// A state that `decode` hands back is one that it accepts, where the state handed in was.
+pub fn decoder_resumes()
+    ensures { λ _. ⌜ DecoderResumes ⌝ }
+{}
 
 // A state that `encode` hands back with bytes is one that it accepts.
 pub fn encoder_resumes()
