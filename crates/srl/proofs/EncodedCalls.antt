@@ -17,7 +17,7 @@ use Rattle.bits.proofs.Packed.{write-whole, after-whole, count-after, counted-t
 use Rattle.srl.specs.Decode.{widthOk, noRoom, stored}
 use Rattle.srl.specs.Encode.{valueBits, valueKp, valueZeros, callBits, callKp, callZeros, sink, bitsFrom, callBytes, callAfter, firstOf, fault, writerOk, encodeRefusal, encoded, encodeAnswer, encodeOut}
 use Rattle.srl.specs.Finish.{flush, finishBytes}
-use Rattle.srl.specs.EncodeInner.{callStart, measureStart, writerOf, valueState, valueWrite, callState, callWrite, valueMeasure, callCount, GoodWriter}
+use Rattle.srl.specs.EncodeInner.{callStart, measureStart, writerOf, valueState, valueWrite, callState, callWrite, placeOf, valueMeasure, callCount, GoodWriter}
 use Rattle.srl.specs.declared.SrlWriter.{SrlWriter}
 use Rattle.srl.specs.declared.Encoded.the-variants.{Bytes, Refused}
 use Rattle.srl.specs.declared.encoder.CallState.{CallState}
@@ -48,12 +48,12 @@ pub count-step : (w : ℕ) (p : Measured) (v : ℤ) (vs : List ℤ) → callCoun
 count-step w p v vs =
     let a = valueBits w (p .kp) (p .zeros) v in
     let b = callBits w (valueKp (p .kp) (p .zeros) v) (valueZeros (p .zeros) v) vs in
-    ap (λ n. counted (p .place) n .at) (length-append a b) ∙ ap (λ x. x .at) (sym (counted-two (p .place) (length a) (length b)))
+    ap (λ n. counted (placeOf p) n .at) (length-append a b) ∙ ap (λ x. x .at) (sym (counted-two (placeOf p) (length a) (length b)))
 
-pub count-none : (w : ℕ) (p : Measured) → p .place .«bit_count» ≤ 7 → callCount w p [] ≡ p .place .at
+pub count-none : (w : ℕ) (p : Measured) → p .«bit_count» ≤ 7 → callCount w p [] ≡ p .at
 count-none w p h = omega arith
 
-pub count-mono : (w : ℕ) (p : Measured) (vs : List ℤ) → p .place .at ≤ callCount w p vs
+pub count-mono : (w : ℕ) (p : Measured) (vs : List ℤ) → p .at ≤ callCount w p vs
 count-mono w p vs = omega arith
 
 -- ════ a whole call ════

@@ -9,7 +9,6 @@ use borrow.Author.Needs.{needs}
 use borrow.Author.Tests.{not-true, not-false, ltb-false}
 use Rattle.srl.specs.Decode.{widthOk}
 use Rattle.srl.specs.Encode.{writerOk, callBytes}
-use Rattle.srl.specs.EncodeInner.{GoodWriter}
 use Rattle.srl.proofs.EncodedCalls.{writerOk-good, call-sink, refusal-state, refusal-width, refusal-rest, refusal-room, measured, refused, accepted}
 use Rattle.srl.proofs.EncodedValues.{firstOf-some}
 use Rattle.srl.proofs.Widths.{widthOk-width}
