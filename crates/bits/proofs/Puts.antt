@@ -2,12 +2,12 @@
 use mathlib.Core.Path.{_≡_, refl, ap, sym, _∙_, subst}
 use mathlib.Core.Bool.{Bool, true, false, cond}
 use mathlib.Core.List.{List, [], _∷_, _++_, append-assoc, append-nil}
-use Prim.Native.Nat.{ℕ, zero, suc, _+_, _-_, _*_, _/_, _%_, _^_, _≤_, _<_}
+use Prim.Native.Nat.{ℕ, zero, suc, _+_, _*_, _/_, _%_, _^_, _≤_, _<_}
 use native.Mathlib.Nat.{pow-suc, add-suc, add-zero, mul-assoc, mod-eq-of-lt, mod-lt, zero-mod}
 use native.Mathlib.Numerals.{add-one}
 use native.Mathlib.Omega.{arith}
 use lib.Dec.{eqb}
-use lib.ListN.{length, set, replicate, length-set, length-append, replicate-append-replicate}
+use lib.ListN.{length, set, replicate, length-append, replicate-append-replicate}
 use lib.Pow.{pow-pos, shr-shr, mod-pow-add, high, split}
 use borrow.Author.Tests.{eqb-true, eqb-false, ne-eqb}
 use Rattle.bits.specs.Bits.{odd, bitOf}
@@ -50,17 +50,6 @@ after-at k (b ∷ bs) =
     let s = step-at k b (eqb (k .«bit_count») 7) in
     let a = after-at (step k b) bs in
     (omega (arith, s .0, a .0), omega (arith, s .1, a .1))
-
-pub length-put : (out : List ℕ) (k : BitWriter) (b : Bool) → length (put out k b) ≡ length out
-length-put out k b = by (eqb (k .«bit_count») 7)
-  where
-    by : (e : Bool) → length (cond e (set out (k .at) (k .current * 2 + bitOf b)) out) ≡ length out
-    by true = length-set out (k .at) (k .current * 2 + bitOf b)
-    by false = refl
-
-pub length-write : (out : List ℕ) (k : BitWriter) (bs : List Bool) → length (write out k bs) ≡ length out
-length-write out k [] = refl
-length-write out k (b ∷ bs) = length-write (put out k b) (step k b) bs ∙ length-put out k b
 
 -- ════ bits in a row ════
 

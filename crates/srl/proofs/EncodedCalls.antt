@@ -1,24 +1,28 @@
--- Laws of a call of `encode`: value by value, measured, and as a whole. Assumes nothing.
+-- Laws of a call of `encode`, value by value, measured and as a whole, and of the end of a stream. Assumes nothing.
 use mathlib.Core.Path.{_≡_, refl, ap, sym, _∙_}
 use mathlib.Core.Bool.{Bool, true, false, cond}
 use mathlib.Core.List.{List, [], _∷_, _++_}
 use Prim.Native.Nat.{ℕ, zero, suc, _+_, _≤_}
 use native.Mathlib.Nat.{zero-add}
 use native.Mathlib.Omega.{arith}
-use lib.Dec.{leb}
+use lib.Dec.{ltb, leb}
 use lib.IntN.{ℤ}
-use lib.ListN.{length, drop, length-append}
+use lib.ListN.{length, drop, set, length-append}
+use lib.Seq.{sets}
 use borrow.Author.Tests.{ltb-true, leb-true}
-use Rattle.bits.specs.Written.{after, counted}
-use Rattle.bits.proofs.Puts.{after-append, write-append}
-use Rattle.bits.proofs.Packed.{write-whole, after-whole, count-after, counted-two, sets-start}
+use Rattle.bits.specs.Written.{pack, Sound, Room, after, write, padCount, padOut, counted}
+use Rattle.bits.specs.declared.writer.BitWriter.{BitWriter}
+use Rattle.bits.proofs.Puts.{after-append, write-append, Wrote, wrote-sound, wrote-at}
+use Rattle.bits.proofs.Packed.{write-whole, after-whole, count-after, counted-two, sets-start, sets-append, pad-count, pad-out}
 use Rattle.srl.specs.Decode.{widthOk, noRoom, stored}
 use Rattle.srl.specs.Encode.{valueBits, valueKp, valueZeros, callBits, callKp, callZeros, sink, bitsFrom, callBytes, callAfter, firstOf, fault, writerOk, encodeRefusal, encoded, encodeAnswer, encodeOut}
-use Rattle.srl.specs.EncodeInner.{callStart, measureStart, valueState, valueWrite, callState, callWrite, valueMeasure, callCount, GoodWriter}
+use Rattle.srl.specs.Finish.{flush, finishBytes}
+use Rattle.srl.specs.EncodeInner.{callStart, measureStart, writerOf, valueState, valueWrite, callState, callWrite, placeOf, valueMeasure, callCount, GoodWriter}
 use Rattle.srl.specs.declared.SrlWriter.{SrlWriter}
 use Rattle.srl.specs.declared.Encoded.the-variants.{Bytes, Refused}
 use Rattle.srl.specs.declared.encoder.CallState.{CallState}
 use Rattle.srl.specs.declared.encoder.Measured.{Measured}
+use Rattle.srl.proofs.Runs.{length-flush}
 use Rattle.srl.proofs.Widths.{both}
 
 -- what the test of a state says
@@ -44,12 +48,12 @@ pub count-step : (w : ℕ) (p : Measured) (v : ℤ) (vs : List ℤ) → callCoun
 count-step w p v vs =
     let a = valueBits w (p .kp) (p .zeros) v in
     let b = callBits w (valueKp (p .kp) (p .zeros) v) (valueZeros (p .zeros) v) vs in
-    ap (λ n. counted (p .place) n .at) (length-append a b) ∙ ap (λ x. x .at) (sym (counted-two (p .place) (length a) (length b)))
+    ap (λ n. counted (placeOf p) n .at) (length-append a b) ∙ ap (λ x. x .at) (sym (counted-two (placeOf p) (length a) (length b)))
 
-pub count-none : (w : ℕ) (p : Measured) → p .place .«bit_count» ≤ 7 → callCount w p [] ≡ p .place .at
+pub count-none : (w : ℕ) (p : Measured) → p .«bit_count» ≤ 7 → callCount w p [] ≡ p .at
 count-none w p h = omega arith
 
-pub count-mono : (w : ℕ) (p : Measured) (vs : List ℤ) → p .place .at ≤ callCount w p vs
+pub count-mono : (w : ℕ) (p : Measured) (vs : List ℤ) → p .at ≤ callCount w p vs
 count-mono w p vs = omega arith
 
 -- ════ a whole call ════
@@ -95,15 +99,46 @@ module _ (st : SrlWriter) (vs : List ℤ) (out : List ℕ) (w : ℕ) where
       ∙ ap (λ b. refusal true b (fault w (st .«pending_zeros») vs)) q
       ∙ ap (refusal true true) (sym e)
 
+  -- past the values' refusals it is that of the bytes measured
+  pub refusal-room : writerOk st ≡ true → widthOk w ≡ true → {f : ℕ} → f ≡ fault w (st .«pending_zeros») vs → f ≡ 0
+      → {r : Bool} → r ≡ ltb (length out) (length (callBytes w st vs)) → encodeRefusal st vs (length out) w ≡ cond r 7 0
+  refusal-room s q e z m = refusal-rest s q (sym z ∙ e) ∙ ap (λ b. cond b 7 0) (sym m)
+
+  pub measured : GoodWriter st → {p : Measured} {r : Bool} → p ≡ measureStart st → r ≡ ltb (length out) (callCount w p vs)
+      → r ≡ ltb (length out) (length (callBytes w st vs))
+  measured g q e = e ∙ ap (λ p. ltb (length out) (callCount w p vs)) q ∙ ap (ltb (length out)) (call-count w st vs (g .0 .0))
+
   pub refused : (n : ℕ) → (n ≡ 0 → ⊥) → encodeRefusal st vs (length out) w ≡ n → (Refused n st ≡ encodeAnswer st vs (length out) w) × (out ≡ encodeOut st vs out w)
   refused n h r = (
     sym (ap (λ x. encoded x (length (callBytes w st vs)) (callAfter w st vs) st) r ∙ encoded-some n (length (callBytes w st vs)) (callAfter w st vs) st h),
     sym (ap (λ x. stored x (callBytes w st vs) out) r ∙ stored-some n (callBytes w st vs) out h),
   )
 
-  pub accepted : encodeRefusal st vs (length out) w ≡ 0
-      → (Bytes (length (callBytes w st vs)) (callAfter w st vs) ≡ encodeAnswer st vs (length out) w) × (callBytes w st vs ++ drop (length (callBytes w st vs)) out ≡ encodeOut st vs out w)
-  accepted r = (
-    sym (ap (λ x. encoded x (length (callBytes w st vs)) (callAfter w st vs) st) r),
-    sym (ap (λ x. stored x (callBytes w st vs) out) r),
+  -- where it is none: c is the state at the start, d the one after the values, o the output then
+  pub accepted : encodeRefusal st vs (length out) w ≡ 0 → length (callBytes w st vs) ≤ length out
+      → {c d : CallState} {next : SrlWriter} {o : List ℕ} → c ≡ callStart st → d ≡ callState w c vs → o ≡ callWrite w out c vs → next ≡ writerOf d
+      → (Bytes (d .sink .at) next ≡ encodeAnswer st vs (length out) w) × (o ≡ encodeOut st vs out w)
+  accepted r h {d = d} cs ds os ns = (
+    ap (Bytes (d .sink .at)) ns
+        ∙ ap (λ x. Bytes (x .sink .at) (writerOf x)) (ds ∙ ap (λ x. callState w x vs) cs)
+        ∙ ap (λ n. Bytes n (callAfter w st vs)) (call-sink w st vs)
+        ∙ sym (ap (λ x. encoded x (length (callBytes w st vs)) (callAfter w st vs) st) r),
+    os ∙ ap (λ x. callWrite w out x vs) cs ∙ call-out w out st vs h ∙ sym (ap (λ x. stored x (callBytes w st vs) out) r),
   )
+
+-- ════ the end of a stream ════
+
+-- the pending run, the padding and a byte 0 are `finishBytes`: k and o are the writer and the output after the run, n and p what the padding gives
+pub end-out : (st : SrlWriter) (out : List ℕ) {k : BitWriter} {o p : List ℕ} {n : ℕ} → Wrote out (sink st) (flush (st .kp) (st .«pending_zeros»)) k o
+    → n ≡ padCount k → p ≡ padOut o k → set p n 0 ≡ sets out 0 (finishBytes st)
+end-out st out {k = k} {p = p} {n = n} d a b =
+    let f = flush (st .kp) (st .«pending_zeros») in
+    let bytes = pack (st .current) (st .«bit_count») f in
+    let y : p ≡ sets out 0 bytes = b ∙ ap (λ x. padOut x k) (d .1) ∙ ap (padOut (write out (sink st) f)) (d .0) ∙ pad-out f out 0 (st .current) (st .«bit_count») in
+    let x : n ≡ 0 + length bytes = a ∙ ap padCount (d .0) ∙ pad-count f out 0 (st .current) (st .«bit_count») in
+    ap (λ l. set l n 0) y ∙ ap (λ i. set (sets out 0 bytes) i 0) x ∙ sym (sets-append bytes (0 ∷ []) out 0)
+
+pub end-room : (st : SrlWriter) {k : BitWriter} → GoodWriter st → k ≡ after (sink st) (flush (st .kp) (st .«pending_zeros»)) → Sound k × Room k 1
+end-room st g e =
+    let f = flush (st .kp) (st .«pending_zeros») in
+    (wrote-sound (sink st) f e (g .0), omega (arith, wrote-at (sink st) f e, length-flush (st .kp) (st .«pending_zeros») (g .1), g .2))

@@ -6,7 +6,8 @@ use Prim.Native.Nat.{ℕ, suc, _-_, _/_, _^_, _≤_, _<_}
 use lib.Dec.{ltb}
 use lib.IntN.{ℤ}
 use lib.ListN.{length, replicate}
-use Rattle.bits.specs.Written.{bitsOf, Sound, after, write, counted, countOf}
+use Rattle.bits.specs.Written.{bitsOf, Sound, after, write, counted}
+use Rattle.bits.specs.declared.writer.BitCount.{BitCount}
 use Rattle.srl.specs.Encode.{runBits, runKp, valueBits, valueKp, valueZeros, callBits, callKp, callZeros, sink}
 use Rattle.srl.specs.declared.SrlWriter.{SrlWriter}
 use Rattle.srl.specs.declared.encoder.RunPlan.{RunPlan}
@@ -80,19 +81,23 @@ callWrite w out c vs = write out (c .sink) (callBits w (c .kp) (c .zeros) vs)
 -- ════ measuring ════
 
 abbrev pub measureStart : SrlWriter → Measured
-measureStart st = record { place = countOf (sink st); kp = st .kp; zeros = st .«pending_zeros» }
+measureStart st = record { at = 0; «bit_count» = st .«bit_count»; kp = st .kp; zeros = st .«pending_zeros» }
+
+abbrev pub placeOf : Measured → BitCount
+placeOf p = record { at = p .at; «bit_count» = p .«bit_count» }
 
 abbrev pub valueMeasure : ℕ → Measured → ℤ → Measured
 valueMeasure w p v =
     record {
-      place = counted (p .place) (length (valueBits w (p .kp) (p .zeros) v));
+      at = counted (placeOf p) (length (valueBits w (p .kp) (p .zeros) v)) .at;
+      «bit_count» = counted (placeOf p) (length (valueBits w (p .kp) (p .zeros) v)) .«bit_count»;
       kp = valueKp (p .kp) (p .zeros) v;
       zeros = valueZeros (p .zeros) v;
     }
 
 -- how many bytes are complete after some values
 abbrev pub callCount : ℕ → Measured → List ℤ → ℕ
-callCount w p vs = counted (p .place) (length (callBits w (p .kp) (p .zeros) vs)) .at
+callCount w p vs = counted (placeOf p) (length (callBits w (p .kp) (p .zeros) vs)) .at
 
 -- ════ what the inner functions ask of a state ════
 
@@ -100,7 +105,7 @@ abbrev pub Good : CallState → Type 0
 Good c = Sound (c .sink) × (c .kp ≤ 80)
 
 abbrev pub GoodMeasure : Measured → Type 0
-GoodMeasure p = (p .place .«bit_count» ≤ 7) × (p .kp ≤ 80)
+GoodMeasure p = (p .«bit_count» ≤ 7) × (p .kp ≤ 80)
 
 abbrev pub GoodWriter : SrlWriter → Type 0
 GoodWriter st = Sound (sink st) × (st .kp ≤ 80) × (st .«pending_zeros» ≤ 4096)

@@ -29,9 +29,10 @@ pub struct CallState {
     pub zeros: usize,
 }
 
-// The same with no bits.
+// The same with no bits: `at` whole bytes and `bit_count` bits are counted.
 pub struct Measured {
-    pub place: bits::writer::BitCount,
+    pub at: usize,
+    pub bit_count: u8,
     pub kp: u8,
     pub zeros: usize,
 }
@@ -73,10 +74,8 @@ pub fn measure_start(st: SrlWriter) -> Measured
     ensures { λ r. ⌜ r ≡ measureStart st ⌝ }
 {
     Measured {
-        place: bits::writer::BitCount {
-            at: 0,
-            bit_count: st.bit_count,
-        },
+        at: 0,
+        bit_count: st.bit_count,
         kp: st.kp,
         zeros: st.pending_zeros,
     }
@@ -198,22 +197,28 @@ fn nonzero_length(m: u16, num_bits: u8) -> usize
 
 // One value.
 pub fn measure_value(p: Measured, v: i16, num_bits: u8) -> Measured
-    requires { ⌜ GoodMeasure p × (p .place .at + p .zeros + 70000 < 2 ^ 64) × Width «num_bits» ⌝ }
+    requires { ⌜ GoodMeasure p × (p .at + p .zeros + 70000 < 2 ^ 64) × Width «num_bits» ⌝ }
     ensures { λ r. ⌜ r ≡ valueMeasure «num_bits» p v ⌝ }
 {
     let m = fixed::magnitude(v);
-    let place = p.place;
     if m == 0 {
         return Measured {
-            place,
+            at: p.at,
+            bit_count: p.bit_count,
             kp: p.kp,
             zeros: p.zeros + 1,
         };
     }
     let plan = plan_run(p.kp, p.zeros);
     let n = run_length(plan) + nonzero_length(m, num_bits);
+    let place = bits::writer::BitCount {
+        at: p.at,
+        bit_count: p.bit_count,
+    };
+    let next = bits::writer::count_bits(place, n);
     Measured {
-        place: bits::writer::count_bits(place, n),
+        at: next.at,
+        bit_count: next.bit_count,
         kp: rules::lowered(plan.kp),
         zeros: 0,
     }
@@ -221,19 +226,17 @@ pub fn measure_value(p: Measured, v: i16, num_bits: u8) -> Measured
 
 // Whether the values complete more than `limit` bytes. It stops at the first value that does, so no count grows too large.
 pub fn too_many(values: &[i16], p: Measured, num_bits: u8, limit: usize) -> bool
-    requires { ⌜ GoodMeasure p × (p .zeros ≤ 4096) × Width «num_bits» × (p .place .at ≤ limit) × (limit < 2 ^ 63) ⌝ }
+    requires { ⌜ GoodMeasure p × (p .zeros ≤ 4096) × Width «num_bits» × (p .at ≤ limit) × (limit < 2 ^ 63) ⌝ }
     ensures { λ r. ⌜ r ≡ ltb limit (callCount «num_bits» p (now (values .entry))) ⌝ }
 {
     let mut cur = p;
     let mut i: usize = 0;
     while i < values.len() {
         let v = values[i];
-        let next = measure_value(cur, v, num_bits);
-        let place = next.place;
-        if limit < place.at {
+        cur = measure_value(cur, v, num_bits);
+        if limit < cur.at {
             return true;
         }
-        cur = next;
         i += 1;
     }
     false

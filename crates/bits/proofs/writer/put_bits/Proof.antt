@@ -1,5 +1,5 @@
 -- `bits::writer::put_bits` meets its contract: what waits and the new bits are one number, which goes out from the start of the byte. Assumes nothing.
-use mathlib.Core.Path.{_≡_, ap, _∙_}
+use mathlib.Core.Path.{ap, _∙_}
 use Prim.Native.Nat.{_+_, _-_}
 use native.Mathlib.Omega.{arith}
 use borrow.Author.Needs.{needs}

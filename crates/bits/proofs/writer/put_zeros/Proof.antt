@@ -1,9 +1,8 @@
 -- `bits::writer::put_zeros` meets its contract. Assumes nothing.
 use mathlib.Core.Path.{_≡_, ap, _∙_}
-use Prim.Native.Nat.{_+_, _-_, _/_, _%_, _≤_}
+use Prim.Native.Nat.{_+_, _-_, _/_, _%_}
 use native.Mathlib.Omega.{arith}
 use borrow.Author.Needs.{needs}
-use Rattle.bits.specs.Written.{bitsOf}
 use Rattle.bits.proofs.Puts.{renamed, bits-zero, fills, zeros-three}
 use Rattle.bits.proofs.writer.put_zeros.Statement.{statement}
 use Rattle.bits.proofs.writer.put_zeros.Tie as tie

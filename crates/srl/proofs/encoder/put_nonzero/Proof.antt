@@ -1,5 +1,5 @@
 -- `srl::encoder::put_nonzero` meets its contract: the number that is written is all of the value, or its parts follow each other. Assumes nothing.
-use mathlib.Core.Path.{_≡_, ap, sym, _∙_}
+use mathlib.Core.Path.{_≡_, ap, _∙_}
 use mathlib.Core.Bool.{false}
 use mathlib.Core.List.{_++_}
 use Prim.Native.Nat.{_+_, _-_, _*_, _%_, _^_, _≤_, _<_}
@@ -7,7 +7,6 @@ use native.Mathlib.Omega.{arith}
 use lib.ListN.{replicate, length-replicate}
 use lib.Pow.{shl-exact}
 use borrow.Author.Needs.{needs}
-use Rattle.bits.specs.Bits.{bitOf}
 use Rattle.bits.specs.Written.{bitsOf}
 use Rattle.bits.proofs.Powers.{shl-small}
 use Rattle.bits.proofs.Puts.{bit-le, then, renamed, wrote-sound, wrote-at, length-bitsOf}

@@ -19,7 +19,7 @@ use Rattle.srl.proofs.encoder.too_many.Tie as tie
 
 abbrev Inv-loop : tie.InvT-loop
 Inv-loop values num-bits limit cur₀ i₀ cur i =
-    (i ≤ length values) × GoodMeasure cur × (cur .zeros ≤ 4096 + i) × (cur .place .at ≤ limit)
+    (i ≤ length values) × GoodMeasure cur × (cur .zeros ≤ 4096 + i) × (cur .at ≤ limit)
     × (callCount num-bits cur₀ values ≡ callCount num-bits cur (drop i values))
 
 abbrev μ-loop : tie.MeasureT-loop
@@ -56,31 +56,31 @@ rest c =
 
 returns : tie.Need-returns Inv-loop μ-loop
 returns c =
-    let a = c .before .before .before .before .before .before .before .args in
-    let l = c .before .before .before .before .before .before .loop in
-    let r = c .before .before .before .measure-value .result in
+    let a = c .before .before .before .before .before .before .args in
+    let l = c .before .before .before .before .before .loop in
+    let r = c .before .before .measure-value .result in
     let h : a .limit < callCount (a .num-bits) (a .p) (a .values .now) =
-    rw (rest (c .before .before .before)) (omega (arith, c .if1 .taken, count-mono (a .num-bits) r (drop (suc (l .i)) (a .values .now)))) in
+    rw (rest (c .before .before)) (omega (arith, c .if1 .taken, count-mono (a .num-bits) r (drop (suc (l .i)) (a .values .now)))) in
     sym (lt-ltb _ _ h)
 
 loop-again : tie.Need-loop-again Inv-loop μ-loop
 loop-again c =
-    let a = c .before .before .before .before .before .before .before .args in
-    let l = c .before .before .before .before .before .before .loop in
+    let a = c .before .before .before .before .before .before .args in
+    let l = c .before .before .before .before .before .loop in
     let v = getD (a .values .now) (l .i) (pos 0) in
-    let e = next (c .before .before .before) in (
+    let e = next (c .before .before) in (
       omega arith,
       rw e (omega arith, value-kp (l .cur .kp) (l .cur .zeros) v (l .inv .1 .1)),
       rw e (omega (arith, l .inv .2, value-zeros (l .cur .zeros) v)),
       c .if1 .left,
-      rest (c .before .before .before) ∙ ap (λ n. callCount (a .num-bits) (c .before .before .before .measure-value .result) (drop n (a .values .now))) (sym (add-one (l .i))),
+      rest (c .before .before) ∙ ap (λ n. callCount (a .num-bits) (c .before .before .measure-value .result) (drop n (a .values .now))) (sym (add-one (l .i))),
     )
 
 returns-2 : tie.Need-returns-2 Inv-loop μ-loop
 returns-2 c =
     let a = c .before .before .args in
     let l = c .before .loop in
-    let n : callCount (a .num-bits) (a .p) (a .values .now) ≡ l .cur .place .at =
+    let n : callCount (a .num-bits) (a .p) (a .values .now) ≡ l .cur .at =
     l .inv .4 ∙ ap (callCount (a .num-bits) (l .cur)) (drop-of-length-le (a .values .now) {i = l .i} (omega arith)) ∙ count-none (a .num-bits) (l .cur) (l .inv .1 .0) in
     sym (ap (ltb (a .limit)) n ∙ le-ltb _ _ (l .inv .3))
 

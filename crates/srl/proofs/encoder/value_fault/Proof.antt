@@ -23,10 +23,12 @@ none : (c : tie.Then1) → valueFault (c .before .before .args .num-bits) (c .be
 none c = ap (valueFault (c .before .before .args .num-bits) (c .before .before .args .zeros)) (zero-value (c .before .before .args .v) (sym (abs (c .before)) ∙ c .if1 .taken))
 
 returns : tie.Need-returns
-returns c = sym (none (c .before) ∙ ap (λ b. cond b 0 6) (lt-ltb _ _ (c .if2 .taken)))
+returns c =
+    let h : c .before .before .before .args .zeros < 4096 = omega (arith, c .if2 .taken) in sym (none (c .before) ∙ ap (λ b. cond b 0 6) (lt-ltb _ _ h))
 
 returns-2 : tie.Need-returns-2
-returns-2 c = sym (none (c .before) ∙ ap (λ b. cond b 0 6) (le-ltb _ _ (c .if2 .left)))
+returns-2 c =
+    let h : 4096 ≤ c .before .before .before .args .zeros = omega (arith, c .if2 .left) in sym (none (c .before) ∙ ap (λ b. cond b 0 6) (le-ltb _ _ h))
 
 -- of another value
 some : (c : tie.After-max-magnitude) → valueFault (c .before .before .before .args .num-bits) (c .before .before .before .args .zeros) (c .before .before .before .args .v) ≡ cond (ltb (c .before .before .magnitude .result - 1) (2 ^ c .before .before .before .args .num-bits - 1)) 0 5
