@@ -17,7 +17,7 @@ pub record Reader : Type 0 where
 abbrev pub reader : ℕ → ℕ → ℕ → Bool → Reader
 reader n kp run pending = record { read = n; kp = kp; run = run; pending = pending }
 
--- "kp starts at 8"
+-- "`kp` starts at 8"
 abbrev pub start : Reader
 start = reader 0 8 0 false
 
