@@ -1,5 +1,5 @@
 -- `srl::encoder::put_nonzero` meets its contract: the number that is written is all of the value, or its parts follow each other. Assumes nothing.
-use mathlib.Core.Path.{_≡_, ap, _∙_}
+use mathlib.Core.Path.{ap, _∙_}
 use mathlib.Core.Bool.{false}
 use mathlib.Core.List.{[], _∷_, _++_}
 use Prim.Native.Nat.{_+_, _-_, _≤_}
