@@ -82,9 +82,10 @@ nonzero-le w m b h = omega (arith, length-nonzero w m (stopCount w m) b refl h, 
 
 -- a run as planned and the value behind it as one number
 pub both-word : (r : RunPlan) (w m s : ℕ) (b : Bool) → GoodPlan r → s ≡ stopCount w m → 1 ≤ m
-    → bitsOf (r .steps + (r .kp / 8 + 1) + (m + s)) ((2 ^ (r .kp / 8) + r .rest) * 2 ^ (m + s) + (bitOf b * 2 ^ (m - 1 + s) + s)) ≡ planBits r ++ nonzeroBits w b (m - 1)
-both-word r w m s b g e h =
+    → {x : ℕ} → x ≡ (2 ^ (r .kp / 8) + r .rest) * 2 ^ (m + s) + (bitOf b * 2 ^ (m - 1 + s) + s) → bitsOf (r .steps + (r .kp / 8 + 1) + (m + s)) x ≡ planBits r ++ nonzeroBits w b (m - 1)
+both-word r w m s b g e h q =
     let word = bitOf b * 2 ^ (m - 1 + s) + s in
-    bits-join (r .steps + (r .kp / 8 + 1)) (m + s) (2 ^ (r .kp / 8) + r .rest) word (word-small m s b (rw e (stop-le w m)) h)
+    ap (bitsOf (r .steps + (r .kp / 8 + 1) + (m + s))) q
+    ∙ bits-join (r .steps + (r .kp / 8 + 1)) (m + s) (2 ^ (r .kp / 8) + r .rest) word (word-small m s b (rw e (stop-le w m)) h)
     ∙ ap (λ l. l ++ bitsOf (m + s) word) (plan-word r g)
     ∙ ap (λ l. planBits r ++ l) (nonzero-word w m s b e h)

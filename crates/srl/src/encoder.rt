@@ -11,7 +11,7 @@ ghost use Rattle.bits.specs.Written.{Sound, Room, after, write};
 ghost use Rattle.srl.specs.Inner.{Width};
 ghost use Rattle.srl.specs.Encode.{nonzeroBits, valueZeros, writerOk, valueFault, fault};
 ghost use Rattle.srl.specs.Finish.{flush, finishBytes};
-ghost use Rattle.srl.specs.EncodeInner.{planBits, GoodPlan, Planned, stopCount, callStart, writerOf, runState, valueState, callState, runWrite, valueWrite, callWrite, measureStart, valueMeasure, callCount, Good, GoodMeasure, GoodWriter};
+ghost use Rattle.srl.specs.EncodeInner.{planBits, GoodPlan, Planned, stopCount, callStart, writerOf, valueState, callState, valueWrite, callWrite, measureStart, valueMeasure, callCount, Good, GoodMeasure, GoodWriter};
 use crate::MAX_KP;
 use crate::MAX_ZERO_RUN;
 use crate::SrlWriter;
@@ -247,7 +247,11 @@ pub fn too_many(values: &[i16], p: Measured, num_bits: u8, limit: usize) -> bool
 // ---- storing
 
 // A run as planned: the bit 1 and the rest are one number, and where they fit so are the zeros before it.
-fn put_run(out: &mut [u8], k: bits::writer::BitWriter, r: RunPlan) -> bits::writer::BitWriter
+fn encode_zero_run(
+    out: &mut [u8],
+    k: bits::writer::BitWriter,
+    r: RunPlan,
+) -> bits::writer::BitWriter
     requires { ⌜ Sound k × Room k (r .steps + 40) × GoodPlan r ⌝ }
     ensures { λ d. ⌜ (d ≡ after k (planBits r)) × (now (out .exit) ≡ write (now (out .entry)) k (planBits r)) ⌝ }
 {
@@ -258,21 +262,6 @@ fn put_run(out: &mut [u8], k: bits::writer::BitWriter, r: RunPlan) -> bits::writ
     }
     let zeros = bits::writer::put_zeros(out, k, r.steps);
     bits::writer::put_bits(out, zeros, word, len)
-}
-
-// The pending zeros, as before a nonzero value.
-fn encode_zero_run(out: &mut [u8], c: CallState) -> CallState
-    requires { ⌜ Good c × Room (c .sink) (c .zeros + 40) ⌝ }
-    ensures { λ r. ⌜ (r ≡ runState c) × (now (out .exit) ≡ runWrite (now (out .entry)) c) ⌝ }
-{
-    let sink = c.sink;
-    let plan = plan_run(c.kp, c.zeros);
-    let done = put_run(out, sink, plan);
-    CallState {
-        sink: done,
-        kp: rules::lowered(plan.kp),
-        zeros: 0,
-    }
 }
 
 // The bits of a nonzero value of magnitude m, 1 to 15, as a number.
@@ -334,7 +323,7 @@ fn put_both(
         let len = (r.steps as u8) + (r.kp / 8 + 1) + ((m as u8) + stop);
         return bits::writer::put_bits(out, k, word, len);
     }
-    let run = put_run(out, k, r);
+    let run = encode_zero_run(out, k, r);
     put_nonzero(out, run, m, negative, num_bits)
 }
 
@@ -407,8 +396,8 @@ pub fn put_flush(out: &mut [u8], c: CallState) -> bits::writer::BitWriter
     if c.zeros == 0 {
         return sink;
     }
-    let run = encode_zero_run(out, c);
-    run.sink
+    let plan = plan_run(c.kp, c.zeros);
+    encode_zero_run(out, sink, plan)
 }
 
 // The end of a stream: the pending zeros, the padding and a byte 0.

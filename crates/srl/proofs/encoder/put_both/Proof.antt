@@ -1,9 +1,7 @@
 -- `srl::encoder::put_both` meets its contract: one number, or the run and then the value. Assumes nothing.
-use mathlib.Core.Path.{ap, _∙_}
-use Prim.Native.Nat.{_+_, _-_, _/_, _≤_}
+use Prim.Native.Nat.{_-_, _≤_}
 use native.Mathlib.Omega.{arith}
 use borrow.Author.Needs.{needs}
-use Rattle.bits.specs.Written.{bitsOf}
 use Rattle.bits.proofs.Puts.{then, renamed, wrote-sound, wrote-at}
 use Rattle.srl.specs.Encode.{nonzeroBits}
 use Rattle.srl.specs.EncodeInner.{planBits}
@@ -33,18 +31,16 @@ returns c =
     let start = c .before .before .before .before .before .before .before .before .before .before .before .before in
     let a = start .args in
     let s = c .before .before .before .before .before .before .before .stop-count in
-    renamed (a .out .now) (a .k)
-    (ap (bitsOf (a .r .steps + (a .r .kp / 8 + 1) + (a .m + s .result))) (c .before .before .before .before .before .before .both-word .ensures) ∙ both-word (a .r) (a .num-bits) (a .m) (s .result) (a .negative) (start .pre .2) (s .ensures) (start .pre .3))
-    (c .before .before .put-bits .ensures)
+    renamed (a .out .now) (a .k) (both-word (a .r) (a .num-bits) (a .m) (s .result) (a .negative) (start .pre .2) (s .ensures) (start .pre .3) (c .before .before .before .before .before .before .both-word .ensures)) (c .before .before .put-bits .ensures)
 
-put-run-requires : tie.Need-put-run-requires
-put-run-requires c κs = let start = c .before .before .before .before .before in (start .pre .0, omega (arith, start .pre .1), start .pre .2)
+encode-zero-run-requires : tie.Need-encode-zero-run-requires
+encode-zero-run-requires c κs = let start = c .before .before .before .before .before in (start .pre .0, omega (arith, start .pre .1), start .pre .2)
 
 put-nonzero-requires : tie.Need-put-nonzero-requires
 put-nonzero-requires c κs =
     let start = c .before .before .before .before .before .before .before .before .before in
     let a = start .args in
-    let e = c .before .before .before .put-run .ensures .0 in (
+    let e = c .before .before .before .encode-zero-run .ensures .0 in (
       wrote-sound (a .k) (planBits (a .r)) e (start .pre .0),
       omega (arith, start .pre .1, wrote-at (a .k) (planBits (a .r)) e, length-plan (a .r), start .pre .2 .0),
       start .pre .3,
@@ -54,7 +50,7 @@ put-nonzero-requires c κs =
 returns-2 : tie.Need-returns-2
 returns-2 c =
     let a = c .before .before .before .before .before .before .before .before .before .before .before .before .args in
-    then (a .out .now) (a .k) (planBits (a .r)) (nonzeroBits (a .num-bits) (a .negative) (a .m - 1)) (c .before .before .before .before .before .before .put-run .ensures) (c .before .before .put-nonzero .ensures)
+    then (a .out .now) (a .k) (planBits (a .r)) (nonzeroBits (a .num-bits) (a .negative) (a .m - 1)) (c .before .before .before .before .before .before .encode-zero-run .ensures) (c .before .before .put-nonzero .ensures)
 
 pub put-both-spec : {M : Type 1} → statement M
 put-both-spec =
@@ -74,7 +70,7 @@ put-both-spec =
     put-bits-requires
     (λ c. search needs)
     returns
-    put-run-requires
+    encode-zero-run-requires
     put-nonzero-requires
     (λ c. search needs)
     returns-2)
