@@ -2,11 +2,11 @@
 use mathlib.Core.Path.{_≡_, refl, ap, sym, _∙_}
 use mathlib.Core.Bool.{true, cond}
 use mathlib.Core.List.{_++_}
-use Prim.Native.Nat.{ℕ, zero, suc, _+_, _-_, _^_, _≤_}
+use Prim.Native.Nat.{ℕ, zero, suc, _+_, _-_, _^_, _≤_, _<_}
 use native.Mathlib.Omega.{arith}
 use lib.Dec.{ltb}
 use lib.IntN.{ℤ, pos, negsuc, natAbs}
-use borrow.Author.Tests.{le-ltb}
+use borrow.Author.Tests.{lt-ltb, le-ltb}
 use Rattle.fixed.specs.Fixed.{isNegative}
 use Rattle.srl.specs.Encode.{runBits, runKp, nonzeroBits, valueBits, valueKp, valueZeros, valueFault, firstOf}
 use Rattle.srl.proofs.Runs.{runKp-le}
@@ -45,6 +45,11 @@ pub fault-nonzero : (v : ℤ) (w z m : ℕ) → m ≡ natAbs v → (m ≡ 0 → 
 fault-nonzero (pos zero) w z m e n = absurd (n e)
 fault-nonzero (pos (suc j)) w z m e n = let q : j ≡ m - 1 = omega arith in ap (λ x. cond (ltb x (2 ^ w - 1)) 0 5) q
 fault-nonzero (negsuc j) w z m e n = let q : j ≡ m - 1 = omega arith in ap (λ x. cond (ltb x (2 ^ w - 1)) 0 5) q
+
+pub fault-none : (v : ℤ) (w z m : ℕ) → m ≡ natAbs v → m ≤ 2 ^ w - 1 → (m ≡ 0 → z < 4096) → valueFault w z v ≡ 0
+fault-none (pos zero) w z m e l h = ap (λ b. cond b 0 6) (lt-ltb z 4096 (h e))
+fault-none (pos (suc j)) w z m e l h = ap (λ b. cond b 0 5) (lt-ltb j (2 ^ w - 1) (omega arith))
+fault-none (negsuc j) w z m e l h = ap (λ b. cond b 0 5) (lt-ltb j (2 ^ w - 1) (omega arith))
 
 pub firstOf-some : (n f : ℕ) → (n ≡ 0 → ⊥) → firstOf n f ≡ n
 firstOf-some zero f h = absurd (h refl)

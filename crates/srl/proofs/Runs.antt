@@ -80,13 +80,15 @@ plan-end k rest h =
     let e : k + 1 ≡ 1 + k = omega arith in
     ap (λ n. bitsOf n (2 ^ k + rest)) e ∙ ap (λ x. bitsOf (1 + k) (x + rest)) (sym (one-mul (2 ^ k))) ∙ bits-join 1 k 1 rest h
 
+pub plan-small : (r : RunPlan) → GoodPlan r → 2 ^ (r .kp / 8) + r .rest < 2 ^ (r .kp / 8 + 1)
+plan-small r h = rw (add-one (r .kp / 8), pow-suc 2 (r .kp / 8)) (omega (arith, h .1))
+
 pub plan-word : (r : RunPlan) → GoodPlan r → bitsOf (r .steps + (r .kp / 8 + 1)) (2 ^ (r .kp / 8) + r .rest) ≡ planBits r
 plan-word r h =
     let k = r .kp / 8 in
     let word = 2 ^ k + r .rest in
-    let small : word < 2 ^ (k + 1) = rw (add-one k, pow-suc 2 k) (omega (arith, h .1)) in
     bits-append (r .steps) (k + 1) word
-    ∙ ap (λ x. bitsOf (r .steps) x ++ bitsOf (k + 1) word) (div-eq-of-lt small)
+    ∙ ap (λ x. bitsOf (r .steps) x ++ bitsOf (k + 1) word) (div-eq-of-lt (plan-small r h))
     ∙ ap (λ l. l ++ bitsOf (k + 1) word) (bits-zero (r .steps))
     ∙ ap (λ l. replicate (r .steps) false ++ l) (plan-end k (r .rest) (h .1))
 

@@ -43,15 +43,7 @@ callStart st = record { sink = sink st; kp = st .kp; zeros = st .«pending_zeros
 abbrev pub writerOf : CallState → SrlWriter
 writerOf c = record { kp = c .kp; «pending_zeros» = c .zeros; current = c .sink .current; «bit_count» = c .sink .«bit_count» }
 
--- the state after the pending run, after a value and after some
-abbrev pub runState : CallState → CallState
-runState c =
-    record {
-      sink = after (c .sink) (runBits (suc (c .zeros)) (c .kp) (c .zeros));
-      kp = runKp (suc (c .zeros)) (c .kp) (c .zeros);
-      zeros = 0;
-    }
-
+-- the state after a value and after some
 abbrev pub valueState : ℕ → CallState → ℤ → CallState
 valueState w c v =
     record {
@@ -69,9 +61,6 @@ callState w c vs =
     }
 
 -- the output after the same
-abbrev pub runWrite : List ℕ → CallState → List ℕ
-runWrite out c = write out (c .sink) (runBits (suc (c .zeros)) (c .kp) (c .zeros))
-
 abbrev pub valueWrite : ℕ → List ℕ → CallState → ℤ → List ℕ
 valueWrite w out c v = write out (c .sink) (valueBits w (c .kp) (c .zeros) v)
 

@@ -1,15 +1,17 @@
 // The encoder, value by value. A refusal alters nothing, so a call looks at all its values and measures them before it stores any.
 ghost use mathlib.Core.Path.{_≡_};
 ghost use mathlib.Core.Bool.{true};
-ghost use Prim.Native.Nat.{_+_, _-_, _^_, _≤_, _<_};
+ghost use mathlib.Core.List.{_++_};
+ghost use Prim.Native.Nat.{_+_, _-_, _*_, _/_, _^_, _≤_, _<_};
 ghost use lib.Dec.{ltb};
 ghost use lib.ListN.{length};
 ghost use lib.Seq.{sets};
+ghost use Rattle.bits.specs.Bits.{bitOf};
 ghost use Rattle.bits.specs.Written.{Sound, Room, after, write};
 ghost use Rattle.srl.specs.Inner.{Width};
 ghost use Rattle.srl.specs.Encode.{nonzeroBits, valueZeros, writerOk, valueFault, fault};
 ghost use Rattle.srl.specs.Finish.{flush, finishBytes};
-ghost use Rattle.srl.specs.EncodeInner.{planBits, GoodPlan, Planned, stopCount, callStart, writerOf, runState, valueState, callState, runWrite, valueWrite, callWrite, measureStart, valueMeasure, callCount, Good, GoodMeasure, GoodWriter};
+ghost use Rattle.srl.specs.EncodeInner.{planBits, GoodPlan, Planned, stopCount, callStart, writerOf, valueState, callState, valueWrite, callWrite, measureStart, valueMeasure, callCount, Good, GoodMeasure, GoodWriter};
 use crate::MAX_KP;
 use crate::MAX_ZERO_RUN;
 use crate::SrlWriter;
@@ -102,14 +104,14 @@ pub fn value_fault(zeros: usize, v: i16, num_bits: u8) -> u8
     ensures { λ r. ⌜ r ≡ valueFault «num_bits» zeros v ⌝ }
 {
     let m = fixed::magnitude(v);
-    if m == 0 {
-        if zeros < MAX_ZERO_RUN {
-            return 0;
-        }
-        return 6;
-    }
     if rules::max_magnitude(num_bits) < m {
         return 5;
+    }
+    if zeros < MAX_ZERO_RUN {
+        return 0;
+    }
+    if m == 0 {
+        return 6;
     }
     0
 }
@@ -245,7 +247,11 @@ pub fn too_many(values: &[i16], p: Measured, num_bits: u8, limit: usize) -> bool
 // ---- storing
 
 // A run as planned: the bit 1 and the rest are one number, and where they fit so are the zeros before it.
-fn put_run(out: &mut [u8], k: bits::writer::BitWriter, r: RunPlan) -> bits::writer::BitWriter
+fn encode_zero_run(
+    out: &mut [u8],
+    k: bits::writer::BitWriter,
+    r: RunPlan,
+) -> bits::writer::BitWriter
     requires { ⌜ Sound k × Room k (r .steps + 40) × GoodPlan r ⌝ }
     ensures { λ d. ⌜ (d ≡ after k (planBits r)) × (now (out .exit) ≡ write (now (out .entry)) k (planBits r)) ⌝ }
 {
@@ -258,19 +264,14 @@ fn put_run(out: &mut [u8], k: bits::writer::BitWriter, r: RunPlan) -> bits::writ
     bits::writer::put_bits(out, zeros, word, len)
 }
 
-// The pending zeros, as before a nonzero value.
-fn encode_zero_run(out: &mut [u8], c: CallState) -> CallState
-    requires { ⌜ Good c × Room (c .sink) (c .zeros + 40) ⌝ }
-    ensures { λ r. ⌜ (r ≡ runState c) × (now (out .exit) ≡ runWrite (now (out .entry)) c) ⌝ }
+// The bits of a nonzero value of magnitude m, 1 to 15, as a number.
+fn nonzero_word(m: u16, negative: bool, stop: u8) -> usize
+    requires { ⌜ (1 ≤ m) × (m ≤ 15) × (stop ≤ 1) ⌝ }
+    ensures { λ r. ⌜ r ≡ bitOf negative * 2 ^ (m - 1 + stop) + stop ⌝ }
 {
-    let sink = c.sink;
-    let plan = plan_run(c.kp, c.zeros);
-    let done = put_run(out, sink, plan);
-    CallState {
-        sink: done,
-        kp: rules::lowered(plan.kp),
-        zeros: 0,
-    }
+    let sign = bits::writer::bit_of(negative);
+    let low = (m as u8) - 1 + stop;
+    ((sign as usize) << low) + (stop as usize)
 }
 
 // A nonzero value of magnitude m: of at most 16 bits it is one number.
@@ -285,15 +286,45 @@ fn put_nonzero(
     ensures { λ r. ⌜ (r ≡ after k (nonzeroBits «num_bits» negative (m - 1))) × (now (out .exit) ≡ write (now (out .entry)) k (nonzeroBits «num_bits» negative (m - 1))) ⌝ }
 {
     let stop = stop_count(m, num_bits);
-    let sign = bits::writer::bit_of(negative);
     if m < 16 {
-        let len = (m as u8) - 1 + stop;
-        let word = ((sign as usize) << len) + (stop as usize);
-        return bits::writer::put_bits(out, k, word, 1 + len);
+        let word = nonzero_word(m, negative, stop);
+        return bits::writer::put_bits(out, k, word, (m as u8) + stop);
     }
-    let one = bits::writer::put_bits(out, k, sign as usize, 1);
-    let zeros = bits::writer::put_zeros(out, one, (m - 1) as usize);
+    let sign = bits::writer::put_bit(out, k, negative);
+    let zeros = bits::writer::put_zeros(out, sign, (m - 1) as usize);
     bits::writer::put_bits(out, zeros, stop as usize, stop)
+}
+
+// The bits of a run as planned, behind its zeros, and of the nonzero value behind it, as a number.
+fn both_word(r: RunPlan, m: u16, negative: bool, stop: u8) -> usize
+    requires { ⌜ GoodPlan r × (1 ≤ m) × (m ≤ 15) × (stop ≤ 1) ⌝ }
+    ensures { λ x. ⌜ x ≡ (2 ^ (r .kp / 8) + r .rest) * 2 ^ (m + stop) + (bitOf negative * 2 ^ (m - 1 + stop) + stop) ⌝ }
+{
+    let run = rules::run_size(r.kp) + r.rest;
+    let len = (m as u8) + stop;
+    (run << len) + nonzero_word(m, negative, stop)
+}
+
+// A run as planned and the nonzero value behind it: of at most 16 bits they are one number.
+fn put_both(
+    out: &mut [u8],
+    k: bits::writer::BitWriter,
+    r: RunPlan,
+    m: u16,
+    negative: bool,
+    num_bits: u8,
+) -> bits::writer::BitWriter
+    requires { ⌜ Sound k × Room k (r .steps + 65600) × GoodPlan r × (1 ≤ m) × Width «num_bits» ⌝ }
+    ensures { λ d. ⌜ (d ≡ after k (planBits r ++ nonzeroBits «num_bits» negative (m - 1))) × (now (out .exit) ≡ write (now (out .entry)) k (planBits r ++ nonzeroBits «num_bits» negative (m - 1))) ⌝ }
+{
+    if r.steps + ((r.kp / 8) as usize) + (m as usize) < 15 {
+        let stop = stop_count(m, num_bits);
+        let word = both_word(r, m, negative, stop);
+        let len = (r.steps as u8) + (r.kp / 8 + 1) + ((m as u8) + stop);
+        return bits::writer::put_bits(out, k, word, len);
+    }
+    let run = encode_zero_run(out, k, r);
+    put_nonzero(out, run, m, negative, num_bits)
 }
 
 // One value.
@@ -310,12 +341,11 @@ pub fn put_value(out: &mut [u8], c: CallState, v: i16, num_bits: u8) -> CallStat
             zeros: c.zeros + 1,
         };
     }
-    let run = encode_zero_run(out, c);
-    let start = run.sink;
-    let done = put_nonzero(out, start, m, fixed::is_negative(v), num_bits);
+    let plan = plan_run(c.kp, c.zeros);
+    let done = put_both(out, sink, plan, m, fixed::is_negative(v), num_bits);
     CallState {
         sink: done,
-        kp: run.kp,
+        kp: rules::lowered(plan.kp),
         zeros: 0,
     }
 }
@@ -366,8 +396,8 @@ pub fn put_flush(out: &mut [u8], c: CallState) -> bits::writer::BitWriter
     if c.zeros == 0 {
         return sink;
     }
-    let run = encode_zero_run(out, c);
-    run.sink
+    let plan = plan_run(c.kp, c.zeros);
+    encode_zero_run(out, sink, plan)
 }
 
 // The end of a stream: the pending zeros, the padding and a byte 0.
