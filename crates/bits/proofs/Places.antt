@@ -1,6 +1,5 @@
 -- Places in a stream, and the counts of bits read that they stand for.
 use mathlib.Core.Path.{_≡_}
-use mathlib.Core.List.{List}
 use Prim.Native.Nat.{ℕ, _+_, _*_, _/_, _%_, _≤_}
 use native.Mathlib.Omega.{arith}
 use Rattle.bits.specs.Bits.{bitsRead, placeOf}

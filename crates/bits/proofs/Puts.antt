@@ -9,14 +9,11 @@ use native.Mathlib.Omega.{arith}
 use lib.Dec.{eqb}
 use lib.ListN.{length, set, replicate, length-append, replicate-append-replicate}
 use lib.Pow.{pow-pos, shr-shr, mod-pow-add, high, split}
-use borrow.Author.Tests.{eqb-true, eqb-false, ne-eqb}
+use borrow.Author.Tests.{eqb-false, ne-eqb}
 use Rattle.bits.specs.Bits.{odd, bitOf}
 use Rattle.bits.specs.Written.{bitsOf, writer, Sound, step, put, after, write}
 use Rattle.bits.specs.declared.writer.BitWriter.{BitWriter}
-
-pub bit-le : (b : Bool) → bitOf b ≤ 1
-bit-le true = omega arith
-bit-le false = omega arith
+use Rattle.bits.proofs.Numbers.{bit-le, odd-bit}
 
 -- ════ what a writer keeps ════
 
@@ -126,13 +123,6 @@ bits-zero zero = refl
 bits-zero (suc n) = ap (λ l. l ++ (false ∷ [])) (bits-zero n) ∙ replicate-append-replicate n 1 false ∙ ap (λ m. replicate m false) (add-one n)
 
 -- ════ the bits of a number, from the start of a byte ════
-
-odd-bit : (x : ℕ) → bitOf (odd x) ≡ x % 2
-odd-bit x = by (odd x) refl
-  where
-    by : (b : Bool) → odd x ≡ b → bitOf b ≡ x % 2
-    by true q = let e : x % 2 ≡ 1 = eqb-true _ _ q in omega arith
-    by false q = let e : (x % 2 ≡ 1 → ⊥) = eqb-false _ _ q in omega arith
 
 -- fewer than 8 wait
 pub waits : (out : List ℕ) (at n x : ℕ) → n ≤ 7 → Wrote out (writer at 0 0) (bitsOf n x) (writer at (x % 2 ^ n) n) out

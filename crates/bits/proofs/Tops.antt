@@ -4,7 +4,7 @@ use mathlib.Core.Path.{_≡_, refl, sym, ap, ap₂, _∙_, subst}
 use mathlib.Core.Bool.{Bool, true, false, cond}
 use mathlib.Core.List.{List}
 use Prim.Native.Nat.{ℕ, zero, suc, _+_, _-_, _*_, _/_, _%_, _^_, _≤_, _<_, min}
-use native.Mathlib.Nat.{zero-add, zero-mul, add-mul, mul-assoc, suc-add, two-pow-succ, mul-le-mul-right}
+use native.Mathlib.Nat.{zero-mul, add-mul, mul-assoc, suc-add, two-pow-succ, mul-le-mul-right}
 use native.Mathlib.Omega.{arith}
 use borrow.Author.Tests.{leb-true, leb-false}
 use lib.Count.{leadingZeros, leading-of-zero, leading-unique}

@@ -2,22 +2,21 @@
 use mathlib.Core.Path.{_≡_, refl, sym, ap, ap₂, _∙_, subst}
 use mathlib.Core.Bool.{Bool, true, false, cond}
 use mathlib.Core.List.{List, [], _∷_, _++_, append-assoc, append-nil}
-use Prim.Native.Nat.{ℕ, zero, suc, _+_, _-_, _*_, _^_, _≤_, _<_}
+use Prim.Native.Nat.{ℕ, zero, suc, _+_, _-_, _^_, _≤_, _<_}
 use native.Mathlib.Decide.{decLt}
 use native.Mathlib.Omega.{arith}
 use borrow.Author.Tests.{ltb-true, lt-ltb, le-ltb}
 use lib.Dec.{ltb}
 use lib.IntN.{ℤ, pos, negsuc, natAbs}
-use lib.ListN.{length, drop, replicate, length-replicate, drop-of-length-le}
+use lib.ListN.{length, replicate, length-replicate, drop-of-length-le}
 use lib.Pow.{pow-pos}
-use Rattle.bits.specs.Bits.{bitsRead, placeOf, placeAt, held}
+use Rattle.bits.specs.Bits.{bitsRead, placeAt, held}
 use Rattle.bits.proofs.Holds.{Holds, pack-holds}
 use Rattle.bits.proofs.Past.{same, past, alike-held}
 use Rattle.bits.proofs.Places.{read-place}
-use Rattle.srl.specs.Srl.{Reader, reader, start, readied, nextReader, values, readerAfter}
-use Rattle.srl.specs.Decode.{startState, opened, closed, stateOk, widthOk, dueAmong, noRoom, decodeRefusal, decoded, stored, decodeAnswer, decodeOut, stateOf}
+use Rattle.srl.specs.Srl.{Reader, reader, start, values, readerAfter}
+use Rattle.srl.specs.Decode.{startState, opened, closed, stateOk, widthOk, noRoom, decodeRefusal, decoded, stored, decodeAnswer, decodeOut, stateOf}
 use Rattle.srl.specs.Encode.{valueBits, valueKp, valueZeros, callBits, callKp, callZeros, callBytes, callAfter, freshWriter, valueFault, fault}
-use Rattle.srl.specs.Finish.{flush}
 use Rattle.srl.specs.Laws.{Legal, legal, Call, Ask, Accepted, streamFrom, given, widths, asked, room, readBack, RoundTrip}
 use Rattle.srl.specs.declared.SrlState.{SrlState}
 use Rattle.srl.specs.declared.SrlWriter.{SrlWriter}

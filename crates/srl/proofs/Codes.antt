@@ -2,9 +2,9 @@
 use mathlib.Core.Path.{_≡_, refl, sym, ap, ap₂, _∙_}
 use mathlib.Core.Bool.{Bool, true, false, cond}
 use mathlib.Core.List.{List}
-use Prim.Native.Nat.{ℕ, zero, suc, _+_, _-_, _*_, _/_, _^_, _≤_, _<_, min}
+use Prim.Native.Nat.{ℕ, zero, suc, _+_, _-_, _/_, _^_, _≤_, _<_, min}
 use native.Mathlib.Omega.{arith}
-use lib.IntN.{ℤ, pos}
+use lib.IntN.{pos}
 use lib.Pow.{pow-mono}
 use lib.Signed.{mag}
 use Rattle.fixed.specs.Fixed.{clampI16, withSign}
@@ -13,7 +13,7 @@ use Rattle.bits.specs.Bits.{bitAt, num, zeros, placeOf}
 use Rattle.bits.specs.declared.reader.BitReader.{BitReader}
 use Rattle.bits.proofs.Numbers.{num-lt}
 use Rattle.bits.proofs.Ones.{zeros-le}
-use Rattle.srl.specs.Srl.{Reader, reader, mostZeros, nonzero, behind, codeWord, ready, value, past, readied}
+use Rattle.srl.specs.Srl.{Reader, reader, mostZeros, nonzero, behind, codeWord, ready, value, past}
 use Rattle.srl.specs.Inner.{Width, shut}
 use Rattle.srl.specs.declared.SrlState.{SrlState}
 use Rattle.srl.proofs.Widths.{pow-low, pow-high}

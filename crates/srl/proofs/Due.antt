@@ -1,16 +1,15 @@
 -- Whether one of the next values is nonzero: by whole runs, and past the end.
-use mathlib.Core.Path.{_≡_, refl, sym, ap, ap₂, _∙_}
+use mathlib.Core.Path.{_≡_, refl, sym, ap, _∙_}
 use mathlib.Core.Bool.{Bool, true, false, cond, true≢false}
-use mathlib.Core.List.{List, [], _∷_}
+use mathlib.Core.List.{List, _∷_}
 use Prim.Native.Nat.{ℕ, zero, suc, _+_, _-_, _*_, _/_, _^_, _≤_, _<_, min}
-use native.Mathlib.Nat.{le-of-suc-le-suc}
 use native.Mathlib.Omega.{arith}
 use lib.IntN.{ℤ, pos}
 use lib.ListN.{length, replicate}
 use lib.Pow.{suc-ones}
 use Rattle.bits.specs.Bits.{bitAt, num}
 use Rattle.bits.proofs.Numbers.{bit-past}
-use Rattle.srl.specs.Srl.{Reader, reader, codeWord, value, past, readied, nextValue, nextReader, values, readerAfter}
+use Rattle.srl.specs.Srl.{Reader, reader, codeWord, value, past, readied, values, readerAfter}
 use Rattle.srl.specs.Decode.{due, dueAmong}
 use Rattle.srl.proofs.Codes.{ready-pending, code-zero}
 

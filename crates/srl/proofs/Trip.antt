@@ -2,13 +2,12 @@
 use mathlib.Core.Path.{_≡_, refl, sym, ap, ap₂, _∙_, subst}
 use mathlib.Core.Bool.{Bool, true, false, cond}
 use mathlib.Core.List.{List, [], _∷_, _++_, append-assoc, append-nil}
-use Prim.Native.Nat.{ℕ, zero, suc, _+_, _-_, _*_, _/_, _^_, _≤_, _<_, min}
-use native.Mathlib.Nat.{add-zero}
+use Prim.Native.Nat.{ℕ, zero, suc, _+_, _-_, _/_, _^_, _≤_, _<_, min}
 use native.Mathlib.Numerals.{add-one}
 use native.Mathlib.Omega.{arith}
 use borrow.Author.Tests.{ltb-true, ltb-false, lt-ltb, le-ltb}
 use lib.Dec.{ltb}
-use lib.IntN.{ℤ, pos, negsuc, natAbs}
+use lib.IntN.{ℤ, pos, negsuc}
 use lib.ListN.{length, take, drop, replicate, take-append-drop, length-drop, length-append, length-replicate, replicate-append-replicate}
 use lib.Pow.{pow-pos}
 use lib.Seq.{length-take-le, append-snoc}
@@ -17,7 +16,7 @@ use Rattle.bits.specs.Bits.{bitAt, num, zeros, zerosLength}
 use Rattle.bits.specs.Written.{bitsOf}
 use Rattle.bits.proofs.Holds.{Holds, holds-append, zeros-one, zeros-all, num-holds}
 use Rattle.bits.proofs.Puts.{length-bitsOf}
-use Rattle.srl.specs.Srl.{Reader, reader, start, mostZeros, nonzero, behind, codeWord, value, past, readied, nextValue, nextReader, values}
+use Rattle.srl.specs.Srl.{Reader, reader, start, mostZeros, nonzero, behind, codeWord, value, past, values}
 use Rattle.srl.specs.Encode.{stop, nonzeroBits, runBits, runKp, valueBits, valueKp, valueZeros}
 use Rattle.srl.specs.Finish.{flush}
 use Rattle.srl.specs.Laws.{Legal, legal}

@@ -4,17 +4,15 @@ use mathlib.Core.Bool.{Bool, true, false, cond}
 use mathlib.Core.List.{List, [], _∷_, _++_}
 use Prim.Native.Nat.{ℕ, zero, suc, _+_, _-_, _/_, _^_, _≤_, _<_, min}
 use native.Mathlib.Numerals.{add-one}
-use native.Mathlib.Omega.{arith}
 use lib.Dec.{ltb}
 use lib.IntN.{ℤ, pos}
 use lib.ListN.{length, drop, replicate, set, getD, length-replicate}
 use lib.Seq.{drop-cons, set-at, append-snoc}
 use Rattle.fixed.specs.Fixed.{withSign}
-use Rattle.bits.specs.Bits.{bitAt, num, zeros, bitsRead, placeOf}
-use Rattle.bits.specs.declared.reader.BitReader.{BitReader}
+use Rattle.bits.specs.Bits.{bitAt, num, zeros, bitsRead}
 use Rattle.bits.proofs.Places.{place-is, read-place}
 use Rattle.bits.proofs.Past.{Alike, alike-held, alike-trans, alike-on, held-alike, bit-alike, num-alike, zeros-alike}
-use Rattle.srl.specs.Srl.{Reader, reader, mostZeros, nonzero, behind, codeWord, ready, value, past, readied, nextValue, nextReader, values, readerAfter}
+use Rattle.srl.specs.Srl.{Reader, reader, mostZeros, codeWord, value, past, readied, nextValue, nextReader, values, readerAfter}
 use Rattle.srl.specs.Decode.{opened}
 use Rattle.srl.specs.Inner.{shut, heldReader}
 use Rattle.srl.specs.declared.SrlState.{SrlState}

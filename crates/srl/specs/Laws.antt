@@ -6,7 +6,7 @@ use Prim.Native.Nat.{ℕ, _^_, _<_}
 use lib.IntN.{ℤ, pos, natAbs}
 use lib.ListN.{length, replicate}
 use Rattle.srl.specs.Srl.{Reader, values}
-use Rattle.srl.specs.Decode.{startState, stateOk, decodeAnswer, decodeOut, numberOf, stateOf}
+use Rattle.srl.specs.Decode.{startState, stateOk, decodeAnswer, decodeOut, stateOf}
 use Rattle.srl.specs.Encode.{freshWriter, writerOk, callBytes, callAfter, encodeRefusal}
 use Rattle.srl.specs.Finish.{finishBytes}
 use Rattle.srl.specs.declared.SrlState.{SrlState}

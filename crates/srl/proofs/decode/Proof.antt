@@ -1,8 +1,7 @@
 use mathlib.Core.Path.{_≡_, sym, _∙_}
 use mathlib.Core.Bool.{true, false}
-use Prim.Native.Nat.{_≤_}
 use native.Mathlib.Omega.{arith}
-use borrow.Author.Tests.{not-true, not-false, leb-true}
+use borrow.Author.Tests.{not-true, not-false}
 use Rattle.srl.specs.Decode.{stateOk, widthOk, dueAmong, opened}
 use Rattle.srl.proofs.Widths.{widthOk-width}
 use Rattle.srl.proofs.States.{stateOk-sound}

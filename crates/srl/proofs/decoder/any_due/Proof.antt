@@ -1,7 +1,7 @@
 use mathlib.Core.Path.{_≡_, refl, sym, ap, _∙_}
 use mathlib.Core.Bool.{Bool, true, false}
 use mathlib.Core.List.{List}
-use Prim.Native.Nat.{ℕ, _+_, _-_, _*_, _≤_, _<_}
+use Prim.Native.Nat.{ℕ, _-_, _*_, _≤_}
 use native.Mathlib.Omega.{arith}
 use lib.ListN.{length}
 use borrow.Author.Needs.{needs}
@@ -9,7 +9,6 @@ use Rattle.bits.specs.Bits.{bitsRead}
 use Rattle.bits.proofs.Places.{read-place}
 use Rattle.srl.specs.Srl.{Reader, reader, codeWord}
 use Rattle.srl.specs.Decode.{opened, dueAmong}
-use Rattle.srl.specs.Inner.{shut}
 use Rattle.srl.specs.declared.SrlState.{SrlState}
 use Rattle.srl.proofs.Codes.{code-near, code-moves}
 use Rattle.srl.proofs.Values.{opened-shut}

@@ -1,7 +1,7 @@
 use mathlib.Core.Path.{_≡_, sym, ap, _∙_}
-use Prim.Native.Nat.{ℕ, _+_, _-_, _/_}
+use Prim.Native.Nat.{_+_, _-_, _/_}
 use native.Mathlib.Omega.{arith}
-use Rattle.bits.specs.Bits.{num, bitsRead, placeOf}
+use Rattle.bits.specs.Bits.{bitsRead, placeOf}
 use Rattle.bits.specs.Words.{Top}
 use Rattle.bits.proofs.Tops.{top-skip, top-take, first-zero, first-one}
 use Rattle.srl.specs.Inner.{shut}

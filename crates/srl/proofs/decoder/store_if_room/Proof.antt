@@ -3,10 +3,8 @@ use mathlib.Core.List.{List, _++_}
 use Prim.Native.Nat.{ℕ}
 use native.Mathlib.Omega.{arith}
 use lib.IntN.{ℤ}
-use lib.ListN.{drop, length, replicate, length-replicate}
+use lib.ListN.{drop, replicate, length-replicate}
 use borrow.Author.Tests.{lt-ltb, le-ltb}
-use Rattle.bits.specs.Bits.{bitsRead}
-use Rattle.bits.proofs.Places.{read-place}
 use Rattle.srl.specs.Srl.{Reader, values, readerAfter}
 use Rattle.srl.specs.Decode.{opened}
 use Rattle.srl.specs.Inner.{shut, heldReader, handed}

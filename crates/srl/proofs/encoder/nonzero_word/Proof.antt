@@ -5,7 +5,7 @@ use native.Mathlib.Omega.{arith}
 use lib.Pow.{shl-exact}
 use borrow.Author.Needs.{needs}
 use Rattle.bits.proofs.Powers.{shl-small}
-use Rattle.bits.proofs.Puts.{bit-le}
+use Rattle.bits.proofs.Numbers.{bit-le}
 use Rattle.srl.proofs.encoder.nonzero_word.Statement.{statement}
 use Rattle.srl.proofs.encoder.nonzero_word.Tie as tie
 
