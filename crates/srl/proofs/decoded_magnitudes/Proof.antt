@@ -1,3 +1,4 @@
+-- `srl::decoded_magnitudes` meets its contract: the statement is proved in `Magnitudes.antt`. Assumes nothing.
 use Rattle.srl.proofs.Magnitudes.{magnitudes}
 use Rattle.srl.proofs.decoded_magnitudes.Statement.{statement}
 use Rattle.srl.proofs.decoded_magnitudes.Tie as tie

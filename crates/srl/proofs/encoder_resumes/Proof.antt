@@ -1,3 +1,4 @@
+-- `srl::encoder_resumes` meets its contract: the statement is proved in `Streamed.antt`. Assumes nothing.
 use Rattle.srl.proofs.Streamed.{resumes}
 use Rattle.srl.proofs.encoder_resumes.Statement.{statement}
 use Rattle.srl.proofs.encoder_resumes.Tie as tie

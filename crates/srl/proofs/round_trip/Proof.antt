@@ -1,3 +1,4 @@
+-- `srl::round_trip` meets its contract: the statement is proved in `Back.antt`. Assumes nothing.
 use Rattle.srl.proofs.Back.{trip}
 use Rattle.srl.proofs.round_trip.Statement.{statement}
 use Rattle.srl.proofs.round_trip.Tie as tie

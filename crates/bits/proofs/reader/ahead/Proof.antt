@@ -1,3 +1,4 @@
+-- `bits::reader::ahead` meets its contract: the shift drops the bits before the place. Assumes nothing.
 use Prim.Native.Nat.{_*_}
 use Rattle.bits.proofs.Tops.{top-window}
 use borrow.Author.Needs.{needs}

@@ -1,3 +1,4 @@
+-- `bits::reader::byte_in` meets its contract: an element of the slice is a byte. Assumes nothing.
 use native.Mathlib.Omega.{arith}
 use borrow.Author.Needs.{needs}
 use Rattle.bits.proofs.reader.byte_in.Statement.{statement}

@@ -1,3 +1,4 @@
+-- `bits::reader::byte_or_zero` meets its contract: past the end `getD` gives 0. Assumes nothing.
 use mathlib.Core.Path.{sym}
 use native.Mathlib.Omega.{arith}
 use lib.ListN.{List·getD-eq-default}

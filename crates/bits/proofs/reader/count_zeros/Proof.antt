@@ -1,3 +1,4 @@
+-- `bits::reader::count_zeros` meets its contract: after each turn z bits are known to be zeros. Assumes nothing.
 use mathlib.Core.Path.{_≡_, refl, sym, ap, _∙_}
 use Prim.Native.Nat.{ℕ, _+_, _-_, _≤_}
 use native.Mathlib.Omega.{arith}

@@ -1,3 +1,4 @@
+-- `bits::reader::eight_in` meets its contract: eight bytes in Horner form are 64 bits. Assumes nothing.
 use native.Mathlib.Omega.{arith}
 use Rattle.bits.proofs.Numbers.{num-eight}
 use borrow.Author.Needs.{needs}

@@ -1,3 +1,4 @@
+-- `bits::reader::eight_or_zero` meets its contract: each turn adds the 8 bits of a byte. Assumes nothing.
 use mathlib.Core.Path.{_≡_, sym, ap, _∙_}
 use Prim.Native.Nat.{_+_, _-_, _*_, _≤_, _<_, _^_}
 use native.Mathlib.Omega.{arith}

@@ -1,3 +1,4 @@
+-- `bits::reader::hold` meets its contract: at or past the end the place is that of the end. Assumes nothing.
 use native.Mathlib.Omega.{arith}
 use Rattle.bits.proofs.Places.{place-is}
 use Rattle.bits.proofs.reader.hold.Statement.{statement}

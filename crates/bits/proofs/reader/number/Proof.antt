@@ -1,3 +1,4 @@
+-- `bits::reader::number` meets its contract: the top of the word is the number. Assumes nothing.
 use mathlib.Core.Path.{_∙_}
 use native.Mathlib.Omega.{arith}
 use Rattle.bits.proofs.Tops.{top-take}

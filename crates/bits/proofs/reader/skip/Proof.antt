@@ -1,3 +1,4 @@
+-- `bits::reader::skip` meets its contract: the byte and the bit are those of the count. Assumes nothing.
 use native.Mathlib.Omega.{arith}
 use Rattle.bits.proofs.Places.{place-is}
 use borrow.Author.Needs.{needs}

@@ -1,3 +1,4 @@
+-- `bits::reader::top` meets its contract: two shifts are one. Assumes nothing.
 use mathlib.Core.Path.{ap, _∙_}
 use Prim.Native.Nat.{ℕ, _-_, _/_, _^_}
 use native.Mathlib.Omega.{arith}

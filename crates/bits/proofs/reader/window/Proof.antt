@@ -1,3 +1,4 @@
+-- `bits::reader::window` meets its contract: past the end all bits are 0. Assumes nothing.
 use mathlib.Core.Path.{sym}
 use native.Mathlib.Omega.{arith}
 use Rattle.bits.proofs.Numbers.{num-past}

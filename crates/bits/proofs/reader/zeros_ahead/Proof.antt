@@ -1,3 +1,4 @@
+-- `bits::reader::zeros_ahead` meets its contract: the leading zeros of the word are the zeros before a 1. Assumes nothing.
 use mathlib.Core.Path.{_∙_}
 use native.Mathlib.Omega.{arith}
 use Rattle.bits.proofs.Tops.{top-zeros}

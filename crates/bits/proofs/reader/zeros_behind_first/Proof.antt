@@ -1,3 +1,4 @@
+-- `bits::reader::zeros_behind_first` meets its contract: the word without its first bit, or a count from the next bit on. Assumes nothing.
 use mathlib.Core.Path.{_∙_, ap}
 use Prim.Native.Nat.{ℕ, _+_, _-_}
 use native.Mathlib.Omega.{arith}

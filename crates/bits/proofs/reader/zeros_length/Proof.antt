@@ -1,3 +1,4 @@
+-- `bits::reader::zeros_length` meets its contract: the test is that of the definition. Assumes nothing.
 use borrow.Author.Tests.{lt-ltb, le-ltb}
 use borrow.Author.Needs.{needs}
 use Rattle.bits.proofs.reader.zeros_length.Statement.{statement}

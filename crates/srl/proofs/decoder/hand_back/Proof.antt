@@ -1,3 +1,4 @@
+-- `srl::decoder::hand_back` meets its contract: the test is that of `placeAt`. Assumes nothing.
 use borrow.Author.Tests.{lt-ltb, le-ltb}
 use Rattle.srl.proofs.decoder.hand_back.Statement.{statement}
 use Rattle.srl.proofs.decoder.hand_back.Tie as tie

@@ -1,3 +1,4 @@
+-- `srl::decoder::hold` meets its contract: only the place changes. Assumes nothing.
 use mathlib.Core.Path.{refl}
 use Rattle.srl.proofs.Codes.{shut-parts}
 use borrow.Author.Needs.{needs}
