@@ -1,1 +1,6 @@
 -- Laws of streams of bits, for the proofs here and in the crates above.
+pub mod Numbers
+pub mod Ones
+pub mod Tops
+pub mod Places
+pub mod Powers

@@ -40,11 +40,14 @@ zerosLength s n limit = cond (ltb (zeros s n limit) limit) (zeros s n limit + 1)
 abbrev pub bitsRead : BitReader → ℕ
 bitsRead r = 8 * r .«byte_idx» + r .«bit_idx»
 
--- a count as far as the stream goes: past the end the place stays
+-- and the place of a count
+abbrev pub placeOf : ℕ → BitReader
+placeOf n = record { «byte_idx» = n / 8; «bit_idx» = n % 8 }
+
+-- a count as far as the stream goes: at its end the place stays
 abbrev pub held : List ℕ → ℕ → ℕ
 held s n = min n (8 * length s)
 
--- the place of a reader that was handed in at r and has read n bits; one that was at or past the end stays as it is
+-- the place of a reader that was handed in at r and has read up to bit n; one that was at or past the end stays as it is
 abbrev pub placeAt : List ℕ → BitReader → ℕ → BitReader
-placeAt s r n =
-    cond (ltb (r .«byte_idx») (length s)) (record { «byte_idx» = held s n / 8; «bit_idx» = held s n % 8 }) r
+placeAt s r n = cond (ltb (r .«byte_idx») (length s)) (placeOf (held s n)) r

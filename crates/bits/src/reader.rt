@@ -1,7 +1,209 @@
-// The reader: a place in a stream that the caller lends. Bits are read a word at a time.
+// The reader: a place in a stream that the caller lends. Bits are read a word at a time; past the stream's end they are 0.
+ghost use mathlib.Core.Path.{_≡_};
+ghost use mathlib.Core.Bool.{cond};
+ghost use Prim.Native.Nat.{_+_, _-_, _*_, _/_, _%_, _^_, _≤_, _<_, min};
+ghost use lib.Count.{leadingZeros};
+ghost use lib.Dec.{ltb};
+ghost use lib.ListN.{length, getD};
+ghost use Rattle.bits.specs.Bits.{num, zeros, bitsRead, placeOf, held};
+ghost use Rattle.bits.specs.Words.{Top};
 
 // A place in a stream: a byte, and a bit of it, 0 to 7, counted from the highest.
 pub struct BitReader {
     pub byte_idx: usize,
     pub bit_idx: u8,
+}
+
+// ---- places
+
+// The place `count` bits further on.
+pub fn skip(r: BitReader, count: usize) -> BitReader
+    requires { ⌜ (r .«bit_idx» ≤ 7) × (r .«byte_idx» + count < 2 ^ 63 + 2 ^ 62) ⌝ }
+    ensures { λ q. ⌜ q ≡ placeOf (bitsRead r + count) ⌝ }
+{
+    let bits = r.bit_idx as usize + count;
+    BitReader {
+        byte_idx: r.byte_idx + bits / 8,
+        bit_idx: (bits % 8) as u8,
+    }
+}
+
+// The place, or the stream's end where it is past that.
+pub fn hold(src: &[u8], r: BitReader) -> BitReader
+    requires { ⌜ r .«bit_idx» ≤ 7 ⌝ }
+    ensures { λ q. ⌜ q ≡ placeOf (held (now (src .entry)) (bitsRead r)) ⌝ }
+{
+    let len = src.len();
+    if len <= r.byte_idx {
+        return BitReader {
+            byte_idx: len,
+            bit_idx: 0,
+        };
+    }
+    r
+}
+
+// ---- words
+
+fn wide(x: u8) -> u64
+    ensures { λ r. ⌜ r ≡ x ⌝ }
+{
+    x as u64
+}
+
+// A byte that is there.
+fn byte_in(src: &[u8], i: usize) -> u64
+    requires { ⌜ i < length (now src) ⌝ }
+    ensures { λ r. ⌜ (r ≡ getD (now (src .entry)) i 0) × (r < 256) ⌝ }
+{
+    wide(src[i])
+}
+
+// A byte, 0 past the end.
+fn byte_or_zero(src: &[u8], i: usize) -> u64
+    ensures { λ r. ⌜ (r ≡ getD (now (src .entry)) i 0) × (r < 256) ⌝ }
+{
+    if i < src.len() {
+        return byte_in(src, i);
+    }
+    0
+}
+
+// The 64 bits from a byte on that has seven behind it. In this form the compiler makes one load of it.
+fn eight_in(src: &[u8], i: usize) -> u64
+    requires { ⌜ i + 8 ≤ length (now src) ⌝ }
+    ensures { λ r. ⌜ r ≡ num (now (src .entry)) (8 * i) 64 ⌝ }
+{
+    let b = byte_in(src, i) * 256 + byte_in(src, i + 1);
+    let c = b * 256 + byte_in(src, i + 2);
+    let d = c * 256 + byte_in(src, i + 3);
+    let e = d * 256 + byte_in(src, i + 4);
+    let f = e * 256 + byte_in(src, i + 5);
+    let g = f * 256 + byte_in(src, i + 6);
+    g * 256 + byte_in(src, i + 7)
+}
+
+// The 64 bits from a byte on, near the end.
+fn eight_or_zero(src: &[u8], i: usize) -> u64
+    requires { ⌜ i < 2 ^ 63 ⌝ }
+    ensures { λ r. ⌜ r ≡ num (now (src .entry)) (8 * i) 64 ⌝ }
+{
+    let mut bits: u64 = 0;
+    let mut j: usize = 0;
+    while j < 8 {
+        bits = bits * 256 + byte_or_zero(src, i + j);
+        j += 1;
+    }
+    bits
+}
+
+// The 64 bits from a byte on.
+fn window(src: &[u8], i: usize) -> u64
+    ensures { λ r. ⌜ r ≡ num (now (src .entry)) (8 * i) 64 ⌝ }
+{
+    let len = src.len();
+    if len <= i {
+        return 0;
+    }
+    if 8 <= len - i {
+        return eight_in(src, i);
+    }
+    eight_or_zero(src, i)
+}
+
+// The bits from a place on, at the top of a word: 57 of them at least, and zeros behind them.
+pub fn ahead(src: &[u8], r: BitReader) -> u64
+    requires { ⌜ r .«bit_idx» ≤ 7 ⌝ }
+    ensures { λ a. ⌜ Top (64 - r .«bit_idx») a (now (src .entry)) (bitsRead r) ⌝ }
+{
+    window(src, r.byte_idx) << r.bit_idx
+}
+
+// The bits of a word behind its first.
+pub fn behind_first(a: u64) -> u64
+    ensures { λ r. ⌜ r ≡ (a * 2 ^ 1) % 2 ^ 64 ⌝ }
+{
+    a << 1
+}
+
+// The top `count` bits of a word, as a number.
+pub fn top(a: u64, count: u8) -> u64
+    requires { ⌜ count ≤ 63 ⌝ }
+    ensures { λ r. ⌜ r ≡ a / 2 ^ (64 - count) ⌝ }
+{
+    (a >> 1) >> (63 - count)
+}
+
+// The leading zeros of a word, at most `limit`.
+fn lead(a: u64, limit: u32) -> u32
+    ensures { λ r. ⌜ r ≡ min limit (leadingZeros 64 a) ⌝ }
+{
+    let z = u64::leading_zeros(a);
+    if z < limit { z } else { limit }
+}
+
+// ---- numbers and zeros
+
+// The next `count` bits as a number, highest first.
+pub fn number(src: &[u8], r: BitReader, count: u8) -> u64
+    requires { ⌜ (r .«bit_idx» ≤ 7) × (count ≤ 57) ⌝ }
+    ensures { λ x. ⌜ x ≡ num (now (src .entry)) (bitsRead r) count ⌝ }
+{
+    top(ahead(src, r), count)
+}
+
+// How many zeros stand before a 1, of at most `limit` bits, all in one word.
+fn zeros_ahead(src: &[u8], r: BitReader, limit: u32) -> u32
+    requires { ⌜ (r .«bit_idx» ≤ 7) × (limit ≤ 57) ⌝ }
+    ensures { λ z. ⌜ z ≡ zeros (now (src .entry)) (bitsRead r) limit ⌝ }
+{
+    lead(ahead(src, r), limit)
+}
+
+fn at_most_56(left: u32) -> u32
+    ensures { λ r. ⌜ r ≡ min left 56 ⌝ }
+{
+    if left < 56 { left } else { 56 }
+}
+
+// How many zeros stand before a 1, of at most `limit` bits. Past the end of the stream the answer is known.
+pub fn count_zeros(src: &[u8], r: BitReader, limit: u32) -> u32
+    requires { ⌜ (r .«bit_idx» ≤ 7) × (r .«byte_idx» ≤ 2 ^ 63 + 2 ^ 61) ⌝ }
+    ensures { λ z. ⌜ z ≡ zeros (now (src .entry)) (bitsRead r) limit ⌝ }
+{
+    let mut z: u32 = 0;
+    while z < limit {
+        let at = skip(r, z as usize);
+        if src.len() <= at.byte_idx {
+            return limit;
+        }
+        let part = at_most_56(limit - z);
+        let found = zeros_ahead(src, at, part);
+        if found < part {
+            return z + found;
+        }
+        z += part;
+    }
+    limit
+}
+
+// How many zeros stand before a 1 behind the first bit, where `a` is what `ahead` gave.
+pub fn zeros_behind_first(src: &[u8], r: BitReader, a: u64, limit: u32) -> u32
+    requires { ⌜ (r .«bit_idx» ≤ 7) × (r .«byte_idx» < 2 ^ 63 + 2 ^ 61) × Top (64 - r .«bit_idx») a (now src) (bitsRead r) ⌝ }
+    ensures { λ z. ⌜ z ≡ zeros (now (src .entry)) (bitsRead r + 1) limit ⌝ }
+{
+    if limit <= 56 {
+        return lead(behind_first(a), limit);
+    }
+    count_zeros(src, skip(r, 1), limit)
+}
+
+// How many bits `z` zeros take: with the 1 behind them, unless `limit` ended them.
+pub fn zeros_length(z: u32, limit: u32) -> u32
+    ensures { λ r. ⌜ r ≡ cond (ltb z limit) (z + 1) limit ⌝ }
+{
+    if z < limit {
+        return z + 1;
+    }
+    limit
 }

@@ -8,6 +8,7 @@ ghost use Rattle.srl.specs.Encode.{freshWriter};
 
 mod decoder;
 mod encoder;
+mod rules;
 
 // kp at the start of a stream, and the most that it can be.
 pub const INITIAL_KP: u8 = 8;

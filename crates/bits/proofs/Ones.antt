@@ -1,0 +1,70 @@
+-- Zeros before a 1: how many there are, counted in parts, and past the end of the stream.
+use mathlib.Core.Path.{_≡_, refl, sym, ap, ap₂, _∙_}
+use mathlib.Core.Bool.{Bool, true, false, cond}
+use mathlib.Core.List.{List}
+use Prim.Native.Nat.{ℕ, zero, suc, _+_, _-_, _*_, _≤_, _<_, min}
+use native.Mathlib.Nat.{zero-add, add-zero, suc-add}
+use native.Mathlib.Omega.{arith}
+use lib.ListN.{length}
+use Rattle.bits.specs.Bits.{bitAt, zeros}
+use Rattle.bits.proofs.Numbers.{bit-past}
+
+pub zeros-le : (s : List ℕ) (n l : ℕ) → zeros s n l ≤ l
+unfolding zeros
+zeros-le s n zero = omega arith
+zeros-le s n (suc l) = by (bitAt s n) (zeros-le s (suc n) l)
+  where
+    by : (b : Bool) {z : ℕ} → z ≤ l → cond b 0 (suc z) ≤ suc l
+    by true h = omega arith
+    by false h = omega arith
+
+-- past the end all that is asked for are zeros
+pub zeros-past : (s : List ℕ) (n l : ℕ) → 8 * length s ≤ n → zeros s n l ≡ l
+unfolding zeros
+zeros-past s n zero h = refl
+zeros-past s n (suc l) h = rw (bit-past s n h, zeros-past s (suc n) l (omega arith)) refl
+
+-- fewer asked for
+pub zeros-min : (s : List ℕ) (n l m : ℕ) → l ≤ m → zeros s n l ≡ min l (zeros s n m)
+unfolding zeros
+zeros-min s n zero m h = omega arith
+zeros-min s n (suc l) zero h = absurd (omega arith)
+zeros-min s n (suc l) (suc m) h = by (bitAt s n) (zeros s (suc n) l) (zeros s (suc n) m) (zeros-min s (suc n) l m (omega arith))
+  where
+    by : (b : Bool) (x y : ℕ) → x ≡ min l y → cond b 0 (suc x) ≡ min (suc l) (cond b 0 (suc y))
+    by true x y e = omega arith
+    by false x y e = omega arith
+
+-- a 1 among the first m
+pub zeros-part : (s : List ℕ) (n m k : ℕ) → zeros s n m < m → zeros s n (m + k) ≡ zeros s n m
+zeros-part s n m k h = omega (arith, zeros-min s n m (m + k) (omega arith))
+
+-- none among them
+pub zeros-on : (s : List ℕ) (n m k : ℕ) → zeros s n m ≡ m → zeros s n (m + k) ≡ m + zeros s (n + m) k
+unfolding zeros
+zeros-on s n zero k e = ap₂ (λ (i j : ℕ). zeros s i j) (sym (add-zero n)) (zero-add k) ∙ sym (zero-add (zeros s (n + 0) k))
+zeros-on s n (suc m) k e = by (bitAt s n) refl e (zeros-on s (suc n) m k)
+  where
+    by : (b : Bool) → bitAt s n ≡ b → cond b 0 (suc (zeros s (suc n) m)) ≡ suc m → (zeros s (suc n) m ≡ m → zeros s (suc n) (m + k) ≡ m + zeros s (suc n + m) k)
+        → zeros s n (suc m + k) ≡ suc m + zeros s (n + suc m) k
+    by true q f ih = absurd (omega arith)
+    by false q f ih =
+        ap (zeros s n) (suc-add m k)
+        ∙ ap (λ (b : Bool). cond b 0 (suc (zeros s (suc n) (m + k)))) q
+        ∙ ap suc (ih (omega arith))
+        ∙ ap (λ (i : ℕ). suc (m + zeros s i k)) {x = suc n + m} {y = n + suc m} (omega arith)
+        ∙ sym (suc-add m (zeros s (n + suc m) k))
+
+-- z zeros are counted from n on: what is counted in all where the stream ends there, where a 1 follows, and where more zeros do
+pub zeros-end : (s : List ℕ) (n z limit : ℕ) → zeros s n z ≡ z → z ≤ limit → 8 * length s ≤ n + z → zeros s n limit ≡ limit
+zeros-end s n z limit e h g =
+    let q : limit ≡ z + (limit - z) = omega arith in
+    ap (zeros s n) q ∙ zeros-on s n z (limit - z) e ∙ ap (λ (k : ℕ). z + k) (zeros-past s (n + z) (limit - z) g) ∙ sym q
+
+pub zeros-stop : (s : List ℕ) (n z part limit : ℕ) → zeros s n z ≡ z → z + part ≤ limit → zeros s (n + z) part < part → z + zeros s (n + z) part ≡ zeros s n limit
+zeros-stop s n z part limit e h l =
+    let q : limit ≡ z + (part + (limit - (z + part))) = omega arith in
+    sym (ap (zeros s n) q ∙ zeros-on s n z (part + (limit - (z + part))) e ∙ ap (λ (k : ℕ). z + k) (zeros-part s (n + z) part (limit - (z + part)) l))
+
+pub zeros-go : (s : List ℕ) (n z part : ℕ) → zeros s n z ≡ z → part ≤ zeros s (n + z) part → zeros s n (z + part) ≡ z + part
+zeros-go s n z part e l = zeros-on s n z part e ∙ omega (arith, zeros-le s (n + z) part)
