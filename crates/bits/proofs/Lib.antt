@@ -3,4 +3,8 @@ pub mod Numbers
 pub mod Ones
 pub mod Tops
 pub mod Places
+pub mod Past
 pub mod Powers
+pub mod Puts
+pub mod Packed
+pub mod Holds

@@ -6,7 +6,9 @@ use mathlib.Core.List.{List}
 use Prim.Native.Nat.{ℕ, zero, suc, _+_, _-_, _*_, _/_, _%_, _^_, _≤_, _<_, min}
 use native.Mathlib.Nat.{zero-add, zero-mul, add-mul, mul-assoc, suc-add, two-pow-succ, mul-le-mul-right}
 use native.Mathlib.Omega.{arith}
+use borrow.Author.Tests.{leb-true, leb-false}
 use lib.Count.{leadingZeros, leading-of-zero, leading-unique}
+use lib.Dec.{leb}
 use lib.Pow.{pow-add, shl-lt, high, low}
 use Rattle.bits.specs.Bits.{bitOf, bitAt, num, zeros}
 use Rattle.bits.specs.Words.{Top}
@@ -64,6 +66,13 @@ first-one v a s n t h l = by (bitAt s n) (sym (num-one s n) ∙ sym (top-take v 
     by : (b : Bool) → bitOf b ≡ a / 2 ^ 63 → b ≡ true
     by true e = refl
     by false e = absurd (omega arith)
+
+pub first-bit : (v a : ℕ) (s : List ℕ) (n : ℕ) → Top v a s n → 1 ≤ v → bitAt s n ≡ leb (2 ^ 63) a
+first-bit v a s n t h = by (leb (2 ^ 63) a) refl
+  where
+    by : (b : Bool) → leb (2 ^ 63) a ≡ b → bitAt s n ≡ b
+    by true e = first-one v a s n t h (leb-true (2 ^ 63) a e)
+    by false e = first-zero v a s n t h (leb-false (2 ^ 63) a e)
 
 -- ---- leading zeros
 

@@ -5,3 +5,4 @@ pub mod Encode
 pub mod Finish
 pub mod Laws
 pub mod Inner
+pub mod EncodeInner

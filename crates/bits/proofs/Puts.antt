@@ -1,0 +1,232 @@
+-- Laws of writing bits: bits in a row, the bits of a number, zeros. Assumes nothing.
+use mathlib.Core.Path.{_≡_, refl, ap, sym, _∙_, subst}
+use mathlib.Core.Bool.{Bool, true, false, cond}
+use mathlib.Core.List.{List, [], _∷_, _++_, append-assoc, append-nil}
+use Prim.Native.Nat.{ℕ, zero, suc, _+_, _*_, _/_, _%_, _^_, _≤_, _<_}
+use native.Mathlib.Nat.{pow-suc, add-suc, add-zero, mul-assoc, mod-eq-of-lt, mod-lt, zero-mod}
+use native.Mathlib.Numerals.{add-one}
+use native.Mathlib.Omega.{arith}
+use lib.Dec.{eqb}
+use lib.ListN.{length, set, replicate, length-append, replicate-append-replicate}
+use lib.Pow.{pow-pos, shr-shr, mod-pow-add, high, split}
+use borrow.Author.Tests.{eqb-true, eqb-false, ne-eqb}
+use Rattle.bits.specs.Bits.{odd, bitOf}
+use Rattle.bits.specs.Written.{bitsOf, writer, Sound, step, put, after, write}
+use Rattle.bits.specs.declared.writer.BitWriter.{BitWriter}
+
+pub bit-le : (b : Bool) → bitOf b ≤ 1
+bit-le true = omega arith
+bit-le false = omega arith
+
+-- ════ what a writer keeps ════
+
+-- a byte holds the bits that wait and one more
+pub byte-fits : (k : BitWriter) (b : Bool) → Sound k → k .current * 2 + bitOf b < 2 ^ (k .«bit_count» + 1)
+byte-fits k b h = rw (add-one (k .«bit_count»), pow-suc 2 (k .«bit_count»)) (omega (arith, bit-le b))
+
+-- `step`, by what its test says
+abbrev stepBy : BitWriter → Bool → Bool → BitWriter
+stepBy k b e = cond e (writer (k .at + 1) 0 0) (writer (k .at) (k .current * 2 + bitOf b) (k .«bit_count» + 1))
+
+pub step-sound : (k : BitWriter) (b : Bool) → Sound k → Sound (step k b)
+step-sound k b h = by (eqb (k .«bit_count») 7) refl
+  where
+    by : (e : Bool) → eqb (k .«bit_count») 7 ≡ e → Sound (stepBy k b e)
+    by true q = (omega arith, omega arith)
+    by false q = let n : (k .«bit_count» ≡ 7 → ⊥) = eqb-false _ _ q in (omega arith, byte-fits k b h)
+
+step-at : (k : BitWriter) (b e : Bool) → (k .at ≤ stepBy k b e .at) × (stepBy k b e .at ≤ k .at + 1)
+step-at k b true = (omega arith, omega arith)
+step-at k b false = (omega arith, omega arith)
+
+pub after-sound : (k : BitWriter) (bs : List Bool) → Sound k → Sound (after k bs)
+after-sound k [] h = h
+after-sound k (b ∷ bs) h = after-sound (step k b) bs (step-sound k b h)
+
+-- the bytes are counted up, and there are no more of them than bits
+pub after-at : (k : BitWriter) (bs : List Bool) → (k .at ≤ after k bs .at) × (after k bs .at ≤ k .at + length bs)
+after-at k [] = (omega arith, omega arith)
+after-at k (b ∷ bs) =
+    let s = step-at k b (eqb (k .«bit_count») 7) in
+    let a = after-at (step k b) bs in
+    (omega (arith, s .0, a .0), omega (arith, s .1, a .1))
+
+-- ════ bits in a row ════
+
+pub after-append : (k : BitWriter) (a b : List Bool) → after k (a ++ b) ≡ after (after k a) b
+after-append k [] b = refl
+after-append k (x ∷ a) b = after-append (step k x) a b
+
+pub write-append : (out : List ℕ) (k : BitWriter) (a b : List Bool) → write out k (a ++ b) ≡ write (write out k a) (after k a) b
+write-append out k [] b = refl
+write-append out k (x ∷ a) b = write-append (put out k x) (step k x) a b
+
+-- what each function that writes promises: x and o are the writer and the output after the bits bs
+abbrev pub Wrote : List ℕ → BitWriter → List Bool → BitWriter → List ℕ → Type 0
+Wrote out k bs x o = (x ≡ after k bs) × (o ≡ write out k bs)
+
+-- two writes in a row are one write of both
+pub then : (out : List ℕ) (k : BitWriter) (a b : List Bool) {x y : BitWriter} {o p : List ℕ} → Wrote out k a x o → Wrote o x b y p → Wrote out k (a ++ b) y p
+then out k a b {x = x} {o = o} d e = (
+  e .0 ∙ ap (λ z. after z b) (d .0) ∙ sym (after-append k a b),
+  e .1 ∙ ap (λ z. write z x b) (d .1) ∙ ap (λ z. write (write out k a) z b) (d .0) ∙ sym (write-append out k a b),
+)
+
+-- the same bits by another name
+pub renamed : (out : List ℕ) (k : BitWriter) {a b : List Bool} {x : BitWriter} {o : List ℕ} → a ≡ b → Wrote out k a x o → Wrote out k b x o
+renamed out k q d = (d .0 ∙ ap (after k) q, d .1 ∙ ap (write out k) q)
+
+pub wrote-sound : (k : BitWriter) (bs : List Bool) {x : BitWriter} → x ≡ after k bs → Sound k → Sound x
+wrote-sound k bs e h = subst Sound (sym e) (after-sound k bs h)
+
+pub wrote-at : (k : BitWriter) (bs : List Bool) {x : BitWriter} → x ≡ after k bs → x .at ≤ k .at + length bs
+wrote-at k bs e = subst (λ x. x .at ≤ k .at + length bs) (sym e) (after-at k bs .1)
+
+-- ════ the bits of a number ════
+
+pub length-bitsOf : (k z : ℕ) → length (bitsOf k z) ≡ k
+length-bitsOf zero z = refl
+length-bitsOf (suc k) z = simp (length-append, length-bitsOf k (z / 2)) (omega arith)
+
+-- the highest of them come first
+pub bits-append : (i m x : ℕ) → bitsOf (i + m) x ≡ bitsOf i (x / 2 ^ m) ++ bitsOf m x
+bits-append i zero x =
+    let v : x ≡ x / 1 = omega arith in
+    ap (λ j. bitsOf j x) (add-zero i) ∙ ap (bitsOf i) v ∙ sym (append-nil (bitsOf i (x / 1)))
+bits-append i (suc m) x =
+    let e : 1 + m ≡ suc m = omega arith in
+    ap (λ j. bitsOf j x) (add-suc i m)
+    ∙ ap (λ l. l ++ (odd x ∷ [])) (bits-append i m (x / 2))
+    ∙ append-assoc (bitsOf i (x / 2 / 2 ^ m)) (bitsOf m (x / 2)) (odd x ∷ [])
+    ∙ ap (λ y. bitsOf i y ++ bitsOf (suc m) x) (shr-shr x 1 m ∙ ap (λ j. x / 2 ^ j) e)
+
+-- what stands above them does not matter
+pub bits-low : (m hi lo : ℕ) → bitsOf m (hi * 2 ^ m + lo) ≡ bitsOf m lo
+bits-low zero hi lo = refl
+bits-low (suc m) hi lo =
+    let p : hi * 2 ^ suc m ≡ hi * 2 ^ m * 2 = ap (λ y. hi * y) (pow-suc 2 m) ∙ sym (mul-assoc hi (2 ^ m) 2) in
+    let half : (hi * 2 ^ suc m + lo) / 2 ≡ hi * 2 ^ m + lo / 2 = omega (arith, p) in
+    let bit : (hi * 2 ^ suc m + lo) % 2 ≡ lo % 2 = omega (arith, p) in
+    ap (λ y. bitsOf m y ++ (odd (hi * 2 ^ suc m + lo) ∷ [])) half
+    ∙ ap (λ l. l ++ (odd (hi * 2 ^ suc m + lo) ∷ [])) (bits-low m hi (lo / 2))
+    ∙ ap (λ y. bitsOf m (lo / 2) ++ (eqb y 1 ∷ [])) bit
+
+-- two numbers side by side
+pub bits-join : (i m hi lo : ℕ) → lo < 2 ^ m → bitsOf (i + m) (hi * 2 ^ m + lo) ≡ bitsOf i hi ++ bitsOf m lo
+bits-join i m hi lo h =
+    bits-append i m (hi * 2 ^ m + lo)
+    ∙ ap (λ y. bitsOf i y ++ bitsOf m (hi * 2 ^ m + lo)) (high hi m h)
+    ∙ ap (λ l. bitsOf i hi ++ l) (bits-low m hi lo)
+
+pub bits-mod : (m x : ℕ) → bitsOf m (x % 2 ^ m) ≡ bitsOf m x
+bits-mod m x = sym (ap (bitsOf m) (sym (split x m)) ∙ bits-low m (x / 2 ^ m) (x % 2 ^ m))
+
+pub bits-zero : (n : ℕ) → bitsOf n 0 ≡ replicate n false
+bits-zero zero = refl
+bits-zero (suc n) = ap (λ l. l ++ (false ∷ [])) (bits-zero n) ∙ replicate-append-replicate n 1 false ∙ ap (λ m. replicate m false) (add-one n)
+
+-- ════ the bits of a number, from the start of a byte ════
+
+odd-bit : (x : ℕ) → bitOf (odd x) ≡ x % 2
+odd-bit x = by (odd x) refl
+  where
+    by : (b : Bool) → odd x ≡ b → bitOf b ≡ x % 2
+    by true q = let e : x % 2 ≡ 1 = eqb-true _ _ q in omega arith
+    by false q = let e : (x % 2 ≡ 1 → ⊥) = eqb-false _ _ q in omega arith
+
+-- fewer than 8 wait
+pub waits : (out : List ℕ) (at n x : ℕ) → n ≤ 7 → Wrote out (writer at 0 0) (bitsOf n x) (writer at (x % 2 ^ n) n) out
+waits out at zero x h = let z : x % 1 ≡ 0 = omega arith in (ap (λ c. writer at c 0) z, refl)
+waits out at (suc n) x h = then out (writer at 0 0) (bitsOf n (x / 2)) (odd x ∷ []) (waits out at n (x / 2) (omega arith)) last
+  where
+    more : eqb n 7 ≡ false
+    more = ne-eqb n 7 (λ e. omega arith)
+
+    grown : x % 2 ^ suc n ≡ x / 2 % 2 ^ n * 2 + bitOf (odd x)
+    grown =
+        let e : suc n ≡ n + 1 = omega arith in
+        ap (λ j. x % 2 ^ j) e ∙ mod-pow-add x n 1 ∙ ap (λ b. x / 2 % 2 ^ n * 2 + b) (sym (odd-bit x))
+
+    last : Wrote out (writer at (x / 2 % 2 ^ n) n) (odd x ∷ []) (writer at (x % 2 ^ suc n) (suc n)) out
+    last = (
+      ap (λ c. writer at c (suc n)) grown ∙ ap (writer at (x / 2 % 2 ^ n * 2 + bitOf (odd x))) (sym (add-one n))
+          ∙ ap (λ e. cond e (writer (at + 1) 0 0) (writer at (x / 2 % 2 ^ n * 2 + bitOf (odd x)) (n + 1))) (sym more),
+      ap (λ e. cond e (set out at (x / 2 % 2 ^ n * 2 + bitOf (odd x))) out) (sym more),
+    )
+
+-- 8 make a byte
+pub byte : (out : List ℕ) (at x : ℕ) → Wrote out (writer at 0 0) (bitsOf 8 x) (writer (at + 1) 0 0) (set out at (x % 256))
+byte out at x =
+    let e : x % 256 ≡ x / 2 % 128 * 2 + bitOf (odd x) = omega (arith, odd-bit x) in
+    then out (writer at 0 0) (bitsOf 7 (x / 2)) (odd x ∷ []) (waits out at 7 (x / 2) (omega arith)) (refl, ap (set out at) e)
+
+-- a writer is what its waiting bits make
+pub fresh : (out : List ℕ) (k : BitWriter) → Sound k → Wrote out (writer (k .at) 0 0) (bitsOf (k .«bit_count») (k .current)) k out
+fresh out k h =
+    let w = waits out (k .at) (k .«bit_count») (k .current) (h .0) in
+    (ap (λ c. writer (k .at) c (k .«bit_count»)) (sym (mod-eq-of-lt (h .1))) ∙ w .0, w .1)
+
+-- so bits behind them are written as both together from the start of the byte
+pub behind : (out : List ℕ) (k : BitWriter) (n x : ℕ) {r : BitWriter} {o : List ℕ} → Sound k
+    → Wrote out (writer (k .at) 0 0) (bitsOf (k .«bit_count» + n) (k .current * 2 ^ n + x % 2 ^ n)) r o → Wrote out k (bitsOf n x) r o
+behind out k n x h d =
+    let o = writer (k .at) 0 0 in
+    let c = bitsOf (k .«bit_count») (k .current) in
+    let bits : bitsOf (k .«bit_count» + n) (k .current * 2 ^ n + x % 2 ^ n) ≡ c ++ bitsOf n x =
+    bits-join (k .«bit_count») n (k .current) (x % 2 ^ n) (mod-lt x (pow-pos n)) ∙ ap (λ l. c ++ l) (bits-mod n x) in
+    let f = fresh out k h in (
+      d .0 ∙ ap (after o) bits ∙ after-append o c (bitsOf n x) ∙ ap (λ z. after z (bitsOf n x)) (sym (f .0)),
+      d .1 ∙ ap (write out o) bits ∙ write-append out o c (bitsOf n x) ∙ ap (λ z. write z (after o c) (bitsOf n x)) (sym (f .1)) ∙ ap (λ z. write out z (bitsOf n x)) (sym (f .0)),
+    )
+
+-- 8 and some more
+pub byte-then : (out : List ℕ) (at n left x : ℕ) {r : BitWriter} {o : List ℕ} → n ≡ 8 + left
+    → Wrote (set out at (x / 2 ^ left % 256)) (writer (at + 1) 0 0) (bitsOf left x) r o → Wrote out (writer at 0 0) (bitsOf n x) r o
+byte-then out at n left x e d =
+    renamed out (writer at 0 0) (sym (ap (λ j. bitsOf j x) e ∙ bits-append 8 left x))
+    (then out (writer at 0 0) (bitsOf 8 (x / 2 ^ left)) (bitsOf left x) (byte out at (x / 2 ^ left)) d)
+
+-- as many as the byte wants
+pub fills : (k : BitWriter) (n x : ℕ) → Sound k → k .«bit_count» + n ≡ 8 → after k (bitsOf n x) ≡ writer (k .at + 1) 0 0
+fills k n x h e =
+    let word = k .current * 2 ^ n + x % 2 ^ n in
+    sym (behind [] k n x h (renamed [] (writer (k .at) 0 0) (ap (λ j. bitsOf j word) (sym e)) (byte [] (k .at) word)) .0)
+
+-- ════ zeros, a byte at a time ════
+
+pub zeros-two : (n i j : ℕ) → n ≡ i + j → replicate n false ≡ replicate i false ++ replicate j false
+zeros-two n i j e = ap (λ m. replicate m false) e ∙ sym (replicate-append-replicate i j false)
+
+-- a byte of them
+pub zero-byte : (out : List ℕ) (at n left : ℕ) {r : BitWriter} {o : List ℕ} → n ≡ 8 + left
+    → Wrote (set out at 0) (writer (at + 1) 0 0) (replicate left false) r o → Wrote out (writer at 0 0) (replicate n false) r o
+zero-byte out at n left e d =
+    renamed out (writer at 0 0) (sym (zeros-two n 8 left e))
+    (then out (writer at 0 0) (replicate 8 false) (replicate left false) (refl, refl) d)
+
+-- some bytes of them
+pub after-zeros : (at n : ℕ) → after (writer at 0 0) (replicate (8 * n) false) ≡ writer (at + n) 0 0
+after-zeros at zero =
+    let z : 8 * 0 ≡ 0 = omega arith in
+    ap (λ j. after (writer at 0 0) (replicate j false)) z ∙ ap (λ j. writer j 0 0) (sym (add-zero at))
+after-zeros at (suc n) =
+    let e : at + 1 + n ≡ at + suc n = omega arith in
+    let z = zero-byte [] at (8 * suc n) (8 * n) (omega arith) (refl, refl) in
+    sym (z .0) ∙ after-zeros (at + 1) n ∙ ap (λ j. writer j 0 0) e
+
+-- zeros that fill a byte, whole bytes of them, and fewer than 8
+pub zeros-three : (out : List ℕ) (k : BitWriter) (n i q j : ℕ) {x : BitWriter} {o p : List ℕ} → Sound k → k .«bit_count» + i ≡ 8 → n ≡ i + (8 * q + j) → j ≤ 7
+    → Wrote out k (bitsOf i 0) x o → p ≡ write o (writer (x .at) 0 0) (replicate (8 * q) false)
+    → Wrote out k (replicate n false) (writer (x .at + q) 0 j) p
+zeros-three out k n i q j {x = x} {o = o} {p = p} s t e h d w =
+    let full : x ≡ writer (k .at + 1) 0 0 = d .0 ∙ fills k i 0 s t in
+    let start : writer (x .at) 0 0 ≡ x = ap (λ y. writer (y .at) 0 0) full ∙ sym full in
+    let b = waits p (x .at + q) j 0 h in
+    let last : Wrote p (writer (x .at + q) 0 0) (replicate j false) (writer (x .at + q) 0 j) p =
+    renamed p (writer (x .at + q) 0 0) (bits-zero j) (ap (λ c. writer (x .at + q) c j) (sym (zero-mod (2 ^ j))) ∙ b .0, b .1) in
+    let bytes : Wrote o x (replicate (8 * q) false) (writer (x .at + q) 0 0) p = (
+      sym (after-zeros (x .at) q) ∙ ap (λ y. after y (replicate (8 * q) false)) start,
+      w ∙ ap (λ y. write o y (replicate (8 * q) false)) start,
+    ) in
+    renamed out k (sym (zeros-two n i (8 * q + j) e ∙ ap (λ l. replicate i false ++ l) (zeros-two (8 * q + j) (8 * q) j refl)))
+    (then out k (replicate i false) (replicate (8 * q) false ++ replicate j false) (renamed out k (bits-zero i) d) (then o x (replicate (8 * q) false) (replicate j false) bytes last))

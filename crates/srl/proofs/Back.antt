@@ -1,0 +1,154 @@
+-- The round trip: what calls of `encode` and `finish` wrote is read back by calls of `decode`, however both sides split the values.
+use mathlib.Core.Path.{_≡_, refl, sym, ap, ap₂, _∙_, subst}
+use mathlib.Core.Bool.{Bool, true, false, cond}
+use mathlib.Core.List.{List, [], _∷_, _++_, append-assoc, append-nil}
+use Prim.Native.Nat.{ℕ, zero, suc, _+_, _-_, _*_, _^_, _≤_, _<_}
+use native.Mathlib.Decide.{decLt}
+use native.Mathlib.Omega.{arith}
+use borrow.Author.Tests.{ltb-true, lt-ltb, le-ltb}
+use lib.Dec.{ltb}
+use lib.IntN.{ℤ, pos, negsuc, natAbs}
+use lib.ListN.{length, drop, replicate, length-replicate, drop-of-length-le}
+use lib.Pow.{pow-pos}
+use Rattle.bits.specs.Bits.{bitsRead, placeOf, placeAt, held}
+use Rattle.bits.proofs.Holds.{Holds, pack-holds}
+use Rattle.bits.proofs.Past.{same, past, alike-held}
+use Rattle.bits.proofs.Places.{read-place}
+use Rattle.srl.specs.Srl.{Reader, reader, start, readied, nextReader, values, readerAfter}
+use Rattle.srl.specs.Decode.{startState, opened, closed, stateOk, widthOk, dueAmong, noRoom, decodeRefusal, decoded, stored, decodeAnswer, decodeOut, stateOf}
+use Rattle.srl.specs.Encode.{valueBits, valueKp, valueZeros, callBits, callKp, callZeros, callBytes, callAfter, freshWriter, valueFault, fault}
+use Rattle.srl.specs.Finish.{flush}
+use Rattle.srl.specs.Laws.{Legal, legal, Call, Ask, Accepted, streamFrom, given, widths, asked, room, readBack, RoundTrip}
+use Rattle.srl.specs.declared.SrlState.{SrlState}
+use Rattle.srl.specs.declared.SrlWriter.{SrlWriter}
+use Rattle.srl.proofs.Streamed.{allBits, stream-packed, accepted, first-none}
+use Rattle.srl.proofs.States.{after-mono, closed-ok}
+use Rattle.srl.proofs.Trip.{spelled, spelled-reads}
+use Rattle.srl.proofs.Values.{AlikeReader, alike, reader-trans, values-alike, values-append, length-values}
+
+-- ════ accepted calls ════
+
+under : (w m : ℕ) → _≡_ {A = ℕ} (cond (ltb m (2 ^ w - 1)) 0 5) 0 → suc m < 2 ^ w
+under w m = by (ltb m (2 ^ w - 1)) refl
+  where
+    by : (b : Bool) → ltb m (2 ^ w - 1) ≡ b → _≡_ {A = ℕ} (cond b 0 5) 0 → suc m < 2 ^ w
+    by true q e = let l : m < 2 ^ w - 1 = ltb-true _ _ q in omega arith
+    by false q e = absurd (omega arith)
+
+value-legal : (w z : ℕ) (v : ℤ) → valueFault w z v ≡ 0 → natAbs v < 2 ^ w
+value-legal w z (pos zero) e = pow-pos w
+value-legal w z (pos (suc m)) e = under w m e
+value-legal w z (negsuc m) e = under w m e
+
+call-legal : (w z : ℕ) (vs : List ℤ) {ws : List ℕ} {us : List ℤ} → fault w z vs ≡ 0 → Legal ws us → Legal (replicate (length vs) w ++ ws) (vs ++ us)
+call-legal w z [] e l = l
+call-legal w z (v ∷ vs) e l =
+    let f = first-none (valueFault w z v) (fault w (valueZeros z v) vs) e in
+    legal (value-legal w z v (f .0)) (call-legal w (valueZeros z v) vs (f .1) l)
+
+calls-legal : (st : SrlWriter) (cs : List Call) → Accepted st cs → Legal (widths cs) (given cs)
+calls-legal st [] a = Legal.none
+calls-legal st (c ∷ cs) a =
+    let t = accepted st (c .given) (length (callBytes (c .width) st (c .given))) (c .width) (a .0) in
+    call-legal (c .width) (st .«pending_zeros») (c .given) (t .2) (calls-legal (callAfter (c .width) st (c .given)) cs (a .1))
+
+-- ════ the bits of calls are those of their values ════
+
+call-spelled : (w kp z : ℕ) (vs : List ℤ) (ws : List ℕ) (us : List ℤ)
+    → spelled kp z (replicate (length vs) w ++ ws) (vs ++ us) ≡ callBits w kp z vs ++ spelled (callKp kp z vs) (callZeros z vs) ws us
+unfolding spelled
+call-spelled w kp z [] ws us = refl
+call-spelled w kp z (v ∷ vs) ws us =
+    ap (λ (bs : List Bool). valueBits w kp z v ++ bs) (call-spelled w (valueKp kp z v) (valueZeros z v) vs ws us)
+    ∙ sym (append-assoc (valueBits w kp z v) (callBits w (valueKp kp z v) (valueZeros z v) vs) (spelled (callKp kp z (v ∷ vs)) (callZeros z (v ∷ vs)) ws us))
+
+calls-spelled : (kp z : ℕ) (cs : List Call) → allBits kp z cs ≡ spelled kp z (widths cs) (given cs)
+unfolding spelled
+calls-spelled kp z [] = refl
+calls-spelled kp z (c ∷ cs) =
+    ap (λ (bs : List Bool). callBits (c .width) kp z (c .given) ++ bs) (calls-spelled (callKp kp z (c .given)) (callZeros z (c .given)) cs)
+    ∙ sym (call-spelled (c .width) kp z (c .given) (widths cs) (given cs))
+
+-- ════ all values, read one by one ════
+
+pub stream-reads : (cs : List Call) → Accepted freshWriter cs → values (streamFrom freshWriter cs) (widths cs) start ≡ given cs
+stream-reads cs a =
+    let s = streamFrom freshWriter cs in
+    let h : Holds s 0 (allBits 8 0 cs) = pack-holds (allBits 8 0 cs) s 0 0 0 (0 ∷ []) (omega arith) (stream-packed freshWriter cs) in
+    spelled-reads (calls-legal freshWriter cs a) s (subst (Holds s 0) (calls-spelled 8 0 cs) h)
+
+-- ════ and by calls ════
+
+-- every width is 1 to 15
+pub data Fine : List ℕ → Type 0 where
+  none : Fine []
+  fine : {w : ℕ} {ws : List ℕ} → widthOk w ≡ true → Fine ws → Fine (w ∷ ws)
+
+fine-call : (w n : ℕ) {ws : List ℕ} → widthOk w ≡ true → Fine ws → Fine (replicate n w ++ ws)
+fine-call w zero h f = f
+fine-call w (suc n) h f = fine h (fine-call w n h f)
+
+calls-fine : (st : SrlWriter) (cs : List Call) → Accepted st cs → Fine (widths cs)
+calls-fine st [] a = Fine.none
+calls-fine st (c ∷ cs) a =
+    let t = accepted st (c .given) (length (callBytes (c .width) st (c .given))) (c .width) (a .0) in
+    fine-call (c .width) (length (c .given)) (t .1) (calls-fine (callAfter (c .width) st (c .given)) cs (a .1))
+
+fine-rest : (w n : ℕ) {ws : List ℕ} → Fine (replicate n w ++ ws) → Fine ws
+fine-rest w zero f = f
+fine-rest w (suc n) (fine h f) = fine-rest w n f
+
+room-for : (n : ℕ) → noRoom n n ≡ 0
+room-for n = simp (le-ltb n n (omega arith))
+
+-- no call is refused: its width is fine, or it asks for nothing
+no-refusal : (s : List ℕ) (st : SrlState) (w n : ℕ) (ws : List ℕ) → stateOk st ≡ true → Fine (replicate n w ++ ws) → decodeRefusal s st n n w ≡ 0
+no-refusal s st w zero ws h f = simp h (by (widthOk w))
+  where
+    by : (b : Bool) → _≡_ {A = ℕ} (cond b 0 0) 0
+    by true = refl
+    by false = refl
+no-refusal s st w (suc n) ws h (fine g f) = simp (h, g) (room-for (suc n))
+
+-- what it stores
+out-is : (s : List ℕ) (st : SrlState) (a : Ask) → decodeRefusal s st (a .count) (a .count) (a .width) ≡ 0
+    → decodeOut s st (room a) (a .count) (a .width) ≡ values s (replicate (a .count) (a .width)) (opened st)
+out-is s st a e =
+    let vs = values s (replicate (a .count) (a .width)) (opened st) in
+    let l : length (room a) ≡ a .count = length-replicate (a .count) (pos 0) in
+    let n : length vs ≡ a .count = length-values s (replicate (a .count) (a .width)) (opened st) ∙ length-replicate (a .count) (a .width) in
+    ap (λ (k : ℕ). stored k vs (room a)) (ap (λ (m : ℕ). decodeRefusal s st m (a .count) (a .width)) l ∙ e)
+    ∙ ap (λ (t : List ℤ). vs ++ t) (drop-of-length-le (room a) {i = length vs} (omega (arith, l, n)))
+    ∙ append-nil vs
+
+-- a state that was handed back reads on as the reader that it was made of
+closed-alike : (s : List ℕ) (st : SrlState) (r : Reader) → opened st .read ≤ r .read → AlikeReader s (opened (closed s st r)) r
+closed-alike s st r h = by (decLt (st .reader .«byte_idx») (length s))
+  where
+    by : Dec (st .reader .«byte_idx» < length s) → AlikeReader s (opened (closed s st r)) r
+    by (yes l) =
+        let e : bitsRead (placeAt s (st .reader) (r .read)) ≡ held s (r .read) = ap bitsRead (simp (lt-ltb _ _ l)) ∙ read-place (held s (r .read)) in
+        subst (λ (n : ℕ). AlikeReader s (reader n (r .kp) (r .run) (r .pending)) r) (sym e) (alike (alike-held s (r .read)))
+    by (no l) =
+        let e : bitsRead (placeAt s (st .reader) (r .read)) ≡ bitsRead (st .reader) = ap bitsRead (simp (le-ltb (st .reader .«byte_idx») (length s) (omega arith))) in
+        subst (λ (n : ℕ). AlikeReader s (reader n (r .kp) (r .run) (r .pending)) r) (sym e) (alike (past (omega arith) (omega arith)))
+
+back-reads : (s : List ℕ) (asks : List Ask) (st : SrlState) (r : Reader) → stateOk st ≡ true → Fine (asked asks) → AlikeReader s (opened st) r → readBack s st asks ≡ values s (asked asks) r
+unfolding values
+back-reads s [] st r h f k = refl
+back-reads s (a ∷ asks) st r h f k =
+    let ws = replicate (a .count) (a .width) in
+    let e = no-refusal s st (a .width) (a .count) (asked asks) h f in
+    let v = values-alike s ws k in
+    let after = readerAfter s ws (opened st) in
+    let next : stateOf (decodeAnswer s st (a .count) (a .count) (a .width)) ≡ closed s st after = ap (λ (n : ℕ). stateOf (decoded n (a .count) (closed s st after) st)) e in
+    let ih = back-reads s asks (closed s st after) (readerAfter s ws r) (closed-ok s st ws h) (fine-rest (a .width) (a .count) f)
+    (reader-trans s (closed-alike s st after (after-mono s ws (opened st))) (v .1)) in
+    ap₂ (λ (x y : List ℤ). x ++ y) (out-is s st a e ∙ v .0) (ap (λ (t : SrlState). readBack s t asks) next ∙ ih) ∙ sym (values-append s ws (asked asks) r)
+
+pub trip : RoundTrip
+trip = record {
+  back = λ cs asks a e.
+      back-reads (streamFrom freshWriter cs) asks startState start refl (subst Fine (sym e) (calls-fine freshWriter cs a)) (alike (same refl))
+      ∙ ap (λ (ws : List ℕ). values (streamFrom freshWriter cs) ws start) e ∙ stream-reads cs a;
+}

@@ -1,0 +1,82 @@
+-- Calls of `encode` in a row, and `finish`: what they write together, and the states between them. Assumes nothing.
+use mathlib.Core.Path.{_≡_, refl, ap, sym, _∙_}
+use mathlib.Core.Bool.{Bool, true, false, cond}
+use mathlib.Core.List.{List, [], _∷_, _++_, append-assoc}
+use Prim.Native.Nat.{ℕ, zero, suc, _+_, _≤_, _<_}
+use native.Mathlib.Omega.{arith}
+use lib.Dec.{ltb}
+use lib.IntN.{ℤ, pos, negsuc}
+use lib.ListN.{length}
+use borrow.Author.Tests.{lt-ltb, le-leb, ltb-true}
+use Rattle.bits.specs.Written.{pack}
+use Rattle.bits.proofs.Puts.{after-sound}
+use Rattle.bits.proofs.Packed.{pack-append}
+use Rattle.srl.specs.Decode.{widthOk, noRoom}
+use Rattle.srl.specs.Encode.{valueKp, valueZeros, callBits, callKp, callZeros, sink, bitsFrom, callBytes, callAfter, writerOk, valueFault, firstOf, fault, encodeRefusal}
+use Rattle.srl.specs.Finish.{flush}
+use Rattle.srl.specs.Laws.{Call, streamFrom, EncoderResumes}
+use Rattle.srl.specs.declared.SrlWriter.{SrlWriter}
+use Rattle.srl.proofs.EncodedCalls.{writerOk-good}
+use Rattle.srl.proofs.EncodedValues.{value-kp}
+
+-- ════ the stream ════
+
+-- the bits of some calls in a row, from kp and the pending zeros on, with those of the end
+abbrev pub allBits : ℕ → ℕ → List Call → List Bool
+allBits kp z [] = flush kp z
+allBits kp z (c ∷ cs) = callBits (c .width) kp z (c .given) ++ allBits (callKp kp z (c .given)) (callZeros z (c .given)) cs
+
+pub stream-packed : (st : SrlWriter) (cs : List Call)
+    → streamFrom st cs ≡ pack (st .current) (st .«bit_count») (allBits (st .kp) (st .«pending_zeros») cs) ++ (0 ∷ [])
+stream-packed st [] = refl
+stream-packed st (c ∷ cs) =
+    let bs = bitsFrom (c .width) st (c .given) in
+    let next = callAfter (c .width) st (c .given) in
+    let rest = allBits (next .kp) (next .«pending_zeros») cs in
+    ap (λ l. callBytes (c .width) st (c .given) ++ l) (stream-packed next cs)
+    ∙ sym (append-assoc (callBytes (c .width) st (c .given)) (pack (next .current) (next .«bit_count») rest) (0 ∷ []))
+    ∙ ap (λ l. l ++ (0 ∷ [])) (sym (pack-append bs rest 0 (st .current) (st .«bit_count»)))
+
+-- ════ the state after an accepted call ════
+
+call-kp : (kp z : ℕ) (vs : List ℤ) → kp ≤ 80 → callKp kp z vs ≤ 80
+call-kp kp z [] h = h
+call-kp kp z (v ∷ vs) h = call-kp (valueKp kp z v) (valueZeros z v) vs (value-kp kp z v h)
+
+pub first-none : (n f : ℕ) → firstOf n f ≡ 0 → (n ≡ 0) × (f ≡ 0)
+first-none zero f e = (refl, e)
+first-none (suc n) f e = absurd (omega arith)
+
+value-small : (w z : ℕ) (v : ℤ) → z ≤ 4096 → valueFault w z v ≡ 0 → valueZeros z v ≤ 4096
+value-small w z (pos zero) h e = by (ltb z 4096) refl e
+  where
+    by : (b : Bool) → ltb z 4096 ≡ b → _≡_ {A = ℕ} (cond b 0 6) 0 → z + 1 ≤ 4096
+    by true q e = let l : z < 4096 = ltb-true _ _ q in omega arith
+    by false q e = absurd (omega arith)
+value-small w z (pos (suc m)) h e = omega arith
+value-small w z (negsuc m) h e = omega arith
+
+call-zeros : (w z : ℕ) (vs : List ℤ) → z ≤ 4096 → fault w z vs ≡ 0 → callZeros z vs ≤ 4096
+call-zeros w z [] h e = h
+call-zeros w z (v ∷ vs) h e =
+    let f = first-none (valueFault w z v) (fault w (valueZeros z v) vs) e in
+    call-zeros w (valueZeros z v) vs (value-small w z v h (f .0)) (f .1)
+
+-- an accepted call passed every test
+tests : (s q : Bool) (f n : ℕ) → _≡_ {A = ℕ} (cond s (cond q (firstOf f n) 4) 8) 0 → (s ≡ true) × (q ≡ true) × (f ≡ 0)
+tests true true f n e = (refl, refl, first-none f n e .0)
+tests true false f n e = absurd (omega arith)
+tests false q f n e = absurd (omega arith)
+
+pub accepted : (st : SrlWriter) (vs : List ℤ) (room w : ℕ) → encodeRefusal st vs room w ≡ 0
+    → (writerOk st ≡ true) × (widthOk w ≡ true) × (fault w (st .«pending_zeros») vs ≡ 0)
+accepted st vs room w e = tests (writerOk st) (widthOk w) (fault w (st .«pending_zeros») vs) (noRoom room (length (callBytes w st vs))) e
+
+pub resumes : EncoderResumes
+resumes = record {
+  again = λ st vs room w e.
+      let t = accepted st vs room w e in
+      let g = writerOk-good st (t .0) in
+      let s = after-sound (sink st) (bitsFrom w st vs) (g .0) in
+      simp (le-leb _ _ (call-kp (st .kp) (st .«pending_zeros») vs (g .1)), le-leb _ _ (s .0), le-leb _ _ (call-zeros w (st .«pending_zeros») vs (g .2) (t .2)), lt-ltb _ _ (s .1));
+}

@@ -1,0 +1,11 @@
+use mathlib.Core.Path.{refl}
+use Rattle.srl.proofs.Codes.{shut-parts}
+use borrow.Author.Needs.{needs}
+use Rattle.srl.proofs.decoder.hold.Statement.{statement}
+use Rattle.srl.proofs.decoder.hold.Tie as tie
+
+returns : tie.Need-returns
+returns c = shut-parts _ _ _ _ (c .hold .ensures) refl refl
+
+pub hold-spec : {M : Type 1} → statement M
+hold-spec = tie.close (tie.spec (λ c κs. search needs) returns)
