@@ -1,5 +1,7 @@
 //! Values to try: the limits, and random ones that depend on the seed alone.
 
+use std::ops::RangeInclusive;
+
 /// A signed number of the cases.
 pub trait Number: Copy + Ord + TryFrom<i128> {
     const BITS: u32;
@@ -46,7 +48,8 @@ impl Random {
         Self { state }
     }
 
-    fn next(&mut self) -> u64 {
+    /// Any number.
+    pub fn next(&mut self) -> u64 {
         self.state = self.state.wrapping_add(0x9E37_79B9_7F4A_7C15);
         let mut z = self.state;
         z = (z ^ (z >> 30)).wrapping_mul(0xBF58_476D_1CE4_E5B9);
@@ -57,6 +60,27 @@ impl Random {
     /// A number from 0 to `bound - 1`.
     pub fn below(&mut self, bound: u8) -> u8 {
         (self.next() % u64::from(bound)) as u8
+    }
+
+    /// Whether one of `times` chances came.
+    pub fn one_in(&mut self, times: u8) -> bool {
+        self.below(times) == 0
+    }
+
+    /// A number from `range`.
+    pub fn within(&mut self, range: RangeInclusive<usize>) -> usize {
+        let (least, most) = range.into_inner();
+        least + (self.next() % (most - least + 1) as u64) as usize
+    }
+
+    /// One of some values.
+    pub fn pick<T: Copy>(&mut self, values: &[T]) -> T {
+        values[self.within(0..=values.len() - 1)]
+    }
+
+    /// Bytes of any values.
+    pub fn bytes(&mut self, count: usize) -> Vec<u8> {
+        (0..count).map(|_| self.next() as u8).collect()
     }
 
     /// A value of one of three sorts: any of the type, any of a random number of bits, or one near

@@ -35,6 +35,11 @@ impl<'a> Recording<'a> {
         self.out.write_all(payload)
     }
 
+    /// Writes a case that is a record of its own.
+    pub fn record_case(&mut self, kind: u8, case: &Case) -> io::Result<()> {
+        self.record(kind, &case.bytes)
+    }
+
     /// Random numbers for one kind. Each kind has its own, so a new kind changes no other.
     pub fn random(&self, kind: u8) -> Random {
         Random::new(self.seed, kind)
@@ -57,6 +62,28 @@ impl<'a> Recording<'a> {
             kind,
             payload: Vec::new(),
         }
+    }
+}
+
+/// A case that is a record of its own, because cases of its kind differ in size.
+#[derive(Clone, Default)]
+pub struct Case {
+    pub bytes: Vec<u8>,
+    /// The places of the bytes that are answers.
+    pub answers: Vec<usize>,
+}
+
+impl Case {
+    /// Adds a field that is given.
+    pub fn given(&mut self, field: &[u8]) {
+        self.bytes.extend_from_slice(field);
+    }
+
+    /// Adds a field that is an answer.
+    pub fn answer(&mut self, field: &[u8]) {
+        let from = self.bytes.len();
+        self.given(field);
+        self.answers.extend(from..self.bytes.len());
     }
 }
 

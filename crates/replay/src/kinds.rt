@@ -1,7 +1,10 @@
 // The kinds of cases: how many bytes a case has, and whether the port agrees with what the Rust answered. oracle/README.md lists them.
 use crate::number;
+use crate::srl_decode;
+use crate::srl_encode;
+use crate::srl_exhaustive;
 
-// The size of a case; 0 for a kind that is not known.
+// The size of a case; 0 for a kind whose cases differ in size, or that is not known.
 pub fn case_size(kind: u8) -> usize {
     match kind {
         1 | 3 | 9 => 6,
@@ -15,8 +18,24 @@ pub fn case_size(kind: u8) -> usize {
         14 => 14,
         20 => 10,
         31 => 16,
+        34 => 12,
         _ => 0,
     }
+}
+
+// Whether a record of a kind is one case, whatever its size.
+pub fn is_one_case(kind: u8) -> bool {
+    match kind {
+        32 | 33 | 35 => true,
+        _ => false,
+    }
+}
+
+pub fn is_known(kind: u8) -> bool {
+    if is_one_case(kind) {
+        return true;
+    }
+    case_size(kind) != 0
 }
 
 // Kinds 1 and 3: thirty-two bits to sixteen.
@@ -168,6 +187,9 @@ fn same(kind: u8, c: &[u8]) -> bool {
         15 => sign_use(c),
         20 => band(c),
         21 => ll3_offset(c),
+        32 => srl_decode::agrees(c),
+        33 => srl_encode::agrees(c),
+        34 => srl_exhaustive::agrees(c),
         _ => false,
     }
 }
@@ -187,10 +209,26 @@ fn wrong_answer(c: &[u8]) -> bool {
     !same(kind, &c[from..to])
 }
 
+// The same of a kind whose cases differ in size.
+fn wrong_case(c: &[u8]) -> bool {
+    if c.len() == 0 {
+        return false;
+    }
+    let kind = c[0];
+    let from: usize = 1;
+    match kind {
+        32 | 33 => !same(kind, &c[from..]),
+        _ => false,
+    }
+}
+
 // Whether the port agrees with a case.
 pub fn agrees(kind: u8, c: &[u8]) -> bool {
     if kind == 31 {
         return wrong_answer(c);
+    }
+    if kind == 35 {
+        return wrong_case(c);
     }
     same(kind, c)
 }

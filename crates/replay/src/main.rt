@@ -5,6 +5,9 @@ use libc::STDIN_FILENO;
 mod kinds;
 mod number;
 mod report;
+mod srl_decode;
+mod srl_encode;
+mod srl_exhaustive;
 
 // What the input has at the start of a record.
 enum Found {
@@ -33,13 +36,17 @@ fn replay_case(kind: u8, case: &[u8], cases: &mut [u64; 256], differences: &mut 
     differences[k] = std::num::wrapping_add_u64(differences[k], 1);
 }
 
-// Replays the cases of a payload, which lie one after another; false where bytes are left over.
+// Replays the cases of a payload, which lie one after another unless it is one case; false where bytes are left over.
 fn replay_cases(
     kind: u8,
     payload: &[u8],
     cases: &mut [u64; 256],
     differences: &mut [u64; 256],
 ) -> bool {
+    if kinds::is_one_case(kind) {
+        replay_case(kind, payload, cases, differences);
+        return true;
+    }
     let size = kinds::case_size(kind);
     if size == 0 {
         return false;
@@ -73,8 +80,12 @@ fn replay_payload(
     replay_cases(kind, &buffer[..len], cases, differences)
 }
 
-// Reads one record and replays it.
-fn replay_record(cases: &mut [u64; 256], differences: &mut [u64; 256]) -> Found {
+// Reads one record into `buffer` and replays it.
+fn replay_record(
+    buffer: &mut [u8; 65536],
+    cases: &mut [u64; 256],
+    differences: &mut [u64; 256],
+) -> Found {
     let mut head = [0u8; 5];
     let got = io::read_full(STDIN_FILENO, &mut head);
     if got < 5 {
@@ -85,14 +96,13 @@ fn replay_record(cases: &mut [u64; 256], differences: &mut [u64; 256]) -> Found 
         return Found::End;
     }
     let len = number::u32_at(&head, 1);
-    if kinds::case_size(kind) == 0 {
+    if !kinds::is_known(kind) {
         return Found::Unknown;
     }
     if len > 65536 {
         return Found::Long;
     }
-    let mut buffer = io::large_buffer();
-    if replay_payload(kind, &mut buffer, len as usize, cases, differences) {
+    if replay_payload(kind, buffer, len as usize, cases, differences) {
         return Found::Record;
     }
     Found::Cut
@@ -101,9 +111,10 @@ fn replay_record(cases: &mut [u64; 256], differences: &mut [u64; 256]) -> Found 
 // Replays records up to the end of the input, or up to what cannot be replayed. A proved loop has to end, so it counts its turns down from
 // a number that no run uses up.
 fn replay_all(cases: &mut [u64; 256], differences: &mut [u64; 256]) -> Found {
+    let mut buffer = io::large_buffer();
     let mut turns = u64::MAX;
     while turns > 0 {
-        let found = replay_record(cases, differences);
+        let found = replay_record(&mut buffer, cases, differences);
         let Found::Record = found else {
             return found;
         };

@@ -1,5 +1,18 @@
 // Numbers in recorded bytes: little-endian, signed ones in two's complement. A byte past the end is 0.
-ghost use Prim.Native.Nat.{_+_, _^_, _<_};
+ghost use Prim.Native.Nat.{_+_, _^_, _≤_, _<_};
+
+// The place `n` bytes further on. Places from 1,048,576 on, which no record reaches, are one.
+pub fn ahead(at: usize, n: usize) -> usize
+    ensures { λ r. ⌜ r ≤ 1048576 ⌝ }
+{
+    if at >= 1048576 {
+        return 1048576;
+    }
+    if n >= 1048576 - at {
+        return 1048576;
+    }
+    at + n
+}
 
 pub fn u8_at(s: &[u8], at: usize) -> u8 {
     if at < s.len() {
@@ -24,7 +37,7 @@ pub fn u32_at(s: &[u8], at: usize) -> u32
     u16_at(s, at) as u32 + u16_at(s, at + 2) as u32 * 65536
 }
 
-fn u64_at(s: &[u8], at: usize) -> u64
+pub fn u64_at(s: &[u8], at: usize) -> u64
     requires { ⌜ at + 8 < 2 ^ 32 ⌝ }
 {
     u32_at(s, at) as u64 + u32_at(s, at + 4) as u64 * 4294967296

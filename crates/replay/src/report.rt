@@ -49,7 +49,7 @@ fn word(text: &[u8], number: u8) {
 // A kind's name: the names stand at the kinds' numbers.
 fn name(kind: u8) {
     word(
-        b"- clamp_i16 clamp_u8 t round_shift_right shift_left_clamp shift_right_floor add_scaled sub_scaled sub_clamp magnitude with_sign sign_of halves widen sign_use - - - - band ll3_offset - - - - - - - - - wrong_answer",
+        b"- clamp_i16 clamp_u8 t round_shift_right shift_left_clamp shift_right_floor add_scaled sub_scaled sub_clamp magnitude with_sign sign_of halves widen sign_use - - - - band ll3_offset - - - - - - - - - wrong_answer srl_decode srl_encode srl_exhaustive wrong_case",
         kind,
     );
 }
@@ -96,7 +96,7 @@ pub fn difference(kind: u8, number: u64, case: &[u8]) {
 // One kind's line.
 fn kind_line(kind: u8, cases: &[u64; 256], differences: &[u64; 256]) {
     let k = kind as usize;
-    if kinds::case_size(kind) == 0 {
+    if !kinds::is_known(kind) {
         return;
     }
     name(kind);

@@ -2,6 +2,7 @@
 
 mod bands;
 mod fixed;
+mod srl;
 mod wrong;
 
 use std::io;
@@ -15,6 +16,8 @@ const END: u8 = 0;
 pub fn record_all(recording: &mut Recording<'_>) -> io::Result<()> {
     fixed::record_all(recording)?;
     bands::record_all(recording)?;
+    let models = srl::record_all(recording)?;
     wrong::record_all(recording)?;
+    wrong::record_models(recording, &models)?;
     recording.record(END, &[])
 }

@@ -1,14 +1,16 @@
-//! Kind 31: cases with a wrong answer, which a comparison must not let pass.
+//! Kinds 31 and 35: cases with a wrong answer, which a comparison must not let pass.
 
 use std::io;
 
-use crate::record::{Kind, Recording};
+use crate::record::{Case, Kind, Recording};
 
 const WRONG_ANSWER: Kind = Kind {
     number: 31,
     inputs: 16,
     size: 16,
 };
+
+const WRONG_CASE: u8 = 35;
 
 /// The first case of each kind whose cases have the same size, once for each byte of its answer,
 /// with the lowest bit of that byte turned over. The kind stands before the case, zeros after it.
@@ -25,4 +27,18 @@ pub fn record_all(recording: &mut Recording<'_>) -> io::Result<()> {
         }
     }
     cases.finish()
+}
+
+/// Cases that are records of their own, each once for each byte of its answers, with the lowest bit
+/// of that byte turned over. The kind stands before the case.
+pub fn record_models(recording: &mut Recording<'_>, models: &[(u8, Case)]) -> io::Result<()> {
+    for (kind, case) in models {
+        for &place in &case.answers {
+            let mut wrong = vec![*kind];
+            wrong.extend_from_slice(&case.bytes);
+            wrong[1 + place] ^= 1;
+            recording.record(WRONG_CASE, &wrong)?;
+        }
+    }
+    Ok(())
 }

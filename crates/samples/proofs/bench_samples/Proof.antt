@@ -1,0 +1,17 @@
+-- `samples::bench_samples` meets its contract: the definitions compute. Assumes nothing.
+use mathlib.Core.Path.{refl}
+use Rattle.bits.specs.Bits.{num, zeros}
+use Rattle.srl.specs.Srl.{values}
+use Rattle.samples.specs.Samples.{BenchSamples}
+use Rattle.samples.proofs.bench_samples.Statement.{statement}
+use Rattle.samples.proofs.bench_samples.Tie as tie
+
+samples : BenchSamples
+unfolding values num zeros
+samples = record { srl-written = refl; srl-read = refl }
+
+returns : tie.Need-returns
+returns c = samples
+
+pub bench-samples-spec : {M : Type 1} → statement M
+bench-samples-spec = tie.close (tie.spec returns)

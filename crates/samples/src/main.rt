@@ -1,0 +1,154 @@
+// The bench samples: a line for each with what was asked and what came out. The tables that `bench_samples` proves come first; the other lines
+// are tried by this run alone.
+use libc::STDOUT_FILENO;
+ghost use Rattle.samples.specs.Samples.{BenchSamples};
+
+// What the definitions give for the samples of the tables.
+fn bench_samples()
+    ensures { λ _. ⌜ BenchSamples ⌝ }
+{}
+
+fn text(t: &[u8]) {
+    io::write_all(STDOUT_FILENO, t);
+}
+
+fn decimal(n: u64) {
+    io::print_decimal(STDOUT_FILENO, n);
+}
+
+// A value, after a space.
+fn value(v: i16) {
+    if fixed::is_negative(v) {
+        text(b" -");
+    } else {
+        text(b" ");
+    }
+    decimal(fixed::magnitude(v) as u64);
+}
+
+// The first values of a list.
+fn some_values(values: &[i16], count: usize) {
+    let mut i: usize = 0;
+    while i < values.len() {
+        if i == count {
+            return;
+        }
+        let v = values[i];
+        value(v);
+        i += 1;
+    }
+}
+
+// A byte, after a space.
+fn byte(b: u8) {
+    text(b" ");
+    io::print_hex(STDOUT_FILENO, b as u64, 2);
+}
+
+// The first bytes of a list.
+fn some_bytes(bytes: &[u8], count: usize) {
+    let mut i: usize = 0;
+    while i < bytes.len() {
+        if i == count {
+            return;
+        }
+        byte(bytes[i]);
+        i += 1;
+    }
+}
+
+fn refused(number: u8) {
+    text(b" refused with ");
+    decimal(number as u64);
+    text(b"\n");
+}
+
+// What comes after the values or bytes that were given.
+fn width(num_bits: u8) {
+    text(b", width ");
+    decimal(num_bits as u64);
+    text(b":");
+}
+
+// The end of a stream.
+fn show_end(state: srl::SrlWriter) {
+    let mut out = [0u8; 16];
+    match srl::finish(state, &mut out) {
+        srl::Finished::Stream(count) => {
+            some_bytes(&out, count);
+            text(b"\n");
+        }
+        srl::Finished::Refused(number, _) => refused(number),
+    }
+}
+
+// One call of `encode` from the start, and the end of the stream.
+fn show_written(values: &[i16], num_bits: u8) {
+    text(b"encode");
+    some_values(values, values.len());
+    width(num_bits);
+    let mut out = [0u8; 16];
+    match srl::encode(values, srl::SrlWriter::new(), &mut out, num_bits) {
+        srl::Encoded::Bytes(count, state) => {
+            some_bytes(&out, count);
+            show_end(state);
+        }
+        srl::Encoded::Refused(number, _) => refused(number),
+    }
+}
+
+// One call of `encode` from the start with zeros: how many bytes are whole then, and how many zeros wait.
+fn show_zeros(values: &[i16]) {
+    text(b"encode ");
+    decimal(values.len() as u64);
+    text(b" zeros");
+    width(1);
+    let mut out = [0u8; 16];
+    match srl::encode(values, srl::SrlWriter::new(), &mut out, 1) {
+        srl::Encoded::Bytes(count, state) => {
+            text(b" bytes ");
+            decimal(count as u64);
+            text(b", zeros held ");
+            decimal(state.pending_zeros as u64);
+            text(b"\n");
+        }
+        srl::Encoded::Refused(number, _) => refused(number),
+    }
+}
+
+// One call of `decode` from the start.
+fn show_read(src: &[u8], count: usize, num_bits: u8) {
+    text(b"decode");
+    some_bytes(src, src.len());
+    text(b", values ");
+    decimal(count as u64);
+    width(num_bits);
+    let mut out = [7i16; 16];
+    match srl::decode(src, srl::SrlState::new(), &mut out, count, num_bits) {
+        srl::Decoded::Values(n, _) => {
+            some_values(&out, n);
+            text(b"\n");
+        }
+        srl::Decoded::Refused(number, _) => refused(number),
+    }
+}
+
+fn main() {
+    bench_samples();
+    show_written(&[1i16], 1);
+    show_written(&[-1i16], 1);
+    show_written(&[0i16], 1);
+    show_written(&[0i16, 0], 1);
+    show_written(&[1i16], 2);
+    show_written(&[2i16], 2);
+    show_written(&[3i16], 2);
+    show_read(b"\xff", 2, 1);
+    show_read(b"", 5, 1);
+    text(b"finish, nothing written:");
+    show_end(srl::SrlWriter::new());
+    show_written(&[], 16);
+    show_read(b"", 3, 16);
+    show_read(b"\xff", 2, 16);
+    show_zeros(&[0i16; 4096]);
+    show_zeros(&[0i16; 4097]);
+}

@@ -1,0 +1,64 @@
+//! Kind 34: every stream of one byte and of two.
+
+use std::io;
+
+use oracle::srl::SrlDecoder;
+use oracle::srl::reach;
+
+use crate::record::{Kind, Recording};
+
+const SRL_EXHAUSTIVE: Kind = Kind {
+    number: 34,
+    inputs: 4,
+    size: 12,
+};
+
+const WIDTHS: [u8; 5] = [1, 2, 3, 7, 15];
+const COUNTS: [u8; 4] = [1, 3, 8, 40];
+
+/// A case is the 256 streams of one byte, or those of two with the same first byte.
+pub fn record_all(recording: &mut Recording<'_>) -> io::Result<()> {
+    let mut cases = recording.cases(SRL_EXHAUSTIVE);
+    for width in WIDTHS {
+        for count in COUNTS {
+            let digest = digest(&[], width, count);
+            cases.add(&[&[width, count, 1, 0], &digest.to_le_bytes()])?;
+            for first in 0..=255 {
+                let digest = self::digest(&[first], width, count);
+                cases.add(&[&[width, count, 2, first], &digest.to_le_bytes()])?;
+            }
+        }
+    }
+    cases.finish()
+}
+
+/// What the text decodes from the streams that begin so and have one byte more, as one number.
+fn digest(begin: &[u8], width: u8, count: u8) -> u64 {
+    let mut digest = 0;
+    for last in 0..=255 {
+        let stream = [begin, &[last]].concat();
+        let mut decoder = SrlDecoder::new(&stream).expect("every stream is one");
+        let values = decoder
+            .decode(usize::from(count), width)
+            .expect("the width is one the decoder takes");
+        for value in values {
+            let word = u64::from(value.unsigned_abs()) * 2 + u64::from(value < 0);
+            digest = mixed(digest, word);
+        }
+        let state = reach::decoder_state(&decoder);
+        digest = mixed(digest, state.byte_idx as u64);
+        digest = mixed(digest, u64::from(state.bit_idx));
+        digest = mixed(digest, u64::from(state.kp));
+        digest = mixed(digest, state.zero_run_remaining as u64);
+        digest = mixed(digest, u64::from(state.nonzero_pending));
+    }
+    digest
+}
+
+/// The digest with one word more. Two digests or two words that differ stay so: each of the three
+/// steps can be undone.
+fn mixed(digest: u64, word: u64) -> u64 {
+    let sum = digest.wrapping_add(word);
+    let spread = sum.wrapping_add(sum << 25);
+    spread ^ (spread >> 29)
+}
