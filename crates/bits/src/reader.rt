@@ -83,11 +83,13 @@ fn eight_in(src: &[u8], i: usize) -> u64
     g * 256 + byte_in(src, i + 7)
 }
 
-// The 64 bits from a byte on, near the end.
+// The 64 bits from a byte on, near the end or past it.
 fn eight_or_zero(src: &[u8], i: usize) -> u64
-    requires { ⌜ i < 2 ^ 63 ⌝ }
     ensures { λ r. ⌜ r ≡ num (now (src .entry)) (8 * i) 64 ⌝ }
 {
+    if src.len() <= i {
+        return 0;
+    }
     let mut bits: u64 = 0;
     let mut j: usize = 0;
     while j < 8 {
@@ -102,11 +104,10 @@ fn window(src: &[u8], i: usize) -> u64
     ensures { λ r. ⌜ r ≡ num (now (src .entry)) (8 * i) 64 ⌝ }
 {
     let len = src.len();
-    if len <= i {
-        return 0;
-    }
-    if 8 <= len - i {
-        return eight_in(src, i);
+    if 8 <= len {
+        if i <= len - 8 {
+            return eight_in(src, i);
+        }
     }
     eight_or_zero(src, i)
 }

@@ -3,10 +3,10 @@ use mathlib.Core.Path.{_≡_}
 use mathlib.Core.List.{List, [], _∷_, map}
 use Prim.Native.Nat.{ℕ}
 use lib.IntN.{ℤ, pos, negsuc}
-use lib.ListN.{replicate}
+use lib.ListN.{length, replicate}
 use Rattle.srl.specs.Srl.{values, start}
 use Rattle.srl.specs.Encode.{freshWriter}
-use Rattle.srl.specs.Laws.{Call, streamFrom}
+use Rattle.srl.specs.Laws.{streamFrom}
 
 -- ════ SRL, written: one call of `encode`, then `finish` ════
 
@@ -51,3 +51,5 @@ readAs s = values (s .bytes) (replicate (s .count) (s .width)) start
 pub record BenchSamples : Type 0 where
   pub srl-written : map writtenAs srlWritten ≡ map (λ s. s .bytes) srlWritten
   pub srl-read : map readAs srlRead ≡ map (λ s. s .got) srlRead
+  -- an empty stream gives zeros, as many as are asked for and at every width
+  pub srl-empty : (ws : List ℕ) → values [] ws start ≡ replicate (length ws) (pos 0)

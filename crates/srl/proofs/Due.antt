@@ -1,7 +1,7 @@
 -- Whether one of the next values is nonzero: by whole runs, and past the end.
 use mathlib.Core.Path.{_≡_, refl, sym, ap, _∙_}
 use mathlib.Core.Bool.{Bool, true, false, cond, true≢false}
-use mathlib.Core.List.{List, _∷_}
+use mathlib.Core.List.{List, [], _∷_}
 use Prim.Native.Nat.{ℕ, zero, suc, _+_, _-_, _*_, _/_, _^_, _≤_, _<_, min}
 use native.Mathlib.Omega.{arith}
 use lib.IntN.{ℤ, pos}
@@ -34,6 +34,10 @@ due-run s p kp (suc run) (suc n) h = due-run s p kp run n (omega arith) ∙ ap (
 -- what is due from a ready reader
 abbrev dueFrom : List ℕ → ℕ → Reader → Bool
 dueFrom s n r = cond (due (r .run)) true (dueAmong s (past s 0 (r .read) (r .kp) (r .run) (r .pending)) n)
+
+-- the values from a ready reader
+abbrev pub from : List ℕ → ℕ → List ℕ → Reader → List ℤ
+from s w ws r = value s w (r .read) (r .run) ∷ values s ws (past s w (r .read) (r .kp) (r .run) (r .pending))
 
 -- a code word leaves a run or a nonzero value
 pub code-ready : (s : List ℕ) (p kp : ℕ) → readied s (codeWord s p kp) ≡ codeWord s p kp
@@ -79,3 +83,14 @@ width-free s v w r (suc n) h = by (readied s r .run) h (λ t k. width-free s v w
         × (readerAfter s (replicate n v) (past s v (q .read) (q .kp) run (q .pending)) ≡ readerAfter s (replicate n w) (past s w (q .read) (q .kp) run (q .pending)))
     by zero k ih = absurd (true≢false k)
     by (suc z) k ih = let i = ih (reader (q .read) (q .kp) z (q .pending)) k in (ap (λ (l : List ℤ). pos 0 ∷ l) (i .0), i .1)
+
+-- ---- past the end every value is 0, unless a nonzero one was pending
+
+pub values-past : (s : List ℕ) (p kp run : ℕ) (ws : List ℕ) → 8 * length s ≤ p → values s ws (reader p kp run false) ≡ replicate (length ws) (pos 0)
+unfolding values
+values-past s p kp run [] h = refl
+values-past s p kp (suc run) (w ∷ ws) h = ap (λ (l : List ℤ). pos 0 ∷ l) (values-past s p kp run ws h)
+values-past s p kp zero (w ∷ ws) h =
+    ap (from s w ws) (code-zero s p kp (bit-past s p h))
+    ∙ ap (λ (z : ℕ). from s w ws (reader (p + 1) (min (kp + 4) 80) z false)) (sym (suc-ones (kp / 8)))
+    ∙ ap (λ (l : List ℤ). pos 0 ∷ l) (values-past s (p + 1) (min (kp + 4) 80) (2 ^ (kp / 8) - 1) ws (omega arith))

@@ -16,12 +16,12 @@ use Rattle.bits.specs.Bits.{bitAt, num, zeros, zerosLength}
 use Rattle.bits.specs.Written.{bitsOf}
 use Rattle.bits.proofs.Holds.{Holds, holds-append, zeros-one, zeros-all, num-holds}
 use Rattle.bits.proofs.Puts.{length-bitsOf}
-use Rattle.srl.specs.Srl.{Reader, reader, start, mostZeros, nonzero, behind, codeWord, value, past, values}
+use Rattle.srl.specs.Srl.{reader, start, mostZeros, nonzero, behind, codeWord, values}
 use Rattle.srl.specs.Encode.{stop, nonzeroBits, runBits, runKp, valueBits, valueKp, valueZeros}
 use Rattle.srl.specs.Finish.{flush}
 use Rattle.srl.specs.Laws.{Legal, legal}
 use Rattle.srl.proofs.Codes.{code-zero, code-one}
-use Rattle.srl.proofs.Due.{code-ready}
+use Rattle.srl.proofs.Due.{from, code-ready}
 
 -- ════ a nonzero value ════
 
@@ -56,8 +56,7 @@ nonzero-reads s n w m b k h =
 load : (s ws : List ℕ) (n kp : ℕ) → values s ws (reader n kp 0 false) ≡ values s ws (codeWord s n kp)
 unfolding values
 load s [] n kp = refl
-load s (w ∷ ws) n kp =
-    sym (ap (λ (r : Reader). value s w (r .read) (r .run) ∷ values s ws (past s w (r .read) (r .kp) (r .run) (r .pending))) (code-ready s n kp))
+load s (w ∷ ws) n kp = sym (ap (from s w ws) (code-ready s n kp))
 
 -- a run is given out, one zero for each width
 drain : (s zs ws : List ℕ) (n kp : ℕ) (b : Bool) → values s (zs ++ ws) (reader n kp (length zs) b) ≡ replicate (length zs) (pos 0) ++ values s ws (reader n kp 0 b)

@@ -1,14 +1,17 @@
--- `samples::bench_samples` meets its contract: the definitions compute. Assumes nothing.
+-- `samples::bench_samples` meets its contract: the definitions compute, and past the end of a stream all is 0. Assumes nothing.
 use mathlib.Core.Path.{refl}
+use mathlib.Core.List.{[]}
+use native.Mathlib.Omega.{arith}
 use Rattle.bits.specs.Bits.{num, zeros}
 use Rattle.srl.specs.Srl.{values}
+use Rattle.srl.proofs.Due.{values-past}
 use Rattle.samples.specs.Samples.{BenchSamples}
 use Rattle.samples.proofs.bench_samples.Statement.{statement}
 use Rattle.samples.proofs.bench_samples.Tie as tie
 
 samples : BenchSamples
 unfolding values num zeros
-samples = record { srl-written = refl; srl-read = refl }
+samples = record { srl-written = refl; srl-read = refl; srl-empty = λ ws. values-past [] 0 8 0 ws (omega arith) }
 
 returns : tie.Need-returns
 returns c = samples
