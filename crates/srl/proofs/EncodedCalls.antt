@@ -104,10 +104,6 @@ module _ (st : SrlWriter) (vs : List ℤ) (out : List ℕ) (w : ℕ) where
       → {r : Bool} → r ≡ ltb (length out) (length (callBytes w st vs)) → encodeRefusal st vs (length out) w ≡ cond r 7 0
   refusal-room s q e z m = refusal-rest s q (sym z ∙ e) ∙ ap (λ b. cond b 7 0) (sym m)
 
-  pub measured : GoodWriter st → {p : Measured} {r : Bool} → p ≡ measureStart st → r ≡ ltb (length out) (callCount w p vs)
-      → r ≡ ltb (length out) (length (callBytes w st vs))
-  measured g q e = e ∙ ap (λ p. ltb (length out) (callCount w p vs)) q ∙ ap (ltb (length out)) (call-count w st vs (g .0 .0))
-
   pub refused : (n : ℕ) → (n ≡ 0 → ⊥) → encodeRefusal st vs (length out) w ≡ n → (Refused n st ≡ encodeAnswer st vs (length out) w) × (out ≡ encodeOut st vs out w)
   refused n h r = (
     sym (ap (λ x. encoded x (length (callBytes w st vs)) (callAfter w st vs) st) r ∙ encoded-some n (length (callBytes w st vs)) (callAfter w st vs) st h),

@@ -4,6 +4,7 @@ pub mod EncodedValues
 pub mod Nonzeros
 pub mod Runs
 pub mod Streamed
+pub mod Sizes
 pub mod Widths
 pub mod Codes
 pub mod Values

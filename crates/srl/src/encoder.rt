@@ -9,7 +9,7 @@ ghost use lib.Seq.{sets};
 ghost use Rattle.bits.specs.Bits.{bitOf};
 ghost use Rattle.bits.specs.Written.{Sound, Room, after, write};
 ghost use Rattle.srl.specs.Inner.{Width};
-ghost use Rattle.srl.specs.Encode.{nonzeroBits, valueZeros, writerOk, valueFault, fault};
+ghost use Rattle.srl.specs.Encode.{callBytes, nonzeroBits, valueZeros, writerOk, valueFault, fault};
 ghost use Rattle.srl.specs.Finish.{flush, finishBytes};
 ghost use Rattle.srl.specs.EncodeInner.{planBits, GoodPlan, Planned, stopCount, callStart, writerOf, valueState, callState, valueWrite, callWrite, measureStart, valueMeasure, callCount, Good, GoodMeasure, GoodWriter};
 use crate::MAX_KP;
@@ -72,7 +72,7 @@ pub fn call_start(st: SrlWriter) -> CallState
     }
 }
 
-pub fn measure_start(st: SrlWriter) -> Measured
+fn measure_start(st: SrlWriter) -> Measured
     ensures { λ r. ⌜ r ≡ measureStart st ⌝ }
 {
     Measured {
@@ -227,7 +227,7 @@ pub fn measure_value(p: Measured, v: i16, num_bits: u8) -> Measured
 }
 
 // Whether the values complete more than `limit` bytes. It stops at the first value that does, so no count grows too large.
-pub fn too_many(values: &[i16], p: Measured, num_bits: u8, limit: usize) -> bool
+fn too_many(values: &[i16], p: Measured, num_bits: u8, limit: usize) -> bool
     requires { ⌜ GoodMeasure p × (p .zeros ≤ 4096) × Width «num_bits» × (p .at ≤ limit) × (limit < 2 ^ 63) ⌝ }
     ensures { λ r. ⌜ r ≡ ltb limit (callCount «num_bits» p (now (values .entry))) ⌝ }
 {
@@ -242,6 +242,29 @@ pub fn too_many(values: &[i16], p: Measured, num_bits: u8, limit: usize) -> bool
         i += 1;
     }
     false
+}
+
+// Whether so many values take less than the room, whatever they are: each takes at most 2^w + 11 bits, and a pending run 4,096.
+fn surely_fits(count: usize, num_bits: u8, room: usize) -> bool
+    requires { ⌜ Width «num_bits» ⌝ }
+    ensures { λ r. ⌜ (r ≡ true → count * (2 ^ «num_bits» + 11) + 4112 ≤ 8 * room) ⌝ }
+{
+    if 1 << 40 <= count {
+        return false;
+    }
+    let most = count * ((1usize << num_bits) + 11);
+    most / 8 + 515 <= room
+}
+
+// Whether a call completes more bytes than there is room for.
+pub fn exceeds(values: &[i16], st: SrlWriter, num_bits: u8, room: usize) -> bool
+    requires { ⌜ GoodWriter st × Width «num_bits» × (fault «num_bits» (st .«pending_zeros») (now values) ≡ 0) × (room < 2 ^ 63) ⌝ }
+    ensures { λ r. ⌜ r ≡ ltb room (length (callBytes «num_bits» st (now (values .entry)))) ⌝ }
+{
+    if surely_fits(values.len(), num_bits, room) {
+        return false;
+    }
+    too_many(values, measure_start(st), num_bits, room)
 }
 
 // ---- storing

@@ -124,7 +124,7 @@ pub fn encode(values: &[i16], state: SrlWriter, out: &mut [u8], num_bits: u8) ->
     if f != 0 {
         return Encoded::Refused(f, state);
     }
-    if encoder::too_many(values, encoder::measure_start(state), num_bits, out.len()) {
+    if encoder::exceeds(values, state, num_bits, out.len()) {
         return Encoded::Refused(7, state);
     }
     let done = encoder::put_values(values, encoder::call_start(state), out, num_bits);

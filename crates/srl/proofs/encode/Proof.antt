@@ -3,15 +3,14 @@ use mathlib.Core.Path.{_≡_, sym, ap, _∙_}
 use mathlib.Core.Bool.{true, cond}
 use Prim.Native.Nat.{_≤_}
 use native.Mathlib.Omega.{arith}
-use lib.Dec.{ltb}
 use lib.ListN.{length}
-use borrow.Author.Needs.{needs}
 use borrow.Author.Tests.{not-true, not-false, ltb-false}
 use Rattle.srl.specs.Decode.{widthOk}
 use Rattle.srl.specs.Encode.{writerOk, callBytes}
-use Rattle.srl.proofs.EncodedCalls.{writerOk-good, call-sink, refusal-state, refusal-width, refusal-rest, refusal-room, measured, refused, accepted}
+use Rattle.srl.proofs.EncodedCalls.{writerOk-good, call-sink, refusal-state, refusal-width, refusal-rest, refusal-room, refused, accepted}
 use Rattle.srl.proofs.EncodedValues.{firstOf-some}
 use Rattle.srl.proofs.Widths.{widthOk-width}
+use borrow.Author.Needs.{needs}
 use Rattle.srl.proofs.encode.Statement.{statement}
 use Rattle.srl.proofs.encode.Tie as tie
 
@@ -21,6 +20,10 @@ good c = sym (c .before .writer-ok .ensures) ∙ not-false _ (c .if1 .left)
 
 wide : (c : tie.Else2) → widthOk (c .before .before .before .before .before .args .num-bits) ≡ true
 wide c = sym (c .before .width-ok .ensures) ∙ not-false _ (c .if2 .left)
+
+-- past the fourth test the bytes fit
+fits : (c : tie.Else4) → length (callBytes (c .before .before .before .before .before .before .before .before .before .args .num-bits) (c .before .before .before .before .before .before .before .before .before .args .state) (c .before .before .before .before .before .before .before .before .before .args .values .now)) ≤ length (c .before .before .before .before .before .before .before .before .before .args .out .now)
+fits c = ltb-false _ _ (sym (c .before .exceeds .ensures) ∙ c .if4 .left)
 
 returns : tie.Need-returns
 returns c =
@@ -44,59 +47,32 @@ returns-3 c =
     refused (a .state) (a .values .now) (a .out .now) (a .num-bits) (f .result) (c .if3 .taken)
     (refusal-rest (a .state) (a .values .now) (a .out .now) (a .num-bits) (good (c .before .before .before .before)) (wide (c .before .before)) (f .ensures) ∙ firstOf-some (f .result) _ (c .if3 .taken))
 
-too-many-requires : tie.Need-too-many-requires
-too-many-requires c κs =
-    let start = c .before .before .before .before .before .before .before .before in
-    let g = writerOk-good (start .args .state) (good (c .before .before .before .before .before)) in
-    rw (c .measure-start .ensures) ((g .0 .0, g .1), g .2, widthOk-width (start .args .num-bits) (wide (c .before .before .before)), omega arith, omega (arith, start .good))
-
--- whether there are more bytes than room
-over : (c : tie.After-too-many) → c .too-many .result ≡ ltb (length (c .before .before .before .before .before .before .before .before .before .args .out .now)) (length (callBytes (c .before .before .before .before .before .before .before .before .before .args .num-bits) (c .before .before .before .before .before .before .before .before .before .args .state) (c .before .before .before .before .before .before .before .before .before .args .values .now)))
-over c =
-    let a = c .before .before .before .before .before .before .before .before .before .args in
-    measured (a .state) (a .values .now) (a .out .now) (a .num-bits) (writerOk-good (a .state) (good (c .before .before .before .before .before .before))) (c .before .measure-start .ensures) (c .too-many .ensures)
+exceeds-requires : tie.Need-exceeds-requires
+exceeds-requires c κs =
+    let k = c .before .before .before .before .before .before .before in
+    (writerOk-good (k .args .state) (good (c .before .before .before .before)), widthOk-width (k .args .num-bits) (wide (c .before .before)), sym (c .before .find-fault .ensures) ∙ c .if3 .left, omega (arith, k .good))
 
 returns-4 : tie.Need-returns-4
 returns-4 c =
-    let a = c .before .before .before .before .before .before .before .before .before .before .args in
+    let a = c .before .before .before .before .before .before .before .before .before .args in
     refused (a .state) (a .values .now) (a .out .now) (a .num-bits) 7 (λ e. omega arith)
-    (refusal-room (a .state) (a .values .now) (a .out .now) (a .num-bits) (good (c .before .before .before .before .before .before .before)) (wide (c .before .before .before .before .before)) (c .before .before .before .before .find-fault .ensures) (c .before .before .before .if3 .left) (over (c .before)) ∙ ap (λ b. cond b 7 0) (c .if4 .taken))
-
--- past the fourth test they fit
-fits : (c : tie.Else4) → length (callBytes (c .before .before .before .before .before .before .before .before .before .before .args .num-bits) (c .before .before .before .before .before .before .before .before .before .before .args .state) (c .before .before .before .before .before .before .before .before .before .before .args .values .now)) ≤ length (c .before .before .before .before .before .before .before .before .before .before .args .out .now)
-fits c = ltb-false _ _ (sym (over (c .before)) ∙ c .if4 .left)
+    (refusal-room (a .state) (a .values .now) (a .out .now) (a .num-bits) (good (c .before .before .before .before .before .before)) (wide (c .before .before .before .before)) (c .before .before .before .find-fault .ensures) (c .before .before .if3 .left) (c .before .exceeds .ensures) ∙ ap (λ b. cond b 7 0) (c .if4 .taken))
 
 put-values-requires : tie.Need-put-values-requires
 put-values-requires c κs =
-    let start = c .before .before .before .before .before .before .before .before .before .before .before .before in
-    let a = start .args in
-    let g = writerOk-good (a .state) (good (c .before .before .before .before .before .before .before .before .before)) in
+    let k = c .before .before .before .before .before .before .before .before .before .before .before in
+    let a = k .args in
+    let g = writerOk-good (a .state) (good (c .before .before .before .before .before .before .before .before)) in
     rw (c .before .call-start .ensures)
-    ((g .0, g .1), g .2, widthOk-width (a .num-bits) (wide (c .before .before .before .before .before .before .before)), omega (arith, call-sink (a .num-bits) (a .state) (a .values .now), fits (c .before .before), start .good))
+    ((g .0, g .1), g .2, widthOk-width (a .num-bits) (wide (c .before .before .before .before .before .before)), omega (arith, call-sink (a .num-bits) (a .state) (a .values .now), fits (c .before .before), k .good))
 
 returns-5 : tie.Need-returns-5
 returns-5 c =
-    let a = c .before .before .before .before .before .before .before .before .before .before .before .before .before .before .before .before .before .args in
+    let a = c .before .before .before .before .before .before .before .before .before .before .before .before .before .before .before .before .args in
     let e = c .before .before .before .before .put-values .ensures in
     accepted (a .state) (a .values .now) (a .out .now) (a .num-bits)
-    (refusal-room (a .state) (a .values .now) (a .out .now) (a .num-bits) (good (c .before .before .before .before .before .before .before .before .before .before .before .before .before .before)) (wide (c .before .before .before .before .before .before .before .before .before .before .before .before)) (c .before .before .before .before .before .before .before .before .before .before .before .find-fault .ensures) (c .before .before .before .before .before .before .before .before .before .before .if3 .left) (over (c .before .before .before .before .before .before .before .before)) ∙ ap (λ b. cond b 7 0) (c .before .before .before .before .before .before .before .if4 .left))
+    (refusal-room (a .state) (a .values .now) (a .out .now) (a .num-bits) (good (c .before .before .before .before .before .before .before .before .before .before .before .before .before)) (wide (c .before .before .before .before .before .before .before .before .before .before .before)) (c .before .before .before .before .before .before .before .before .before .before .find-fault .ensures) (c .before .before .before .before .before .before .before .before .before .if3 .left) (c .before .before .before .before .before .before .before .before .exceeds .ensures) ∙ ap (λ b. cond b 7 0) (c .before .before .before .before .before .before .before .if4 .left))
     (fits (c .before .before .before .before .before .before .before)) (c .before .before .before .before .before .before .call-start .ensures) (e .0) (e .1) (c .writer-of .ensures)
 
 pub encode-spec : {M : Type 1} → statement M
-encode-spec =
-    tie.close
-    (tie.spec
-    (λ c κs. search needs)
-    returns
-    (λ c κs. search needs)
-    returns-2
-    find-fault-requires
-    returns-3
-    (λ c κs. search needs)
-    too-many-requires
-    returns-4
-    (λ c κs. search needs)
-    put-values-requires
-    (λ c κs. search needs)
-    (λ c. search needs)
-    returns-5)
+encode-spec = tie.close (tie.spec (λ c κs. search needs) returns (λ c κs. search needs) returns-2 find-fault-requires returns-3 exceeds-requires returns-4 (λ c κs. search needs) put-values-requires (λ c κs. search needs) (λ c. search needs) returns-5)

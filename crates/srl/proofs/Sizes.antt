@@ -1,0 +1,60 @@
+-- How many bits a call takes at most: for each value 2^w + 11, and a bit for each zero that was pending.
+use mathlib.Core.Path.{_≡_, refl, sym}
+use mathlib.Core.Bool.{Bool, true, false, cond}
+use mathlib.Core.List.{List, [], _∷_, _++_}
+use Prim.Native.Nat.{ℕ, zero, suc, _+_, _-_, _*_, _^_, _≤_, _<_}
+use native.Mathlib.Nat.{mul-le-mul-left}
+use native.Mathlib.Omega.{arith}
+use borrow.Author.Tests.{ltb-true}
+use lib.Dec.{ltb}
+use lib.IntN.{ℤ, pos, negsuc}
+use lib.ListN.{length, length-append}
+use Rattle.srl.specs.Inner.{Width}
+use Rattle.srl.specs.Encode.{nonzeroBits, runBits, valueBits, valueKp, valueZeros, callBits, callBytes, valueFault, fault}
+use Rattle.srl.specs.EncodeInner.{GoodWriter}
+use Rattle.srl.specs.declared.SrlWriter.{SrlWriter}
+use Rattle.srl.proofs.EncodedCalls.{call-count}
+use Rattle.srl.proofs.EncodedValues.{value-kp}
+use Rattle.srl.proofs.Nonzeros.{nonzero-le}
+use Rattle.srl.proofs.Runs.{length-run}
+use Rattle.srl.proofs.Streamed.{first-none}
+use Rattle.srl.proofs.Widths.{pow-high}
+
+-- a nonzero value of magnitude m + 1, and the run before it
+nonzero-small : (w kp z m : ℕ) (b : Bool) → kp ≤ 80 → _≡_ {A = ℕ} (cond (ltb m (2 ^ w - 1)) 0 5) 0 → length (runBits (suc z) kp z ++ nonzeroBits w b m) ≤ z + (2 ^ w + 11)
+nonzero-small w kp z m b h = by (ltb m (2 ^ w - 1)) refl
+  where
+    by : (t : Bool) → ltb m (2 ^ w - 1) ≡ t → _≡_ {A = ℕ} (cond t 0 5) 0 → length (runBits (suc z) kp z ++ nonzeroBits w b m) ≤ z + (2 ^ w + 11)
+    by true q e =
+        let l : m < 2 ^ w - 1 = ltb-true _ _ q in
+        let n : m + 1 - 1 ≡ m = omega arith in
+        omega (arith, length-append (runBits (suc z) kp z) (nonzeroBits w b m), length-run (suc z) kp z h, rw n at (nonzero-le w (m + 1) b (omega arith)))
+    by false q e = absurd (omega arith)
+
+value-small : (w kp z : ℕ) (v : ℤ) → kp ≤ 80 → valueFault w z v ≡ 0 → length (valueBits w kp z v) + valueZeros z v ≤ z + (2 ^ w + 11)
+value-small w kp z (pos zero) h e = omega arith
+value-small w kp z (pos (suc m)) h e = omega (arith, nonzero-small w kp z m false h e)
+value-small w kp z (negsuc m) h e = omega (arith, nonzero-small w kp z m true h e)
+
+call-small : (w kp z : ℕ) (vs : List ℤ) → kp ≤ 80 → fault w z vs ≡ 0 → length (callBits w kp z vs) ≤ z + length vs * (2 ^ w + 11)
+call-small w kp z [] h e = omega arith
+call-small w kp z (v ∷ vs) h e =
+    let f = first-none (valueFault w z v) (fault w (valueZeros z v) vs) e in
+    omega (
+      arith,
+      length-append (valueBits w kp z v) (callBits w (valueKp kp z v) (valueZeros z v) vs),
+      value-small w kp z v h (f .0),
+      call-small w (valueKp kp z v) (valueZeros z v) vs (value-kp kp z v h) (f .1),
+    )
+
+-- where the room is more than that, the bytes fit
+pub surely : (w : ℕ) (st : SrlWriter) (vs : List ℤ) (room : ℕ) → GoodWriter st → fault w (st .«pending_zeros») vs ≡ 0
+    → length vs * (2 ^ w + 11) + 4112 ≤ 8 * room → length (callBytes w st vs) ≤ room
+surely w st vs room g e h =
+    omega (arith, sym (call-count w st vs (g .0 .0)), call-small w (st .kp) (st .«pending_zeros») vs (g .1) e, g .0 .0, g .2)
+
+-- fewer than 2^40 values at any width are far from what a count can hold
+pub most-fits : (n w : ℕ) → Width w → n < 2 ^ 40 → n * (2 ^ w + 11) < 2 ^ 60
+most-fits n w h l =
+    let p : 2 ^ w + 11 ≤ 65536 = omega (arith, pow-high w h) in
+    omega (arith, mul-le-mul-left n p)
