@@ -1,17 +1,17 @@
--- How many bits a call takes at most: for each value 2^w + 11, and a bit for each zero that was pending.
-use mathlib.Core.Path.{_≡_, refl, sym}
+-- How large the values of a call are, and how many bits they take at most: for each value 2^w + 11, and a bit for each zero that was pending.
+use mathlib.Core.Path.{_≡_, refl, sym, ap, _∙_}
 use mathlib.Core.Bool.{Bool, true, false, cond}
 use mathlib.Core.List.{List, [], _∷_, _++_}
 use Prim.Native.Nat.{ℕ, zero, suc, _+_, _-_, _*_, _^_, _≤_, _<_}
 use native.Mathlib.Nat.{mul-le-mul-left}
 use native.Mathlib.Omega.{arith}
-use borrow.Author.Tests.{ltb-true}
+use borrow.Author.Tests.{ltb-true, lt-ltb}
 use lib.Dec.{ltb}
 use lib.IntN.{ℤ, pos, negsuc}
 use lib.ListN.{length, length-append}
 use Rattle.srl.specs.Inner.{Width}
-use Rattle.srl.specs.Encode.{nonzeroBits, runBits, valueBits, valueKp, valueZeros, callBits, callBytes, valueFault, fault}
-use Rattle.srl.specs.EncodeInner.{GoodWriter}
+use Rattle.srl.specs.Encode.{nonzeroBits, runBits, valueBits, valueKp, valueZeros, callBits, callBytes, valueFault, firstOf, fault}
+use Rattle.srl.specs.EncodeInner.{largest, GoodWriter}
 use Rattle.srl.specs.declared.SrlWriter.{SrlWriter}
 use Rattle.srl.proofs.EncodedCalls.{call-count}
 use Rattle.srl.proofs.EncodedValues.{value-kp}
@@ -58,3 +58,16 @@ pub most-fits : (n w : ℕ) → Width w → n < 2 ^ 40 → n * (2 ^ w + 11) < 2 
 most-fits n w h l =
     let p : 2 ^ w + 11 ≤ 65536 = omega (arith, pow-high w h) in
     omega (arith, mul-le-mul-left n p)
+
+-- ════ values that none is refused of ════
+
+small-nonzero : (w m : ℕ) → m < 2 ^ w - 1 → _≡_ {A = ℕ} (cond (ltb m (2 ^ w - 1)) 0 5) 0
+small-nonzero w m h = simp (lt-ltb m (2 ^ w - 1) h)
+
+-- too few for a run that is too long, and none too large
+pub no-fault : (w z : ℕ) (vs : List ℤ) → z + length vs ≤ 4096 → largest vs ≤ 2 ^ w - 1 → fault w z vs ≡ 0
+no-fault w z [] h l = refl
+no-fault w z (pos zero ∷ vs) h l =
+    ap (λ (f : ℕ). firstOf f (fault w (z + 1) vs)) {x = cond (ltb z 4096) 0 6} {y = 0} (simp (lt-ltb z 4096 (omega arith))) ∙ no-fault w (z + 1) vs (omega arith) (omega arith)
+no-fault w z (pos (suc m) ∷ vs) h l = ap (λ (f : ℕ). firstOf f (fault w 0 vs)) (small-nonzero w m (omega arith)) ∙ no-fault w 0 vs (omega arith) (omega arith)
+no-fault w z (negsuc m ∷ vs) h l = ap (λ (f : ℕ). firstOf f (fault w 0 vs)) (small-nonzero w m (omega arith)) ∙ no-fault w 0 vs (omega arith) (omega arith)

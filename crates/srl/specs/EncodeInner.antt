@@ -1,10 +1,10 @@
 -- What the inner functions of the encoder ask and promise.
 use mathlib.Core.Path.{_≡_}
 use mathlib.Core.Bool.{Bool, true, false, cond}
-use mathlib.Core.List.{List, _∷_, _++_}
-use Prim.Native.Nat.{ℕ, suc, _-_, _/_, _^_, _≤_, _<_}
+use mathlib.Core.List.{List, [], _∷_, _++_}
+use Prim.Native.Nat.{ℕ, suc, _-_, _/_, _^_, _≤_, _<_, max}
 use lib.Dec.{ltb}
-use lib.IntN.{ℤ}
+use lib.IntN.{ℤ, natAbs}
 use lib.ListN.{length, replicate}
 use Rattle.bits.specs.Written.{bitsOf, Sound, after, write, counted}
 use Rattle.bits.specs.declared.writer.BitCount.{BitCount}
@@ -13,6 +13,11 @@ use Rattle.srl.specs.declared.SrlWriter.{SrlWriter}
 use Rattle.srl.specs.declared.encoder.RunPlan.{RunPlan}
 use Rattle.srl.specs.declared.encoder.CallState.{CallState}
 use Rattle.srl.specs.declared.encoder.Measured.{Measured}
+
+-- the largest magnitude
+abbrev pub largest : List ℤ → ℕ
+largest [] = 0
+largest (v ∷ vs) = max (natAbs v) (largest vs)
 
 -- ════ runs and nonzero values ════
 

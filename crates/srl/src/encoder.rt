@@ -2,7 +2,7 @@
 ghost use mathlib.Core.Path.{_≡_};
 ghost use mathlib.Core.Bool.{true};
 ghost use mathlib.Core.List.{_++_};
-ghost use Prim.Native.Nat.{_+_, _-_, _*_, _/_, _^_, _≤_, _<_};
+ghost use Prim.Native.Nat.{_+_, _-_, _*_, _/_, _^_, _≤_, _<_, max};
 ghost use lib.Dec.{ltb};
 ghost use lib.ListN.{length};
 ghost use lib.Seq.{sets};
@@ -11,7 +11,7 @@ ghost use Rattle.bits.specs.Written.{Sound, Room, after, write};
 ghost use Rattle.srl.specs.Inner.{Width};
 ghost use Rattle.srl.specs.Encode.{callBytes, nonzeroBits, valueZeros, writerOk, valueFault, fault};
 ghost use Rattle.srl.specs.Finish.{flush, finishBytes};
-ghost use Rattle.srl.specs.EncodeInner.{planBits, GoodPlan, Planned, stopCount, callStart, writerOf, valueState, callState, valueWrite, callWrite, measureStart, valueMeasure, callCount, Good, GoodMeasure, GoodWriter};
+ghost use Rattle.srl.specs.EncodeInner.{largest, planBits, GoodPlan, Planned, stopCount, callStart, writerOf, valueState, callState, valueWrite, callWrite, measureStart, valueMeasure, callCount, Good, GoodMeasure, GoodWriter};
 use crate::MAX_KP;
 use crate::MAX_ZERO_RUN;
 use crate::SrlWriter;
@@ -128,8 +128,8 @@ pub fn zeros_after(zeros: usize, v: i16) -> usize
     0
 }
 
-// The refusal that the values cause, or 0.
-pub fn find_fault(values: &[i16], zeros: usize, num_bits: u8) -> u8
+// The first refusal that a value causes, or 0.
+fn find_fault(values: &[i16], zeros: usize, num_bits: u8) -> u8
     requires { ⌜ Width «num_bits» × (zeros ≤ 4096) ⌝ }
     ensures { λ r. ⌜ r ≡ fault «num_bits» zeros (now (values .entry)) ⌝ }
 {
@@ -145,6 +145,38 @@ pub fn find_fault(values: &[i16], zeros: usize, num_bits: u8) -> u8
         i += 1;
     }
     0
+}
+
+fn larger(a: u16, b: u16) -> u16
+    ensures { λ r. ⌜ r ≡ max a b ⌝ }
+{
+    if a < b { b } else { a }
+}
+
+// The largest magnitude, in a pass without branches, which the compiler does several values at a time.
+fn largest_magnitude(values: &[i16]) -> u16
+    ensures { λ r. ⌜ r ≡ largest (now (values .entry)) ⌝ }
+{
+    let mut most: u16 = 0;
+    let mut i: usize = 0;
+    while i < values.len() {
+        most = larger(most, fixed::magnitude(values[i]));
+        i += 1;
+    }
+    most
+}
+
+// The refusal that the values cause, or 0. Too few for a run that is too long, and none too large: that is soon seen.
+pub fn values_fault(values: &[i16], zeros: usize, num_bits: u8) -> u8
+    requires { ⌜ Width «num_bits» × (zeros ≤ 4096) ⌝ }
+    ensures { λ r. ⌜ r ≡ fault «num_bits» zeros (now (values .entry)) ⌝ }
+{
+    if zeros + values.len() <= MAX_ZERO_RUN {
+        if largest_magnitude(values) <= rules::max_magnitude(num_bits) {
+            return 0;
+        }
+    }
+    find_fault(values, zeros, num_bits)
 }
 
 // ---- measuring: nothing is stored

@@ -120,7 +120,7 @@ pub fn encode(values: &[i16], state: SrlWriter, out: &mut [u8], num_bits: u8) ->
     if !rules::width_ok(num_bits) {
         return Encoded::Refused(4, state);
     }
-    let f = encoder::find_fault(values, state.pending_zeros, num_bits);
+    let f = encoder::values_fault(values, state.pending_zeros, num_bits);
     if f != 0 {
         return Encoded::Refused(f, state);
     }

@@ -37,26 +37,26 @@ returns-2 c =
     refused (a .state) (a .values .now) (a .out .now) (a .num-bits) 4 (λ e. omega arith)
     (refusal-width (a .state) (a .values .now) (a .out .now) (a .num-bits) (good (c .before .before)) (sym (c .before .width-ok .ensures) ∙ not-true _ (c .if2 .taken)))
 
-find-fault-requires : tie.Need-find-fault-requires
-find-fault-requires c κs = (widthOk-width (c .before .before .before .before .before .args .num-bits) (wide c), writerOk-good (c .before .before .before .before .before .args .state) (good (c .before .before)) .2)
+values-fault-requires : tie.Need-values-fault-requires
+values-fault-requires c κs = (widthOk-width (c .before .before .before .before .before .args .num-bits) (wide c), writerOk-good (c .before .before .before .before .before .args .state) (good (c .before .before)) .2)
 
 returns-3 : tie.Need-returns-3
 returns-3 c =
     let a = c .before .before .before .before .before .before .before .args in
-    let f = c .before .find-fault in
+    let f = c .before .values-fault in
     refused (a .state) (a .values .now) (a .out .now) (a .num-bits) (f .result) (c .if3 .taken)
     (refusal-rest (a .state) (a .values .now) (a .out .now) (a .num-bits) (good (c .before .before .before .before)) (wide (c .before .before)) (f .ensures) ∙ firstOf-some (f .result) _ (c .if3 .taken))
 
 exceeds-requires : tie.Need-exceeds-requires
 exceeds-requires c κs =
     let k = c .before .before .before .before .before .before .before in
-    (writerOk-good (k .args .state) (good (c .before .before .before .before)), widthOk-width (k .args .num-bits) (wide (c .before .before)), sym (c .before .find-fault .ensures) ∙ c .if3 .left, omega (arith, k .good))
+    (writerOk-good (k .args .state) (good (c .before .before .before .before)), widthOk-width (k .args .num-bits) (wide (c .before .before)), sym (c .before .values-fault .ensures) ∙ c .if3 .left, omega (arith, k .good))
 
 returns-4 : tie.Need-returns-4
 returns-4 c =
     let a = c .before .before .before .before .before .before .before .before .before .args in
     refused (a .state) (a .values .now) (a .out .now) (a .num-bits) 7 (λ e. omega arith)
-    (refusal-room (a .state) (a .values .now) (a .out .now) (a .num-bits) (good (c .before .before .before .before .before .before)) (wide (c .before .before .before .before)) (c .before .before .before .find-fault .ensures) (c .before .before .if3 .left) (c .before .exceeds .ensures) ∙ ap (λ b. cond b 7 0) (c .if4 .taken))
+    (refusal-room (a .state) (a .values .now) (a .out .now) (a .num-bits) (good (c .before .before .before .before .before .before)) (wide (c .before .before .before .before)) (c .before .before .before .values-fault .ensures) (c .before .before .if3 .left) (c .before .exceeds .ensures) ∙ ap (λ b. cond b 7 0) (c .if4 .taken))
 
 put-values-requires : tie.Need-put-values-requires
 put-values-requires c κs =
@@ -71,8 +71,8 @@ returns-5 c =
     let a = c .before .before .before .before .before .before .before .before .before .before .before .before .before .before .before .before .args in
     let e = c .before .before .before .before .put-values .ensures in
     accepted (a .state) (a .values .now) (a .out .now) (a .num-bits)
-    (refusal-room (a .state) (a .values .now) (a .out .now) (a .num-bits) (good (c .before .before .before .before .before .before .before .before .before .before .before .before .before)) (wide (c .before .before .before .before .before .before .before .before .before .before .before)) (c .before .before .before .before .before .before .before .before .before .before .find-fault .ensures) (c .before .before .before .before .before .before .before .before .before .if3 .left) (c .before .before .before .before .before .before .before .before .exceeds .ensures) ∙ ap (λ b. cond b 7 0) (c .before .before .before .before .before .before .before .if4 .left))
+    (refusal-room (a .state) (a .values .now) (a .out .now) (a .num-bits) (good (c .before .before .before .before .before .before .before .before .before .before .before .before .before)) (wide (c .before .before .before .before .before .before .before .before .before .before .before)) (c .before .before .before .before .before .before .before .before .before .before .values-fault .ensures) (c .before .before .before .before .before .before .before .before .before .if3 .left) (c .before .before .before .before .before .before .before .before .exceeds .ensures) ∙ ap (λ b. cond b 7 0) (c .before .before .before .before .before .before .before .if4 .left))
     (fits (c .before .before .before .before .before .before .before)) (c .before .before .before .before .before .before .call-start .ensures) (e .0) (e .1) (c .writer-of .ensures)
 
 pub encode-spec : {M : Type 1} → statement M
-encode-spec = tie.close (tie.spec (λ c κs. search needs) returns (λ c κs. search needs) returns-2 find-fault-requires returns-3 exceeds-requires returns-4 (λ c κs. search needs) put-values-requires (λ c κs. search needs) (λ c. search needs) returns-5)
+encode-spec = tie.close (tie.spec (λ c κs. search needs) returns (λ c κs. search needs) returns-2 values-fault-requires returns-3 exceeds-requires returns-4 (λ c κs. search needs) put-values-requires (λ c κs. search needs) (λ c. search needs) returns-5)
