@@ -5,6 +5,7 @@ pub mod Nonzeros
 pub mod Runs
 pub mod Streamed
 pub mod Sizes
+pub mod Kept
 pub mod Widths
 pub mod Codes
 pub mod Values

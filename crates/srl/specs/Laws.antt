@@ -2,15 +2,16 @@
 use mathlib.Core.Path.{_≡_}
 use mathlib.Core.Bool.{true}
 use mathlib.Core.List.{List, [], _∷_, _++_}
-use Prim.Native.Nat.{ℕ, _^_, _<_}
+use Prim.Native.Nat.{ℕ, suc, _^_, _<_}
 use lib.IntN.{ℤ, pos, natAbs}
 use lib.ListN.{length, replicate}
 use Rattle.srl.specs.Srl.{Reader, values}
-use Rattle.srl.specs.Decode.{startState, stateOk, decodeAnswer, decodeOut, stateOf}
-use Rattle.srl.specs.Encode.{freshWriter, writerOk, callBytes, callAfter, encodeRefusal}
-use Rattle.srl.specs.Finish.{finishBytes}
+use Rattle.srl.specs.Decode.{startState, stateOk, decodeRefusal, decodeAnswer, decodeOut, numberOf, valueCount, stateOf}
+use Rattle.srl.specs.Encode.{freshWriter, writerOk, callBytes, callAfter, encodeRefusal, encodeAnswer, encodeOut, encodedNumber, encodedCount, encodedState}
+use Rattle.srl.specs.Finish.{finishBytes, finishRefusal, finishAnswer, finishOut, finishedNumber, finishedCount}
 use Rattle.srl.specs.declared.SrlState.{SrlState}
 use Rattle.srl.specs.declared.SrlWriter.{SrlWriter}
+use Rattle.srl.specs.declared.Finished.the-variants.{Refused}
 
 -- ════ magnitudes ════
 
@@ -86,3 +87,17 @@ pub record DecoderResumes : Type 0 where
 
 pub record EncoderResumes : Type 0 where
   pub again : (st : SrlWriter) (vs : List ℤ) (room w : ℕ) → encodeRefusal st vs room w ≡ 0 → writerOk (callAfter w st vs) ≡ true
+
+-- ════ refusals ════
+
+-- "a refusal gives its number, zero lengths and counts, and the state handed in, and alters no lent element"
+pub record Refusals : Type 0 where
+  pub decode-number : (s : List ℕ) (st : SrlState) (room n w : ℕ) → numberOf (decodeAnswer s st room n w) ≡ decodeRefusal s st room n w
+  pub decode-kept : (s : List ℕ) (st : SrlState) (out : List ℤ) (n w k : ℕ) → decodeRefusal s st (length out) n w ≡ suc k
+      → (valueCount (decodeAnswer s st (length out) n w) ≡ 0) × (stateOf (decodeAnswer s st (length out) n w) ≡ st) × (decodeOut s st out n w ≡ out)
+  pub encode-number : (st : SrlWriter) (vs : List ℤ) (room w : ℕ) → encodedNumber (encodeAnswer st vs room w) ≡ encodeRefusal st vs room w
+  pub encode-kept : (st : SrlWriter) (vs : List ℤ) (out : List ℕ) (w k : ℕ) → encodeRefusal st vs (length out) w ≡ suc k
+      → (encodedCount (encodeAnswer st vs (length out) w) ≡ 0) × (encodedState (encodeAnswer st vs (length out) w) ≡ st) × (encodeOut st vs out w ≡ out)
+  pub finish-number : (st : SrlWriter) (room : ℕ) → finishedNumber (finishAnswer st room) ≡ finishRefusal st room
+  pub finish-kept : (st : SrlWriter) (out : List ℕ) (k : ℕ) → finishRefusal st (length out) ≡ suc k
+      → (finishedCount (finishAnswer st (length out)) ≡ 0) × (finishAnswer st (length out) ≡ Refused (suc k) st) × (finishOut st out ≡ out)

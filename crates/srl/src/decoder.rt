@@ -129,7 +129,7 @@ fn next_value(src: &[u8], st: SrlState, num_bits: u8) -> NextRead
 // ---- a call
 
 // The state with its place held at the stream's end.
-pub fn hold(src: &[u8], st: SrlState) -> SrlState
+fn hold(src: &[u8], st: SrlState) -> SrlState
     requires { ⌜ st .reader .«bit_idx» ≤ 7 ⌝ }
     ensures { λ r. ⌜ r ≡ shut (heldReader (now (src .entry)) (opened st)) ⌝ }
 {
@@ -143,7 +143,7 @@ pub fn hold(src: &[u8], st: SrlState) -> SrlState
 }
 
 // Stores the next `num_values` values at the front of `out`.
-pub fn store_values(
+fn store_values(
     src: &[u8],
     st: SrlState,
     out: &mut [i16],
@@ -167,7 +167,7 @@ pub fn store_values(
 }
 
 // The state that goes back to the caller: a place that was handed in at or past the end stays as it is.
-pub fn hand_back(src: &[u8], st: SrlState, done: SrlState) -> SrlState
+fn hand_back(src: &[u8], st: SrlState, done: SrlState) -> SrlState
     ensures { λ r. ⌜ r ≡ handed (now (src .entry)) st done ⌝ }
 {
     let reader = st.reader;

@@ -7,16 +7,18 @@ ghost use lib.ListN.{length};
 ghost use Rattle.srl.specs.Decode.{startState, decodeAnswer, decodeOut};
 ghost use Rattle.srl.specs.Encode.{freshWriter, encodeAnswer, encodeOut};
 ghost use Rattle.srl.specs.Finish.{finishAnswer, finishOut};
-ghost use Rattle.srl.specs.Laws.{DecodedMagnitudes, RoundTrip, DecoderResumes, EncoderResumes};
+ghost use Rattle.srl.specs.Laws.{Refusals, DecodedMagnitudes, RoundTrip, DecoderResumes, EncoderResumes};
 
 mod decoder;
 mod encoder;
 mod rules;
 
-// kp at the start of a stream, and the most that it can be.
+// kp at the start of a stream.
 pub const INITIAL_KP: u8 = 8;
 
+// The most that kp can be.
 pub const MAX_KP: u8 = 80;
+
 // The most zeros that an encoder keeps pending.
 pub const MAX_ZERO_RUN: usize = 4096;
 
@@ -148,6 +150,11 @@ pub fn finish(state: SrlWriter, out: &mut [u8]) -> Finished
 }
 
 // ---- laws: each is what its function ensures
+
+// A refused call gives the refusal's number, no count and the state handed in, and leaves the output as it was.
+pub fn refusals()
+    ensures { λ _. ⌜ Refusals ⌝ }
+{}
 
 // Whatever the stream holds, a decoded value is 0 or has a magnitude of 1 to 2^w - 1, where w is its width.
 pub fn decoded_magnitudes()

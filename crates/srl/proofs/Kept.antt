@@ -1,0 +1,47 @@
+-- A refusal gives its number, no count and the state handed in, and leaves the output as it was: by the number that the definitions go by.
+use mathlib.Core.Path.{_≡_, refl, ap}
+use Prim.Native.Nat.{ℕ, zero, suc}
+use lib.ListN.{length, replicate}
+use Rattle.srl.specs.Srl.{values, readerAfter}
+use Rattle.srl.specs.Decode.{opened, closed, decodeRefusal, decoded, stored, numberOf, valueCount, stateOf}
+use Rattle.srl.specs.Encode.{callBytes, callAfter, encodeRefusal, encoded, encodedNumber, encodedCount, encodedState}
+use Rattle.srl.specs.Finish.{finishBytes, finishRefusal, finished, finishedNumber, finishedCount}
+use Rattle.srl.specs.Laws.{Refusals}
+use Rattle.srl.specs.declared.SrlState.{SrlState}
+use Rattle.srl.specs.declared.SrlWriter.{SrlWriter}
+
+-- the number of the case that a number stands for
+decoded-number : (k n : ℕ) (next st : SrlState) → numberOf (decoded k n next st) ≡ k
+decoded-number zero n next st = refl
+decoded-number (suc k) n next st = refl
+
+encoded-number : (k n : ℕ) (next st : SrlWriter) → encodedNumber (encoded k n next st) ≡ k
+encoded-number zero n next st = refl
+encoded-number (suc k) n next st = refl
+
+finished-number : (k n : ℕ) (st : SrlWriter) → finishedNumber (finished k n st) ≡ k
+finished-number zero n st = refl
+finished-number (suc k) n st = refl
+
+pub kept : Refusals
+kept = record {
+  decode-number = λ s st room n w. decoded-number (decodeRefusal s st room n w) n (closed s st (readerAfter s (replicate n w) (opened st))) st;
+  decode-kept = λ s st out n w k e.
+      let next = closed s st (readerAfter s (replicate n w) (opened st)) in (
+        ap (λ (r : ℕ). valueCount (decoded r n next st)) e,
+        ap (λ (r : ℕ). stateOf (decoded r n next st)) e,
+        ap (λ (r : ℕ). stored r (values s (replicate n w) (opened st)) out) e,
+      );
+  encode-number = λ st vs room w. encoded-number (encodeRefusal st vs room w) (length (callBytes w st vs)) (callAfter w st vs) st;
+  encode-kept = λ st vs out w k e. (
+    ap (λ (r : ℕ). encodedCount (encoded r (length (callBytes w st vs)) (callAfter w st vs) st)) e,
+    ap (λ (r : ℕ). encodedState (encoded r (length (callBytes w st vs)) (callAfter w st vs) st)) e,
+    ap (λ (r : ℕ). stored r (callBytes w st vs) out) e,
+  );
+  finish-number = λ st room. finished-number (finishRefusal st room) (length (finishBytes st)) st;
+  finish-kept = λ st out k e. (
+    ap (λ (r : ℕ). finishedCount (finished r (length (finishBytes st)) st)) e,
+    ap (λ (r : ℕ). finished r (length (finishBytes st)) st) e,
+    ap (λ (r : ℕ). stored r (finishBytes st) out) e,
+  );
+}
