@@ -40,7 +40,7 @@ abbrev pub due : ℕ → Bool
 due zero = true
 due (suc run) = false
 
--- "where a nonzero value is due": one of the next n values is
+-- "where a nonzero value is due": one of the next n values is. A zero is passed alike at every width, so the 0 here says nothing
 abbrev pub dueAmong : List ℕ → Reader → ℕ → Bool
 dueAmong s r zero = false
 dueAmong s r (suc n) = cond (due (readied s r .run)) true (dueAmong s (nextReader s 0 r) n)

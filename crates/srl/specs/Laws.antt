@@ -86,6 +86,7 @@ pub record DecoderResumes : Type 0 where
   pub again : (s : List ℕ) (st : SrlState) (room n w : ℕ) → stateOk st ≡ true → stateOk (stateOf (decodeAnswer s st room n w)) ≡ true
 
 pub record EncoderResumes : Type 0 where
+  -- and so is a state that `encode` hands back with bytes
   pub again : (st : SrlWriter) (vs : List ℤ) (room w : ℕ) → encodeRefusal st vs room w ≡ 0 → writerOk (callAfter w st vs) ≡ true
 
 -- ════ refusals ════
