@@ -5,8 +5,7 @@ use mathlib.Core.List.{List, [], _∷_, _++_, append-assoc, append-nil}
 use Prim.Native.Nat.{ℕ, zero, suc, _+_, _-_, _^_, _≤_, _<_}
 use native.Mathlib.Decide.{decLt}
 use native.Mathlib.Omega.{arith}
-use borrow.Author.Tests.{ltb-true, lt-ltb, le-ltb}
-use lib.Dec.{ltb}
+use borrow.Author.Tests.{lt-ltb, le-ltb}
 use lib.IntN.{ℤ, pos, negsuc, natAbs}
 use lib.ListN.{length, replicate, length-replicate, drop-of-length-le}
 use lib.Pow.{pow-pos}
@@ -20,24 +19,18 @@ use Rattle.srl.specs.Encode.{valueBits, valueKp, valueZeros, callBits, c
 use Rattle.srl.specs.Laws.{Legal, legal, Call, Ask, Accepted, streamFrom, given, widths, asked, room, readBack, RoundTrip}
 use Rattle.srl.specs.declared.SrlState.{SrlState}
 use Rattle.srl.specs.declared.SrlWriter.{SrlWriter}
-use Rattle.srl.proofs.Streamed.{allBits, stream-packed, accepted, first-none}
+use Rattle.srl.proofs.EncodedValues.{first-none, passes}
+use Rattle.srl.proofs.Streamed.{allBits, stream-packed, accepted}
 use Rattle.srl.proofs.States.{after-mono, closed-ok}
 use Rattle.srl.proofs.Trip.{spelled, spelled-reads}
 use Rattle.srl.proofs.Values.{AlikeReader, alike, reader-trans, values-alike, values-append, length-values}
 
 -- ════ accepted calls ════
 
-under : (w m : ℕ) → _≡_ {A = ℕ} (cond (ltb m (2 ^ w - 1)) 0 5) 0 → suc m < 2 ^ w
-under w m = by (ltb m (2 ^ w - 1)) refl
-  where
-    by : (b : Bool) → ltb m (2 ^ w - 1) ≡ b → _≡_ {A = ℕ} (cond b 0 5) 0 → suc m < 2 ^ w
-    by true q e = let l : m < 2 ^ w - 1 = ltb-true _ _ q in omega arith
-    by false q e = absurd (omega arith)
-
 value-legal : (w z : ℕ) (v : ℤ) → valueFault w z v ≡ 0 → natAbs v < 2 ^ w
 value-legal w z (pos zero) e = pow-pos w
-value-legal w z (pos (suc m)) e = under w m e
-value-legal w z (negsuc m) e = under w m e
+value-legal w z (pos (suc m)) e = omega (arith, passes m (2 ^ w - 1) 4 e)
+value-legal w z (negsuc m) e = omega (arith, passes m (2 ^ w - 1) 4 e)
 
 call-legal : (w z : ℕ) (vs : List ℤ) {ws : List ℕ} {us : List ℤ} → fault w z vs ≡ 0 → Legal ws us → Legal (replicate (length vs) w ++ ws) (vs ++ us)
 call-legal w z [] e l = l

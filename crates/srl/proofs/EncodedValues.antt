@@ -1,12 +1,12 @@
 -- Laws of a value that the encoder is given: its bits, what it leaves, its refusal. Assumes nothing.
 use mathlib.Core.Path.{_≡_, refl, ap, sym, _∙_}
-use mathlib.Core.Bool.{true, cond}
+use mathlib.Core.Bool.{Bool, true, false, cond}
 use mathlib.Core.List.{_++_}
 use Prim.Native.Nat.{ℕ, zero, suc, _+_, _-_, _^_, _≤_, _<_}
 use native.Mathlib.Omega.{arith}
 use lib.Dec.{ltb}
 use lib.IntN.{ℤ, pos, negsuc, natAbs}
-use borrow.Author.Tests.{lt-ltb, le-ltb}
+use borrow.Author.Tests.{lt-ltb, le-ltb, ltb-true}
 use Rattle.fixed.specs.Fixed.{isNegative}
 use Rattle.srl.specs.Encode.{runBits, runKp, nonzeroBits, valueBits, valueKp, valueZeros, valueFault, firstOf}
 use Rattle.srl.proofs.Runs.{runKp-le}
@@ -54,3 +54,16 @@ fault-none (negsuc j) w z m e l h = ap (λ b. cond b 0 5) (lt-ltb j (2 ^ w - 1) 
 pub firstOf-some : (n f : ℕ) → (n ≡ 0 → ⊥) → firstOf n f ≡ n
 firstOf-some zero f h = absurd (h refl)
 firstOf-some (suc n) f h = refl
+
+-- neither of two refusals
+pub first-none : (n f : ℕ) → firstOf n f ≡ 0 → (n ≡ 0) × (f ≡ 0)
+first-none zero f e = (refl, e)
+first-none (suc n) f e = absurd (omega arith)
+
+-- a test that gives no refusal, whichever number it would give
+pub passes : (m n k : ℕ) → _≡_ {A = ℕ} (cond (ltb m n) 0 (suc k)) 0 → m < n
+passes m n k = by (ltb m n) refl
+  where
+    by : (b : Bool) → ltb m n ≡ b → _≡_ {A = ℕ} (cond b 0 (suc k)) 0 → m < n
+    by true q e = ltb-true m n q
+    by false q e = absurd (omega arith)

@@ -5,7 +5,7 @@ use mathlib.Core.List.{List, [], _∷_, _++_}
 use Prim.Native.Nat.{ℕ, zero, suc, _+_, _-_, _*_, _^_, _≤_, _<_}
 use native.Mathlib.Nat.{mul-le-mul-left}
 use native.Mathlib.Omega.{arith}
-use borrow.Author.Tests.{ltb-true, lt-ltb}
+use borrow.Author.Tests.{lt-ltb}
 use lib.Dec.{ltb}
 use lib.IntN.{ℤ, pos, negsuc}
 use lib.ListN.{length, length-append}
@@ -14,22 +14,16 @@ use Rattle.srl.specs.Encode.{nonzeroBits, runBits, valueBits, valueKp, v
 use Rattle.srl.specs.EncodeInner.{largest, GoodWriter}
 use Rattle.srl.specs.declared.SrlWriter.{SrlWriter}
 use Rattle.srl.proofs.EncodedCalls.{call-count}
-use Rattle.srl.proofs.EncodedValues.{value-kp}
+use Rattle.srl.proofs.EncodedValues.{value-kp, first-none, passes}
 use Rattle.srl.proofs.Nonzeros.{nonzero-le}
 use Rattle.srl.proofs.Runs.{length-run}
-use Rattle.srl.proofs.Streamed.{first-none}
 use Rattle.srl.proofs.Widths.{pow-high}
 
 -- a nonzero value of magnitude m + 1, and the run before it
 nonzero-small : (w kp z m : ℕ) (b : Bool) → kp ≤ 80 → _≡_ {A = ℕ} (cond (ltb m (2 ^ w - 1)) 0 5) 0 → length (runBits (suc z) kp z ++ nonzeroBits w b m) ≤ z + (2 ^ w + 11)
-nonzero-small w kp z m b h = by (ltb m (2 ^ w - 1)) refl
-  where
-    by : (t : Bool) → ltb m (2 ^ w - 1) ≡ t → _≡_ {A = ℕ} (cond t 0 5) 0 → length (runBits (suc z) kp z ++ nonzeroBits w b m) ≤ z + (2 ^ w + 11)
-    by true q e =
-        let l : m < 2 ^ w - 1 = ltb-true _ _ q in
-        let n : m + 1 - 1 ≡ m = omega arith in
-        omega (arith, length-append (runBits (suc z) kp z) (nonzeroBits w b m), length-run (suc z) kp z h, rw n at (nonzero-le w (m + 1) b (omega arith)))
-    by false q e = absurd (omega arith)
+nonzero-small w kp z m b h e =
+    let n : m + 1 - 1 ≡ m = omega arith in
+    omega (arith, passes m (2 ^ w - 1) 4 e, length-append (runBits (suc z) kp z) (nonzeroBits w b m), length-run (suc z) kp z h, rw n at (nonzero-le w (m + 1) b (omega arith)))
 
 value-small : (w kp z : ℕ) (v : ℤ) → kp ≤ 80 → valueFault w z v ≡ 0 → length (valueBits w kp z v) + valueZeros z v ≤ z + (2 ^ w + 11)
 value-small w kp z (pos zero) h e = omega arith

@@ -2,12 +2,11 @@
 use mathlib.Core.Path.{_≡_, refl, ap, sym, _∙_}
 use mathlib.Core.Bool.{Bool, true, false, cond}
 use mathlib.Core.List.{List, [], _∷_, _++_, append-assoc}
-use Prim.Native.Nat.{ℕ, zero, suc, _+_, _≤_, _<_}
+use Prim.Native.Nat.{ℕ, zero, suc, _+_, _≤_}
 use native.Mathlib.Omega.{arith}
-use lib.Dec.{ltb}
 use lib.IntN.{ℤ, pos, negsuc}
 use lib.ListN.{length}
-use borrow.Author.Tests.{lt-ltb, le-leb, ltb-true}
+use borrow.Author.Tests.{lt-ltb, le-leb}
 use Rattle.bits.specs.Written.{pack}
 use Rattle.bits.proofs.Puts.{after-sound}
 use Rattle.bits.proofs.Packed.{pack-append}
@@ -17,7 +16,7 @@ use Rattle.srl.specs.Finish.{flush}
 use Rattle.srl.specs.Laws.{Call, streamFrom, EncoderResumes}
 use Rattle.srl.specs.declared.SrlWriter.{SrlWriter}
 use Rattle.srl.proofs.EncodedCalls.{writerOk-good}
-use Rattle.srl.proofs.EncodedValues.{value-kp}
+use Rattle.srl.proofs.EncodedValues.{value-kp, first-none, passes}
 
 -- ════ the stream ════
 
@@ -43,16 +42,8 @@ call-kp : (kp z : ℕ) (vs : List ℤ) → kp ≤ 80 → callKp kp z vs ≤ 80
 call-kp kp z [] h = h
 call-kp kp z (v ∷ vs) h = call-kp (valueKp kp z v) (valueZeros z v) vs (value-kp kp z v h)
 
-pub first-none : (n f : ℕ) → firstOf n f ≡ 0 → (n ≡ 0) × (f ≡ 0)
-first-none zero f e = (refl, e)
-first-none (suc n) f e = absurd (omega arith)
-
 value-small : (w z : ℕ) (v : ℤ) → z ≤ 4096 → valueFault w z v ≡ 0 → valueZeros z v ≤ 4096
-value-small w z (pos zero) h e = by (ltb z 4096) refl e
-  where
-    by : (b : Bool) → ltb z 4096 ≡ b → _≡_ {A = ℕ} (cond b 0 6) 0 → z + 1 ≤ 4096
-    by true q e = let l : z < 4096 = ltb-true _ _ q in omega arith
-    by false q e = absurd (omega arith)
+value-small w z (pos zero) h e = omega (arith, passes z 4096 5 e)
 value-small w z (pos (suc m)) h e = omega arith
 value-small w z (negsuc m) h e = omega arith
 
