@@ -31,6 +31,27 @@ pub fn record_all(recording: &mut Recording<'_>) -> io::Result<Vec<(u8, Case)>> 
     Ok(models)
 }
 
+/// Records the cases of one kind: models, directed ones, and random ones, `count` of them at scale 1.
+/// The answer is the models with the kind.
+fn record_kind(
+    recording: &mut Recording<'_>,
+    kind: u8,
+    models: Vec<Case>,
+    directed: &[Case],
+    count: u32,
+    random_case: fn(&mut Random) -> Case,
+) -> io::Result<Vec<(u8, Case)>> {
+    for case in models.iter().chain(directed) {
+        recording.record_case(kind, case)?;
+    }
+    let mut random = recording.random(kind);
+    for _ in 0..recording.scaled(count) {
+        let case = random_case(&mut random);
+        recording.record_case(kind, &case)?;
+    }
+    Ok(models.into_iter().map(|case| (kind, case)).collect())
+}
+
 /// A length or a count, as a field of 2 bytes.
 fn short(number: usize) -> [u8; 2] {
     u16::try_from(number)

@@ -5,7 +5,10 @@ use std::io;
 use oracle::srl::reach::{self, DecoderState};
 use oracle::srl::{SrlEncoder, SrlError};
 
-use super::{BAD_WIDTHS, IMPOSSIBLE_STATE, MAX_KP, MOST_ROOM, NO_ROOM, long, random_width, short};
+use super::{
+    BAD_WIDTHS, IMPOSSIBLE_STATE, MAX_KP, MOST_ROOM, NO_ROOM, long, random_width, record_kind,
+    short,
+};
 use crate::random::Random;
 use crate::record::{Case, Recording};
 
@@ -58,25 +61,22 @@ fn call(num_values: u64, num_bits: u8, room: usize) -> Call {
 
 /// Records all cases; the answer is the cases whose answers kind 35 makes wrong.
 pub fn record_all(recording: &mut Recording<'_>) -> io::Result<Vec<(u8, Case)>> {
-    let models = models();
-    for case in &models {
-        recording.record_case(SRL_DECODE, case)?;
-    }
-    let mut directed = every_kp();
-    directed.extend(every_width());
-    directed.extend(runs());
-    directed.extend(states());
-    directed.extend(refusals());
-    directed.extend(places());
-    for case in &directed {
-        recording.record_case(SRL_DECODE, case)?;
-    }
-    let mut random = recording.random(SRL_DECODE);
-    for _ in 0..recording.scaled(1200) {
-        let case = random_case(&mut random);
-        recording.record_case(SRL_DECODE, &case)?;
-    }
-    Ok(models.into_iter().map(|case| (SRL_DECODE, case)).collect())
+    let directed = [
+        every_kp(),
+        every_width(),
+        runs(),
+        states(),
+        refusals(),
+        places(),
+    ];
+    record_kind(
+        recording,
+        SRL_DECODE,
+        models(),
+        &directed.concat(),
+        1200,
+        random_case,
+    )
 }
 
 /// The case of some calls on one stream, each from the state that the one before handed back.

@@ -5,7 +5,10 @@ use std::io;
 use oracle::srl::SrlError;
 use oracle::srl::reach::{self, EncoderState};
 
-use super::{BAD_WIDTHS, IMPOSSIBLE_STATE, MAX_KP, MOST_ROOM, NO_ROOM, long, random_width, short};
+use super::{
+    BAD_WIDTHS, IMPOSSIBLE_STATE, MAX_KP, MOST_ROOM, NO_ROOM, long, random_width, record_kind,
+    short,
+};
 use crate::random::Random;
 use crate::record::{Case, Recording};
 
@@ -70,25 +73,22 @@ fn call(values: &[i16], num_bits: u8, room: Room) -> Call {
 
 /// Records all cases; the answer is the cases whose answers kind 35 makes wrong.
 pub fn record_all(recording: &mut Recording<'_>) -> io::Result<Vec<(u8, Case)>> {
-    let models = models();
-    for case in &models {
-        recording.record_case(SRL_ENCODE, case)?;
-    }
-    let mut directed = every_kp();
-    directed.extend(every_width());
-    directed.extend(zeros());
-    directed.extend(states());
-    directed.extend(faults());
-    directed.extend(rooms());
-    for case in &directed {
-        recording.record_case(SRL_ENCODE, case)?;
-    }
-    let mut random = recording.random(SRL_ENCODE);
-    for _ in 0..recording.scaled(1000) {
-        let case = random_case(&mut random);
-        recording.record_case(SRL_ENCODE, &case)?;
-    }
-    Ok(models.into_iter().map(|case| (SRL_ENCODE, case)).collect())
+    let directed = [
+        every_kp(),
+        every_width(),
+        zeros(),
+        states(),
+        faults(),
+        rooms(),
+    ];
+    record_kind(
+        recording,
+        SRL_ENCODE,
+        models(),
+        &directed.concat(),
+        1000,
+        random_case,
+    )
 }
 
 /// The case of some calls, each from the state that the one before handed back, and of the end.
