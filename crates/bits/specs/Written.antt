@@ -30,6 +30,7 @@ pack current count (b ∷ bs) =
 
 -- ════ a writer, and the output ════
 
+-- a writer by its three parts
 abbrev pub writer : ℕ → ℕ → ℕ → BitWriter
 writer at current count = record { at = at; current = current; «bit_count» = count }
 
@@ -67,6 +68,7 @@ padOut out k = cond (eqb (k .«bit_count») 0) out (set out (k .at) (k .current 
 
 -- ════ measuring: the place of a writer, without its bits ════
 
+-- a writer's place
 abbrev pub countOf : BitWriter → BitCount
 countOf k = record { at = k .at; «bit_count» = k .«bit_count» }
 

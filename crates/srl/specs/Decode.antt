@@ -66,10 +66,12 @@ abbrev pub stored : {A : Type 0} → ℕ → List A → List A → List A
 stored zero xs out = xs ++ drop (length xs) out
 stored (suc k) xs out = out
 
+-- what `decode` answers
 abbrev pub decodeAnswer : List ℕ → SrlState → ℕ → ℕ → ℕ → Decoded
 decodeAnswer s st room n w =
     decoded (decodeRefusal s st room n w) n (closed s st (readerAfter s (replicate n w) (opened st))) st
 
+-- what `out` holds after it
 abbrev pub decodeOut : List ℕ → SrlState → List ℤ → ℕ → ℕ → List ℤ
 decodeOut s st out n w = stored (decodeRefusal s st (length out) n w) (values s (replicate n w) (opened st)) out
 

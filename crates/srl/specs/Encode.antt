@@ -75,6 +75,7 @@ freshWriter = record { kp = 8; «pending_zeros» = 0; current = 0; «bit_count»
 abbrev pub sink : SrlWriter → BitWriter
 sink st = writer 0 (st .current) (st .«bit_count»)
 
+-- the bits of a call's values, from a state on
 abbrev pub bitsFrom : ℕ → SrlWriter → List ℤ → List Bool
 bitsFrom w st vs = callBits w (st .kp) (st .«pending_zeros») vs
 
@@ -82,6 +83,7 @@ bitsFrom w st vs = callBits w (st .kp) (st .«pending_zeros») vs
 abbrev pub callBytes : ℕ → SrlWriter → List ℤ → List ℕ
 callBytes w st vs = whole (st .current) (st .«bit_count») (bitsFrom w st vs)
 
+-- the state after the call: the bits of an unfinished byte wait in it
 abbrev pub callAfter : ℕ → SrlWriter → List ℤ → SrlWriter
 callAfter w st vs =
     record {
@@ -121,13 +123,16 @@ encodeRefusal st vs room w =
 
 -- ════ the answer, and what `out` holds then ════
 
+-- "a refusal gives its number, zero lengths and counts, and the state handed in, and alters no lent element"
 abbrev pub encoded : ℕ → ℕ → SrlWriter → SrlWriter → Encoded
 encoded zero n next st = Bytes n next
 encoded (suc k) n next st = Refused (suc k) st
 
+-- what `encode` answers
 abbrev pub encodeAnswer : SrlWriter → List ℤ → ℕ → ℕ → Encoded
 encodeAnswer st vs room w = encoded (encodeRefusal st vs room w) (length (callBytes w st vs)) (callAfter w st vs) st
 
+-- what `out` holds after it
 abbrev pub encodeOut : SrlWriter → List ℤ → List ℕ → ℕ → List ℕ
 encodeOut st vs out w = stored (encodeRefusal st vs (length out) w) (callBytes w st vs) out
 

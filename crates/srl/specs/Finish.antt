@@ -23,13 +23,16 @@ finishBytes st = pack (st .current) (st .«bit_count») (flush (st .kp) (st .«p
 abbrev pub finishRefusal : SrlWriter → ℕ → ℕ
 finishRefusal st room = cond (writerOk st) (noRoom room (length (finishBytes st))) 8
 
+-- "a refusal gives its number, zero lengths and counts, and the state handed in": after the end of a stream there is no state
 abbrev pub finished : ℕ → ℕ → SrlWriter → Finished
 finished zero n st = Stream n
 finished (suc k) n st = Refused (suc k) st
 
+-- what `finish` answers
 abbrev pub finishAnswer : SrlWriter → ℕ → Finished
 finishAnswer st room = finished (finishRefusal st room) (length (finishBytes st)) st
 
+-- what `out` holds after it
 abbrev pub finishOut : SrlWriter → List ℕ → List ℕ
 finishOut st out = stored (finishRefusal st (length out)) (finishBytes st) out
 

@@ -52,23 +52,26 @@ abbrev pub streamFrom : SrlWriter → List Call → List ℕ
 streamFrom st [] = finishBytes st
 streamFrom st (c ∷ cs) = callBytes (c .width) st (c .given) ++ streamFrom (callAfter (c .width) st (c .given)) cs
 
--- the values, and the width of each
+-- the values that the calls were given
 abbrev pub given : List Call → List ℤ
 given [] = []
 given (c ∷ cs) = c .given ++ given cs
 
+-- the width at which each of them was written
 abbrev pub widths : List Call → List ℕ
 widths [] = []
 widths (c ∷ cs) = replicate (length (c .given)) (c .width) ++ widths cs
 
+-- the width at which each value is read
 abbrev pub asked : List Ask → List ℕ
 asked [] = []
 asked (a ∷ asks) = replicate (a .count) (a .width) ++ asked asks
 
--- what calls of `decode` store, each from the state that the one before handed back, into an output of just the size
+-- an output of just the size that a call of `decode` needs
 abbrev pub room : Ask → List ℤ
 room a = replicate (a .count) (pos 0)
 
+-- what calls of `decode` store, each from the state that the one before handed back
 abbrev pub readBack : List ℕ → SrlState → List Ask → List ℤ
 readBack s st [] = []
 readBack s st (a ∷ asks) =

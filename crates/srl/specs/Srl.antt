@@ -14,6 +14,7 @@ pub record Reader : Type 0 where
   pub run : ℕ
   pub pending : Bool
 
+-- a reader by its four parts
 abbrev pub reader : ℕ → ℕ → ℕ → Bool → Reader
 reader n kp run pending = record { read = n; kp = kp; run = run; pending = pending }
 
@@ -63,6 +64,7 @@ abbrev pub past : List ℕ → ℕ → ℕ → ℕ → ℕ → Bool → Reader
 past s w n kp (suc run) pending = reader n kp run pending
 past s w n kp zero pending = reader (behind s n w) kp zero false
 
+-- the reader with a run or a nonzero value at hand
 abbrev pub readied : List ℕ → Reader → Reader
 readied s r = ready s (r .read) (r .kp) (r .run) (r .pending)
 
@@ -75,6 +77,7 @@ nextReader s w r = past s w (readied s r .read) (readied s r .kp) (readied s r .
 
 -- ════ some values, each with its width ════
 
+-- one value for each width
 unfoldable pub values : List ℕ → List ℕ → Reader → List ℤ
 values s [] r = []
 values s (w ∷ ws) r = nextValue s w r ∷ values s ws (nextReader s w r)
