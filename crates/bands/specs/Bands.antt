@@ -1,9 +1,9 @@
 -- The ten bands of a tile component, in both layouts (docs/SCOPE.md, "Bands").
 -- A layout is a list of sizes, in the order HL1 LH1 HH1 HL2 LH2 HH2 HL3 LH3 HH3 LL3; "offsets are running sums".
 use mathlib.Core.Bool.{Bool, true, false}
-use mathlib.Core.List.{List, [], _∷_}
-use Prim.Native.Nat.{ℕ, _+_, _*_}
-use lib.ListN.{getD}
+use mathlib.Core.List.{List, [], _∷_, _++_}
+use Prim.Native.Nat.{ℕ, suc, _+_, _*_}
+use lib.ListN.{getD, replicate}
 use Rattle.bands.specs.declared.BandInfo.{BandInfo}
 
 -- so many columns by so many rows
@@ -49,3 +49,12 @@ bandAt e b = getD (layout e) b none
 -- the place of the bottom band's first coefficient
 abbrev pub bottomOffset : Bool → ℕ
 bottomOffset e = bandAt e 9 .offset
+
+-- what the bands numbered from b on have, once for each of their coefficients, band by band
+unfoldable pub spread : {A : Type 0} → (ℕ → A) → ℕ → List BandInfo → List A
+spread f b [] = []
+spread f b (i ∷ is) = replicate (countOf i) (f b) ++ spread f (suc b) is
+
+-- what each place of a component has of its band
+abbrev pub perPlace : {A : Type 0} → Bool → (ℕ → A) → List A
+perPlace e f = spread f 0 (layout e)

@@ -1,7 +1,7 @@
 -- Reading a stream of bits (docs/SCOPE.md, "Streams of bits"): "bits go highest first in each byte. Past the last byte a reader gets zeros and no error."
 -- A reader is the count n of the bits read so far. It runs on past the end.
 use mathlib.Core.Bool.{Bool, true, false, cond}
-use mathlib.Core.List.{List}
+use mathlib.Core.List.{List, [], _∷_}
 use Prim.Native.Nat.{ℕ, zero, suc, _+_, _-_, _*_, _/_, _%_, _^_, min}
 use lib.Dec.{ltb, eqb}
 use lib.ListN.{length, getD}
@@ -24,6 +24,11 @@ bitAt s n = odd (getD s (n / 8) 0 / 2 ^ (7 - n % 8))
 unfoldable pub num : List ℕ → ℕ → ℕ → ℕ
 num s n zero = 0
 num s n (suc w) = bitOf (bitAt s n) * 2 ^ w + num s (suc n) w
+
+-- numbers one after another, each of its count of bits
+unfoldable pub numbers : List ℕ → List ℕ → ℕ → List ℕ
+numbers s [] n = []
+numbers s (w ∷ ws) n = num s n w ∷ numbers s ws (n + w)
 
 -- how many zeros stand before a 1, from bit n on, of at most `limit` bits
 unfoldable pub zeros : List ℕ → ℕ → ℕ → ℕ

@@ -14,6 +14,12 @@ abbrev pub bitsOf : ℕ → ℕ → List Bool
 bitsOf zero x = []
 bitsOf (suc k) x = bitsOf k (x / 2) ++ (odd x ∷ [])
 
+-- the bits of some numbers, the low w of each, where w is its width
+unfoldable pub bitsOfAll : List ℕ → List ℕ → List Bool
+bitsOfAll [] xs = []
+bitsOfAll (w ∷ ws) [] = []
+bitsOfAll (w ∷ ws) (x ∷ xs) = bitsOf w x ++ bitsOfAll ws xs
+
 -- ════ the bytes that bits make, after `count` bits, the number `current`, of a first byte ════
 
 -- the whole bytes

@@ -28,6 +28,16 @@ pub fn skip(r: BitReader, count: usize) -> BitReader
     }
 }
 
+// The place of a count of bits.
+pub fn place(count: usize) -> BitReader
+    ensures { λ r. ⌜ r ≡ placeOf count ⌝ }
+{
+    BitReader {
+        byte_idx: count / 8,
+        bit_idx: (count % 8) as u8,
+    }
+}
+
 // The place, or the stream's end where it is past that.
 pub fn hold(src: &[u8], r: BitReader) -> BitReader
     requires { ⌜ r .«bit_idx» ≤ 7 ⌝ }

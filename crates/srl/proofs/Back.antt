@@ -16,13 +16,14 @@ use Rattle.bits.proofs.Places.{read-place}
 use Rattle.srl.specs.Srl.{Reader, reader, start, values, readerAfter}
 use Rattle.srl.specs.Decode.{startState, opened, closed, stateOk, widthOk, noRoom, decodeRefusal, decoded, stored, decodeAnswer, decodeOut, stateOf}
 use Rattle.srl.specs.Encode.{valueBits, valueKp, valueZeros, callBits, callKp, callZeros, callBytes, callAfter, freshWriter, valueFault, fault}
+use Rattle.srl.specs.Finish.{streamBits}
 use Rattle.srl.specs.Laws.{Legal, legal, Call, Ask, Accepted, streamFrom, given, widths, asked, room, readBack, RoundTrip}
 use Rattle.srl.specs.declared.SrlState.{SrlState}
 use Rattle.srl.specs.declared.SrlWriter.{SrlWriter}
 use Rattle.srl.proofs.EncodedValues.{first-none, passes}
 use Rattle.srl.proofs.Streamed.{allBits, stream-packed, accepted}
 use Rattle.srl.proofs.States.{after-mono, closed-ok}
-use Rattle.srl.proofs.Trip.{spelled, spelled-reads}
+use Rattle.srl.proofs.Trip.{stream-values}
 use Rattle.srl.proofs.Values.{AlikeReader, alike, reader-trans, values-alike, values-append, length-values}
 
 -- ════ accepted calls ════
@@ -46,20 +47,20 @@ calls-legal st (c ∷ cs) a =
 
 -- ════ the bits of calls are those of their values ════
 
-call-spelled : (w kp z : ℕ) (vs : List ℤ) (ws : List ℕ) (us : List ℤ)
-    → spelled kp z (replicate (length vs) w ++ ws) (vs ++ us) ≡ callBits w kp z vs ++ spelled (callKp kp z vs) (callZeros z vs) ws us
-unfolding spelled
-call-spelled w kp z [] ws us = refl
-call-spelled w kp z (v ∷ vs) ws us =
-    ap (λ (bs : List Bool). valueBits w kp z v ++ bs) (call-spelled w (valueKp kp z v) (valueZeros z v) vs ws us)
-    ∙ sym (append-assoc (valueBits w kp z v) (callBits w (valueKp kp z v) (valueZeros z v) vs) (spelled (callKp kp z (v ∷ vs)) (callZeros z (v ∷ vs)) ws us))
+call-stream : (w kp z : ℕ) (vs : List ℤ) (ws : List ℕ) (us : List ℤ)
+    → streamBits kp z (replicate (length vs) w ++ ws) (vs ++ us) ≡ callBits w kp z vs ++ streamBits (callKp kp z vs) (callZeros z vs) ws us
+unfolding streamBits
+call-stream w kp z [] ws us = refl
+call-stream w kp z (v ∷ vs) ws us =
+    ap (λ (bs : List Bool). valueBits w kp z v ++ bs) (call-stream w (valueKp kp z v) (valueZeros z v) vs ws us)
+    ∙ sym (append-assoc (valueBits w kp z v) (callBits w (valueKp kp z v) (valueZeros z v) vs) (streamBits (callKp kp z (v ∷ vs)) (callZeros z (v ∷ vs)) ws us))
 
-calls-spelled : (kp z : ℕ) (cs : List Call) → allBits kp z cs ≡ spelled kp z (widths cs) (given cs)
-unfolding spelled
-calls-spelled kp z [] = refl
-calls-spelled kp z (c ∷ cs) =
-    ap (λ (bs : List Bool). callBits (c .width) kp z (c .given) ++ bs) (calls-spelled (callKp kp z (c .given)) (callZeros z (c .given)) cs)
-    ∙ sym (call-spelled (c .width) kp z (c .given) (widths cs) (given cs))
+calls-stream : (kp z : ℕ) (cs : List Call) → allBits kp z cs ≡ streamBits kp z (widths cs) (given cs)
+unfolding streamBits
+calls-stream kp z [] = refl
+calls-stream kp z (c ∷ cs) =
+    ap (λ (bs : List Bool). callBits (c .width) kp z (c .given) ++ bs) (calls-stream (callKp kp z (c .given)) (callZeros z (c .given)) cs)
+    ∙ sym (call-stream (c .width) kp z (c .given) (widths cs) (given cs))
 
 -- ════ all values, read one by one ════
 
@@ -67,7 +68,7 @@ pub stream-reads : (cs : List Call) → Accepted freshWriter cs → values (stre
 stream-reads cs a =
     let s = streamFrom freshWriter cs in
     let h : Holds s 0 (allBits 8 0 cs) = pack-holds (allBits 8 0 cs) s 0 0 0 (0 ∷ []) (omega arith) (stream-packed freshWriter cs) in
-    spelled-reads (calls-legal freshWriter cs a) s (subst (Holds s 0) (calls-spelled 8 0 cs) h)
+    stream-values (calls-legal freshWriter cs a) s (subst (Holds s 0) (calls-stream 8 0 cs) h)
 
 -- ════ and by calls ════
 

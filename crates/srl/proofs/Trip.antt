@@ -18,7 +18,7 @@ use Rattle.bits.proofs.Holds.{Holds, holds-append, zeros-one, zeros-all, num-ho
 use Rattle.bits.proofs.Puts.{length-bitsOf}
 use Rattle.srl.specs.Srl.{reader, start, mostZeros, nonzero, behind, codeWord, values}
 use Rattle.srl.specs.Encode.{stop, nonzeroBits, runBits, runKp, valueBits, valueKp, valueZeros}
-use Rattle.srl.specs.Finish.{flush}
+use Rattle.srl.specs.Finish.{flush, streamBits}
 use Rattle.srl.specs.Laws.{Legal, legal}
 use Rattle.srl.proofs.Codes.{code-zero, code-one}
 use Rattle.srl.proofs.Due.{from, code-ready}
@@ -122,12 +122,6 @@ run-reads s (suc f) n kp zs l h = by (ltb z K) refl h (run-reads s f (n + 1) up)
 
 -- ════ some values, each with its width ════
 
--- their bits, from kp and the pending zeros on, and those of the end
-unfoldable pub spelled : ℕ → ℕ → List ℕ → List ℤ → List Bool
-spelled kp z ws [] = flush kp z
-spelled kp z [] (v ∷ vs) = []
-spelled kp z (w ∷ ws) (v ∷ vs) = valueBits w kp z v ++ spelled (valueKp kp z v) (valueZeros z v) ws vs
-
 -- a nonzero value and the run before it
 value-reads : (s : List ℕ) (n kp w m : ℕ) (b : Bool) (zs : List ℕ) (rest : List Bool) → m + 1 ≤ 2 ^ w - 1
     → Holds s n ((runBits (suc (length zs)) kp (length zs) ++ nonzeroBits w b m) ++ rest)
@@ -156,25 +150,25 @@ flush-reads s n kp (z ∷ zs) h = run-reads s (suc (suc (length zs))) n kp (z �
 snoc-zero : (z : ℕ) (vs : List ℤ) → replicate (z + 1) (pos 0) ++ vs ≡ replicate z (pos 0) ++ (pos 0 ∷ vs)
 snoc-zero z vs = ap (λ (l : List ℤ). l ++ vs) (sym (replicate-append-replicate z 1 (pos 0))) ∙ append-assoc (replicate z (pos 0)) (pos 0 ∷ []) vs
 
-reads : {ws : List ℕ} {vs : List ℤ} → Legal ws vs → (s : List ℕ) (n kp : ℕ) (zs : List ℕ) → Holds s n (spelled kp (length zs) ws vs)
+reads : {ws : List ℕ} {vs : List ℤ} → Legal ws vs → (s : List ℕ) (n kp : ℕ) (zs : List ℕ) → Holds s n (streamBits kp (length zs) ws vs)
     → values s (zs ++ ws) (reader n kp 0 false) ≡ replicate (length zs) (pos 0) ++ vs
-unfolding spelled
+unfolding streamBits
 reads Legal.none s n kp zs h = flush-reads s n kp zs h
 reads (legal {w = w} {v = pos zero} {ws = ws} {vs = vs} l ls) s n kp zs h =
     let e : length (zs ++ (w ∷ [])) ≡ length zs + 1 = length-append zs (w ∷ []) in
     ap (λ (us : List ℕ). values s us (reader n kp 0 false)) (sym (append-snoc zs w ws))
-    ∙ reads ls s n kp (zs ++ (w ∷ [])) (subst (λ (z : ℕ). Holds s n (spelled kp z ws vs)) (sym e) h)
+    ∙ reads ls s n kp (zs ++ (w ∷ [])) (subst (λ (z : ℕ). Holds s n (streamBits kp z ws vs)) (sym e) h)
     ∙ ap (λ (z : ℕ). replicate z (pos 0) ++ vs) e
     ∙ snoc-zero (length zs) vs
 reads (legal {w = w} {v = pos (suc m)} {ws = ws} {vs = vs} l ls) s n kp zs h =
     let kp′ = runKp (suc (length zs)) kp (length zs) in
-    let r = value-reads s n kp w m false zs (spelled kp′ 0 ws vs) (omega arith) h in
+    let r = value-reads s n kp w m false zs (streamBits kp′ 0 ws vs) (omega arith) h in
     r .2 ws ∙ ap₂ (λ (v : ℤ) (us : List ℤ). replicate (length zs) (pos 0) ++ (v ∷ us)) (ap pos (add-one m)) (reads ls s (r .0) kp′ [] (r .1))
 reads (legal {w = w} {v = negsuc m} {ws = ws} {vs = vs} l ls) s n kp zs h =
     let kp′ = runKp (suc (length zs)) kp (length zs) in
-    let r = value-reads s n kp w m true zs (spelled kp′ 0 ws vs) (omega arith) h in
+    let r = value-reads s n kp w m true zs (streamBits kp′ 0 ws vs) (omega arith) h in
     r .2 ws ∙ ap₂ (λ (v : ℤ) (us : List ℤ). replicate (length zs) (pos 0) ++ (v ∷ us)) (ap (withSign true) (add-one m)) (reads ls s (r .0) kp′ [] (r .1))
 
 -- from the start of a stream
-pub spelled-reads : {ws : List ℕ} {vs : List ℤ} → Legal ws vs → (s : List ℕ) → Holds s 0 (spelled 8 0 ws vs) → values s ws start ≡ vs
-spelled-reads l s h = reads l s 0 8 [] h
+pub stream-values : {ws : List ℕ} {vs : List ℤ} → Legal ws vs → (s : List ℕ) → Holds s 0 (streamBits 8 0 ws vs) → values s ws start ≡ vs
+stream-values l s h = reads l s 0 8 [] h

@@ -2,10 +2,11 @@
 use mathlib.Core.Bool.{Bool, cond}
 use mathlib.Core.List.{List, [], _∷_, _++_}
 use Prim.Native.Nat.{ℕ, zero, suc}
+use lib.IntN.{ℤ}
 use lib.ListN.{length}
 use Rattle.bits.specs.Written.{pack}
 use Rattle.srl.specs.Decode.{noRoom, stored}
-use Rattle.srl.specs.Encode.{runBits, writerOk}
+use Rattle.srl.specs.Encode.{runBits, valueBits, valueKp, valueZeros, writerOk}
 use Rattle.srl.specs.declared.SrlWriter.{SrlWriter}
 use Rattle.srl.specs.declared.Finished.{Finished}
 use Rattle.srl.specs.declared.Finished.the-variants.{Stream, Refused}
@@ -18,6 +19,12 @@ flush kp (suc z) = runBits (suc (suc z)) kp (suc z)
 -- "`finish` writes a pending run as if a value followed, pads with zeros, and appends one byte 0"
 abbrev pub finishBytes : SrlWriter → List ℕ
 finishBytes st = pack (st .current) (st .«bit_count») (flush (st .kp) (st .«pending_zeros»)) ++ (0 ∷ [])
+
+-- the bits of a whole stream, from kp and the pending zeros on: values, each with its width, and then the end
+unfoldable pub streamBits : ℕ → ℕ → List ℕ → List ℤ → List Bool
+streamBits kp z ws [] = flush kp z
+streamBits kp z [] (v ∷ vs) = []
+streamBits kp z (w ∷ ws) (v ∷ vs) = valueBits w kp z v ++ streamBits (valueKp kp z v) (valueZeros z v) ws vs
 
 -- "order: 8, .. 7"
 abbrev pub finishRefusal : SrlWriter → ℕ → ℕ

@@ -96,7 +96,7 @@ fn decode_nonzero(src: &[u8], reader: bits::reader::BitReader, num_bits: u8) -> 
 }
 
 // The next value.
-fn next_value(src: &[u8], st: SrlState, num_bits: u8) -> NextRead
+pub fn next_value(src: &[u8], st: SrlState, num_bits: u8) -> NextRead
     requires { ⌜ Sound st × Width «num_bits» ⌝ }
     ensures { λ r. ⌜ (r .value ≡ nextValue (now (src .entry)) «num_bits» (opened st)) × (r .state ≡ shut (nextReader (now (src .entry)) «num_bits» (opened st))) ⌝ }
 {

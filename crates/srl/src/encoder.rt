@@ -99,7 +99,7 @@ pub fn writer_of(c: CallState) -> SrlWriter
 // ---- the values' refusals
 
 // The refusal that a value causes, or 0.
-fn value_fault(zeros: usize, v: i16, num_bits: u8) -> u8
+pub fn value_fault(zeros: usize, v: i16, num_bits: u8) -> u8
     requires { ⌜ Width «num_bits» ⌝ }
     ensures { λ r. ⌜ r ≡ valueFault «num_bits» zeros v ⌝ }
 {
@@ -230,7 +230,7 @@ fn nonzero_length(m: u16, num_bits: u8) -> usize
 }
 
 // One value.
-fn measure_value(p: Measured, v: i16, num_bits: u8) -> Measured
+pub fn measure_value(p: Measured, v: i16, num_bits: u8) -> Measured
     requires { ⌜ GoodMeasure p × (p .at + p .zeros + 70000 < 2 ^ 64) × Width «num_bits» ⌝ }
     ensures { λ r. ⌜ r ≡ valueMeasure «num_bits» p v ⌝ }
 {
@@ -383,7 +383,7 @@ fn put_both(
 }
 
 // One value.
-fn put_value(out: &mut [u8], c: CallState, v: i16, num_bits: u8) -> CallState
+pub fn put_value(out: &mut [u8], c: CallState, v: i16, num_bits: u8) -> CallState
     requires { ⌜ Good c × Room (c .sink) (c .zeros + 70000) × Width «num_bits» ⌝ }
     ensures { λ r. ⌜ (r ≡ valueState «num_bits» c v) × (now (out .exit) ≡ valueWrite «num_bits» (now (out .entry)) c v) ⌝ }
 {
@@ -423,7 +423,7 @@ pub fn put_values(values: &[i16], c: CallState, out: &mut [u8], num_bits: u8) ->
 // ---- the end of a stream
 
 // How many bits the pending zeros take.
-fn flush_length(kp: u8, zeros: usize) -> usize
+pub fn flush_length(kp: u8, zeros: usize) -> usize
     requires { ⌜ (kp ≤ 80) × (zeros ≤ 4096) ⌝ }
     ensures { λ r. ⌜ r ≡ length (flush kp zeros) ⌝ }
 {
@@ -443,7 +443,7 @@ pub fn end_length(st: SrlWriter) -> usize
 }
 
 // The pending zeros, as if a value followed.
-fn put_flush(out: &mut [u8], c: CallState) -> bits::writer::BitWriter
+pub fn put_flush(out: &mut [u8], c: CallState) -> bits::writer::BitWriter
     requires { ⌜ Good c × Room (c .sink) (c .zeros + 40) ⌝ }
     ensures { λ r. ⌜ (r ≡ after (c .sink) (flush (c .kp) (c .zeros))) × (now (out .exit) ≡ write (now (out .entry)) (c .sink) (flush (c .kp) (c .zeros))) ⌝ }
 {

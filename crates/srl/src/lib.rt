@@ -9,8 +9,8 @@ ghost use Rattle.srl.specs.Encode.{freshWriter, encodeAnswer, encodeOut}
 ghost use Rattle.srl.specs.Finish.{finishAnswer, finishOut};
 ghost use Rattle.srl.specs.Laws.{Refusals, DecodedMagnitudes, RoundTrip, DecoderResumes, EncoderResumes};
 
-mod decoder;
-mod encoder;
+pub mod decoder;
+pub mod encoder;
 mod rules;
 
 // kp at the start of a stream.

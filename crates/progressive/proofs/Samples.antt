@@ -1,0 +1,57 @@
+-- The definitions at known numbers, by `refl`: a definition is tried here before anything is proved against it.
+use mathlib.Core.Path.{_≡_, refl}
+use mathlib.Core.Bool.{Bool, true, false}
+use mathlib.Core.List.{List, [], _∷_}
+use Prim.Native.Nat.{ℕ}
+use lib.IntN.{ℤ, pos, negsuc}
+use Rattle.bits.specs.Bits.{num, numbers}
+use Rattle.bits.specs.Written.{bitsOfAll}
+use Rattle.fixed.specs.Fixed.{clampI16, addScaled, subScaled, isZero, isOne, signOf, roundShift, shiftLeftClamp}
+use Rattle.bits.specs.Bits.{zeros}
+use Rattle.srl.specs.Srl.{values}
+use Rattle.srl.specs.Finish.{streamBits}
+use Rattle.progressive.specs.Upgrade.{Step, srlWidths, rawWidths, signsAfter, coefficientsAfter, upgradedCoefficients, upgradedSigns}
+use Rattle.progressive.specs.Encode.{srlDifferences, rawDifferences, valuesFault, passFault, srlBytes, rawBytes}
+use Rattle.progressive.specs.Dequantize.{dequantized, dequantizedAll}
+
+-- positions 3 to 1
+abbrev from3to1 : Bool → Step
+from3to1 bottom = record { bottom = bottom; width = 2; position = 1 }
+
+-- raw bits 11: -8 with sign -1 gives -14; -32768 with sign -1 stays; in the bottom -8 gives -2
+raw-down : upgradedCoefficients (from3to1 false ∷ from3to1 false ∷ from3to1 true ∷ []) [] (252 ∷ []) (negsuc 7 ∷ negsuc 32767 ∷ negsuc 7 ∷ []) (negsuc 0 ∷ negsuc 0 ∷ negsuc 0 ∷ [])
+    ≡ (negsuc 13 ∷ negsuc 32767 ∷ negsuc 1 ∷ [])
+unfolding srlWidths rawWidths coefficientsAfter values numbers num clampI16 addScaled subScaled isZero isOne
+raw-down = refl
+
+-- SRL 80 00 at width 1 is 1, A0 is -1: at a zero sign the value sets the sign
+srl-up : upgradedCoefficients (from3to1 false ∷ []) (136 ∷ []) [] (pos 0 ∷ []) (pos 0 ∷ []) ≡ (pos 4 ∷ [])
+unfolding srlWidths rawWidths coefficientsAfter values numbers num clampI16 addScaled subScaled isZero isOne zeros
+srl-up = refl
+
+srl-sign : upgradedSigns (from3to1 false ∷ []) (136 ∷ []) (pos 0 ∷ pos 5 ∷ []) ≡ (pos 1 ∷ pos 5 ∷ [])
+unfolding srlWidths signsAfter values num isZero zeros
+srl-sign = refl
+
+-- writing 7 over 0: value 3; writing -7: value -4, refused with 5
+writes : srlDifferences (from3to1 false ∷ []) (pos 7 ∷ []) (pos 0 ∷ []) (pos 0 ∷ []) ≡ (pos 3 ∷ [])
+unfolding srlDifferences clampI16 isZero
+writes = refl
+
+refuses : passFault (from3to1 false ∷ []) (negsuc 6 ∷ []) (pos 0 ∷ []) (pos 0 ∷ []) ≡ 5
+unfolding srlWidths srlDifferences valuesFault clampI16 isZero
+refuses = refl
+
+writes-bytes : srlBytes (from3to1 false ∷ []) (pos 7 ∷ []) (pos 0 ∷ []) (pos 0 ∷ []) ≡ (128 ∷ 0 ∷ [])
+unfolding srlWidths srlDifferences clampI16 isZero streamBits
+writes-bytes = refl
+
+raw-bytes : rawBytes (from3to1 false ∷ []) (negsuc 13 ∷ []) (negsuc 7 ∷ []) (negsuc 0 ∷ []) ≡ (192 ∷ [])
+unfolding rawWidths rawDifferences clampI16 isZero bitsOfAll
+raw-bytes = refl
+
+-- quantizer 5: -1 gives 0, 1 gives 1, -3 gives -1; 7: 20000 gives 32767
+dequantizes : dequantizedAll (5 ∷ 5 ∷ 5 ∷ 7 ∷ 6 ∷ []) (negsuc 0 ∷ pos 1 ∷ negsuc 2 ∷ pos 20000 ∷ negsuc 8 ∷ pos 9 ∷ [])
+    ≡ (pos 0 ∷ pos 1 ∷ negsuc 0 ∷ pos 32767 ∷ negsuc 8 ∷ pos 9 ∷ [])
+unfolding dequantizedAll roundShift shiftLeftClamp clampI16
+dequantizes = refl

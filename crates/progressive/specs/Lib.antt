@@ -1,0 +1,5 @@
+-- What the contracts of `progressive` cite.
+pub mod Upgrade
+pub mod Encode
+pub mod Dequantize
+pub mod Walk

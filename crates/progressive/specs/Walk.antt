@@ -1,0 +1,82 @@
+-- For the inner functions of the reader: a pass as one walk over the places, with both streams' readers. It gives what `Upgrade` says
+-- (proofs/Walks.antt), where all SRL values are read before the first raw bit: the two streams do not touch each other.
+use mathlib.Core.Bool.{Bool, false, cond}
+use mathlib.Core.List.{List, [], _∷_}
+use Prim.Native.Nat.{ℕ, _+_, _≤_}
+use lib.IntN.{ℤ}
+use Rattle.fixed.specs.Fixed.{isZero}
+use Rattle.bits.specs.Bits.{num, bitsRead}
+use Rattle.srl.specs.Srl.{Reader, nextValue, nextReader}
+use Rattle.srl.specs.Decode.{opened}
+use Rattle.srl.specs.declared.SrlState.{SrlState}
+use Rattle.progressive.specs.Upgrade.{Step, Source, skipped, srl, raw, source, srlCoefficient, srlSign, adds, rawCoefficient}
+use Rattle.progressive.specs.declared.upgrade.Readers.{Readers}
+use Rattle.progressive.specs.declared.upgrade.BandStep.{BandStep}
+
+-- the coefficients and signs, and both readers: the SRL reader and the count of raw bits read
+pub record Walked : Type 0 where
+  pub coefficients : List ℤ
+  pub sign : List ℤ
+  pub srl : Reader
+  pub raw : ℕ
+
+abbrev pub walked : List ℤ → List ℤ → Reader → ℕ → Walked
+walked cs ss r n = record { coefficients = cs; sign = ss; srl = r; raw = n }
+
+-- ════ one place ════
+
+module _ (srlData rawData : List ℕ) (t : Step) where
+  abbrev pub coefficientAt : Source → ℤ → ℤ → Reader → ℕ → ℤ
+  coefficientAt skipped c s r n = c
+  coefficientAt srl c s r n = srlCoefficient (t .position) (nextValue srlData (t .width) r) c
+  coefficientAt raw c s r n = rawCoefficient (adds t s) (t .position) (num rawData n (t .width)) c
+
+  abbrev pub signAt : Source → ℤ → Reader → ℤ
+  signAt skipped s r = s
+  signAt srl s r = srlSign (nextValue srlData (t .width) r) s
+  signAt raw s r = s
+
+  abbrev pub readerAt : Source → Reader → Reader
+  readerAt skipped r = r
+  readerAt srl r = nextReader srlData (t .width) r
+  readerAt raw r = r
+
+  abbrev pub countAt : Source → ℕ → ℕ
+  countAt skipped n = n
+  countAt srl n = n
+  countAt raw n = n + t .width
+
+-- ════ all places ════
+
+-- a place before the others
+abbrev pub onto : ℤ → ℤ → Walked → Walked
+onto c s w = walked (c ∷ w .coefficients) (s ∷ w .sign) (w .srl) (w .raw)
+
+unfoldable pub walk : List ℕ → List ℕ → List Step → List ℤ → List ℤ → Reader → ℕ → Walked
+walk srlData rawData [] cs ss r n = walked cs ss r n
+walk srlData rawData (t ∷ ts) [] ss r n = walked [] ss r n
+walk srlData rawData (t ∷ ts) (c ∷ cs) [] r n = walked (c ∷ cs) [] r n
+walk srlData rawData (t ∷ ts) (c ∷ cs) (s ∷ ss) r n =
+    onto (coefficientAt srlData rawData t (source t s) c s r n) (signAt srlData rawData t (source t s) s r)
+    (walk srlData rawData ts cs ss (readerAt srlData rawData t (source t s) r) (countAt srlData rawData t (source t s) n))
+
+-- ════ what the inner functions ask and promise ════
+
+-- the slices and the readers of the code, as a walk gives them
+abbrev pub reached : List ℤ → List ℤ → Readers → Walked
+reached cs ss r = walked cs ss (opened (r .srl)) (r .raw)
+
+-- what the code has for the step of a band
+abbrev pub bandStep : BandStep → Step
+bandStep t = record { bottom = t .bottom; width = t .width; position = t .position }
+
+-- a place of a band that is not skipped has an SRL value
+abbrev pub fromSrl : Step → ℤ → Bool
+fromSrl t s = cond (t .bottom) false (isZero s)
+
+-- the readers can go on, with at most m bits read of each stream
+pub record Early (r : Readers) (m : ℕ) : Type 0 where
+  pub place : r .srl .reader .«bit_idx» ≤ 7
+  pub kp : r .srl .kp ≤ 80
+  pub srl-read : bitsRead (r .srl .reader) ≤ m
+  pub raw-read : r .raw ≤ m

@@ -1,0 +1,214 @@
+// The reader of a pass: one walk over the places, band by band, with a reader for each stream.
+ghost use mathlib.Core.Path.{_≡_};
+ghost use mathlib.Core.Bool.{true, false, cond};
+ghost use Prim.Native.Nat.{ℕ, _+_, _-_, _*_, _^_, _≤_, _<_};
+ghost use lib.IntN.{pos};
+ghost use lib.ListN.{length, getD, set, replicate};
+ghost use Rattle.bits.specs.Bits.{num};
+ghost use Rattle.srl.specs.Srl.{nextValue, nextReader, start};
+ghost use Rattle.srl.specs.Decode.{opened};
+ghost use Rattle.srl.specs.Inner.{Sound, Width, shut};
+ghost use Rattle.fixed.specs.Fixed.{isZero};
+ghost use Rattle.bands.specs.Positions.{rowInDomain};
+ghost use Rattle.progressive.specs.Upgrade.{stepAt, steps, srlCoefficient, srlSign, adds, rawCoefficient, upgradedCoefficients, upgradedSigns};
+ghost use Rattle.progressive.specs.Walk.{walk, reached, bandStep, fromSrl, Early};
+
+// A reader for each stream: the SRL decoder's state, and the count of raw bits read.
+pub struct Readers {
+    pub srl: srl::SrlState,
+    pub raw: usize,
+}
+
+// What a pass does in a band.
+pub struct BandStep {
+    pub bottom: bool,
+    pub width: u8,
+    pub position: u8,
+}
+
+// ---- one place
+
+// The coefficient after a nonzero SRL value.
+fn srl_coefficient(c: i16, value: i16, position: u8) -> i16
+    requires { ⌜ isZero value ≡ false ⌝ }
+    ensures { λ r. ⌜ r ≡ srlCoefficient position value c ⌝ }
+{
+    let m = fixed::magnitude(value);
+    if fixed::is_negative(value) {
+        return fixed::sub_scaled(c, m, position);
+    }
+    fixed::add_scaled(c, m, position)
+}
+
+// A zero sign outside the bottom: a nonzero SRL value is added and sets the sign.
+fn srl_place(
+    srl_data: &[u8],
+    st: srl::SrlState,
+    t: BandStep,
+    i: usize,
+    coefficients: &mut [i16],
+    sign: &mut [i8],
+) -> srl::SrlState
+    requires { ⌜ Sound st × Width (t .width) × (i < length (now coefficients)) × (i < length (now sign)) ⌝ }
+    ensures { λ r. ⌜ (r ≡ shut (nextReader (now («srl_data» .entry)) (t .width) (opened st))) × (now (coefficients .exit) ≡ set (now (coefficients .entry)) i (srlCoefficient (t .position) (nextValue (now («srl_data» .entry)) (t .width) (opened st)) (getD (now (coefficients .entry)) i (pos 0)))) × (now (sign .exit) ≡ set (now (sign .entry)) i (srlSign (nextValue (now («srl_data» .entry)) (t .width) (opened st)) (getD (now (sign .entry)) i (pos 0)))) ⌝ }
+{
+    let next = srl::decoder::next_value(srl_data, st, t.width);
+    let value = next.value;
+    let state = next.state;
+    if fixed::is_zero(value) {
+        return state;
+    }
+    let c = coefficients[i];
+    coefficients[i] = srl_coefficient(c, value, t.position);
+    sign[i] = fixed::sign_of(value);
+    state
+}
+
+// The raw bits of a place, as a number.
+fn raw_number(raw_data: &[u8], at: usize, width: u8) -> u16
+    requires { ⌜ width ≤ 15 ⌝ }
+    ensures { λ r. ⌜ r ≡ num (now («raw_data» .entry)) at width ⌝ }
+{
+    bits::reader::number(raw_data, bits::reader::place(at), width) as u16
+}
+
+// Any other sign, or the bottom: raw bits are added or subtracted.
+fn raw_place(
+    raw_data: &[u8],
+    at: usize,
+    t: BandStep,
+    adds: bool,
+    i: usize,
+    coefficients: &mut [i16],
+)
+    requires { ⌜ (t .width ≤ 15) × (i < length (now coefficients)) ⌝ }
+    ensures { λ _. ⌜ now (coefficients .exit) ≡ set (now (coefficients .entry)) i (rawCoefficient adds (t .position) (num (now («raw_data» .entry)) at (t .width)) (getD (now (coefficients .entry)) i (pos 0))) ⌝ }
+{
+    let m = raw_number(raw_data, at, t.width);
+    let c = coefficients[i];
+    if adds {
+        coefficients[i] = fixed::add_scaled(c, m, t.position);
+        return;
+    }
+    coefficients[i] = fixed::sub_scaled(c, m, t.position);
+}
+
+// Whether a place of a band that is not skipped has an SRL value.
+pub fn from_srl(t: BandStep, s: i8) -> bool
+    ensures { λ r. ⌜ r ≡ fromSrl (bandStep t) s ⌝ }
+{
+    if t.bottom {
+        return false;
+    }
+    fixed::is_zero_sign(s)
+}
+
+// Whether raw bits are added.
+fn adds_raw(t: BandStep, s: i8) -> bool
+    ensures { λ r. ⌜ r ≡ adds (bandStep t) s ⌝ }
+{
+    if t.bottom {
+        return true;
+    }
+    fixed::is_positive_sign(s)
+}
+
+// ---- a band
+
+// All places of a band that is not skipped.
+fn upgrade_band(
+    srl_data: &[u8],
+    raw_data: &[u8],
+    t: BandStep,
+    from: Readers,
+    coefficients: &mut [i16],
+    sign: &mut [i8],
+) -> Readers
+    requires { ⌜ Width (t .width) × Early from (2 ^ 40) × (length (now sign) ≡ length (now coefficients)) × (length (now coefficients) ≤ 4096) ⌝ }
+    ensures { λ r. ⌜ (walk (now («srl_data» .entry)) (now («raw_data» .entry)) (replicate (length (now (coefficients .entry))) (bandStep t)) (now (coefficients .entry)) (now (sign .entry)) (opened (from .srl)) (from .raw) ≡ reached (now (coefficients .exit)) (now (sign .exit)) r) × ((m : ℕ) → Early from m → Early r (m + 40000 * length (now (coefficients .entry)))) ⌝ }
+{
+    let mut state = from.srl;
+    let mut at = from.raw;
+    let mut i: usize = 0;
+    while i < coefficients.len() {
+        let s = sign[i];
+        if from_srl(t, s) {
+            state = srl_place(srl_data, state, t, i, coefficients, sign);
+        } else {
+            raw_place(raw_data, at, t, adds_raw(t, s), i, coefficients);
+            at += t.width as usize;
+        }
+        i += 1;
+    }
+    Readers {
+        srl: state,
+        raw: at,
+    }
+}
+
+// A band: of width 0 it is skipped.
+fn one_band(
+    srl_data: &[u8],
+    raw_data: &[u8],
+    t: BandStep,
+    from: Readers,
+    coefficients: &mut [i16],
+    sign: &mut [i8],
+) -> Readers
+    requires { ⌜ (t .width ≤ 15) × Early from (2 ^ 40) × (length (now sign) ≡ length (now coefficients)) × (length (now coefficients) ≤ 4096) ⌝ }
+    ensures { λ r. ⌜ (walk (now («srl_data» .entry)) (now («raw_data» .entry)) (replicate (length (now (coefficients .entry))) (bandStep t)) (now (coefficients .entry)) (now (sign .entry)) (opened (from .srl)) (from .raw) ≡ reached (now (coefficients .exit)) (now (sign .exit)) r) × ((m : ℕ) → Early from m → Early r (m + 40000 * length (now (coefficients .entry)))) ⌝ }
+{
+    if t.width == 0 {
+        return from;
+    }
+    upgrade_band(srl_data, raw_data, t, from, coefficients, sign)
+}
+
+// ---- all bands
+
+// What a pass does in the band numbered `b`.
+pub fn band_step(b: usize, prev: u8, curr: u8) -> BandStep
+    ensures { λ r. ⌜ bandStep r ≡ stepAt b prev curr ⌝ }
+{
+    let width = if curr < prev { prev - curr } else { 0 };
+    BandStep {
+        bottom: b == 9,
+        width,
+        position: curr,
+    }
+}
+
+// The ten bands, with both readers at the start of their streams.
+pub fn upgrade_bands(
+    srl_data: &[u8],
+    raw_data: &[u8],
+    prev: [u8; 10],
+    curr: [u8; 10],
+    use_reduce_extrapolate: bool,
+    coefficients: &mut [i16],
+    sign: &mut [i8],
+)
+    requires { ⌜ (rowInDomain prev ≡ true) × (4096 ≤ length (now coefficients)) × (4096 ≤ length (now sign)) ⌝ }
+    ensures { λ _. ⌜ (now (coefficients .exit) ≡ upgradedCoefficients (steps «use_reduce_extrapolate» prev curr) (now («srl_data» .entry)) (now («raw_data» .entry)) (now (coefficients .entry)) (now (sign .entry))) × (now (sign .exit) ≡ upgradedSigns (steps «use_reduce_extrapolate» prev curr) (now («srl_data» .entry)) (now (sign .entry))) ⌝ }
+{
+    let mut readers = Readers {
+        srl: srl::SrlState::new(),
+        raw: 0,
+    };
+    let mut b: usize = 0;
+    while b < 10 {
+        let t = band_step(b, prev[b], curr[b]);
+        let info = bands::band(use_reduce_extrapolate, b);
+        let from = info.offset;
+        let to = from + info.width * info.height;
+        readers = one_band(
+            srl_data,
+            raw_data,
+            t,
+            readers,
+            &mut coefficients[from..to],
+            &mut sign[from..to],
+        );
+        b += 1;
+    }
+}
