@@ -1,2 +1,4 @@
 -- Laws of the pass, for the proofs here and in the crates above.
+pub mod Lists
 pub mod Samples
+pub mod Steps
