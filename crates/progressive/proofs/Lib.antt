@@ -2,3 +2,4 @@
 pub mod Lists
 pub mod Samples
 pub mod Steps
+pub mod Walks
