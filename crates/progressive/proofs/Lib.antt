@@ -1,4 +1,7 @@
 -- Laws of the pass, for the proofs here and in the crates above.
+pub mod Lists
 pub mod Samples
 pub mod WrittenValues
 pub mod RawNumbers
+pub mod Steps
+pub mod Walks

@@ -66,7 +66,7 @@ fn srl_place(
 
 // The raw bits of a place, as a number.
 fn raw_number(raw_data: &[u8], at: usize, width: u8) -> u16
-    requires { ⌜ width ≤ 15 ⌝ }
+    requires { ⌜ Width width ⌝ }
     ensures { λ r. ⌜ r ≡ num (now («raw_data» .entry)) at width ⌝ }
 {
     bits::reader::number(raw_data, bits::reader::place(at), width) as u16
@@ -81,7 +81,7 @@ fn raw_place(
     i: usize,
     coefficients: &mut [i16],
 )
-    requires { ⌜ (t .width ≤ 15) × (i < length (now coefficients)) ⌝ }
+    requires { ⌜ Width (t .width) × (i < length (now coefficients)) ⌝ }
     ensures { λ _. ⌜ now (coefficients .exit) ≡ set (now (coefficients .entry)) i (rawCoefficient adds (t .position) (num (now («raw_data» .entry)) at (t .width)) (getD (now (coefficients .entry)) i (pos 0))) ⌝ }
 {
     let m = raw_number(raw_data, at, t.width);
@@ -166,14 +166,23 @@ fn one_band(
 
 // ---- all bands
 
+// The width of a band.
+fn band_width(prev: u8, curr: u8) -> u8
+    ensures { λ r. ⌜ r ≡ prev - curr ⌝ }
+{
+    if curr < prev {
+        return prev - curr;
+    }
+    0
+}
+
 // What a pass does in the band numbered `b`.
 pub fn band_step(b: usize, prev: u8, curr: u8) -> BandStep
     ensures { λ r. ⌜ bandStep r ≡ stepAt b prev curr ⌝ }
 {
-    let width = if curr < prev { prev - curr } else { 0 };
     BandStep {
         bottom: b == 9,
-        width,
+        width: band_width(prev, curr),
         position: curr,
     }
 }
