@@ -5,3 +5,5 @@ pub mod WrittenValues
 pub mod RawNumbers
 pub mod Steps
 pub mod Walks
+pub mod BothStreams
+pub mod Collected

@@ -1,7 +1,7 @@
 -- Laws of the numbers of the raw stream, each with its width: measured and written one by one. Assumes nothing.
 use mathlib.Core.Path.{_≡_, refl, ap, sym, _∙_}
 use mathlib.Core.List.{List, [], _∷_, _++_}
-use Prim.Native.Nat.{ℕ, zero, suc, _+_, _/_, _≤_, _<_}
+use Prim.Native.Nat.{ℕ, zero, suc, _+_, _*_, _/_, _≤_, _<_}
 use native.Mathlib.Numerals.{add-one}
 use native.Mathlib.Omega.{arith}
 use lib.ListN.{length, getD, drop, length-append}
@@ -10,7 +10,7 @@ use Rattle.bits.specs.Written.{bitsOf, bitsOfAll, pack}
 use Rattle.bits.proofs.Puts.{length-bitsOf}
 use Rattle.bits.proofs.Packed.{length-pack}
 use Rattle.progressive.specs.Encode.{rawStream}
-use Rattle.progressive.specs.Writing.{total}
+use Rattle.progressive.specs.Writing.{AllWide, total}
 
 pub total-step : (ws : List ℕ) (i : ℕ) → i < length ws → total (drop i ws) ≡ getD ws i 0 + total (drop (i + 1) ws)
 total-step ws i h = ap total (drop-cons ws i 0 h) ∙ ap (λ n. getD ws i 0 + total (drop n ws)) (sym (add-one i))
@@ -44,3 +44,7 @@ length-all (w ∷ ws) (x ∷ xs) h =
 -- and how many bytes
 pub raw-bytes : (ws xs : List ℕ) → length ws ≡ length xs → length (rawStream ws xs) ≡ (total ws + 7) / 8
 raw-bytes ws xs h = omega (arith, length-pack (bitsOfAll ws xs) 0 0 (omega arith), length-all ws xs h)
+
+pub total-wide : (ws : List ℕ) → AllWide ws → total ws ≤ 15 * length ws
+total-wide [] a = omega arith
+total-wide (w ∷ ws) a = omega (arith, a .0 .1, total-wide ws (a .1))

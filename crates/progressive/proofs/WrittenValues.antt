@@ -3,21 +3,23 @@ use mathlib.Core.Path.{_≡_, refl, ap, sym, _∙_}
 use mathlib.Core.Bool.{Bool, true, false, cond, _||_}
 use mathlib.Core.List.{List, [], _∷_, _++_}
 use Prim.Native.Nat.{ℕ, zero, suc, _+_, _-_, _*_, _/_, _^_, _≤_, _<_}
+use native.Mathlib.Nat.{zero-add}
 use native.Mathlib.Numerals.{add-one}
 use native.Mathlib.Omega.{arith}
 use borrow.Author.Tests.{lt-ltb, le-ltb, ltb-true, ltb-false}
 use lib.Dec.{ltb}
 use lib.IntN.{ℤ, pos, negsuc, natAbs}
-use lib.ListN.{length, getD, drop, length-append}
-use lib.Seq.{drop-cons}
+use lib.ListN.{length, getD, drop, set, length-append}
+use lib.Seq.{drop-cons, sets}
 use lib.Signed.{mag}
-use Rattle.bits.specs.Written.{after, write, counted, pack}
+use Rattle.bits.specs.Written.{after, write, counted, pack, padCount, padOut}
+use Rattle.bits.specs.declared.writer.BitWriter.{BitWriter}
 use Rattle.bits.proofs.Puts.{after-append, write-append, after-sound, after-at}
-use Rattle.bits.proofs.Packed.{counted-two, length-pack}
+use Rattle.bits.proofs.Packed.{counted-two, length-pack, sets-append, padded}
 use Rattle.srl.specs.Inner.{Width}
-use Rattle.srl.specs.Encode.{valueBits, valueKp, valueZeros, valueFault, firstOf}
+use Rattle.srl.specs.Encode.{valueBits, valueKp, valueZeros, valueFault, firstOf, freshWriter}
 use Rattle.srl.specs.Finish.{flush, streamBits}
-use Rattle.srl.specs.EncodeInner.{valueState, valueWrite, valueMeasure, placeOf, Good, GoodMeasure}
+use Rattle.srl.specs.EncodeInner.{callStart, valueState, valueWrite, valueMeasure, placeOf, Good, GoodMeasure}
 use Rattle.srl.specs.declared.encoder.CallState.{CallState}
 use Rattle.srl.specs.declared.encoder.Measured.{Measured}
 use Rattle.srl.proofs.EncodedValues.{value-kp, value-zeros}
@@ -122,6 +124,22 @@ some-length ws vs h =
 pub surely : (ws : List ℕ) (vs : List ℤ) (room : ℕ) → (magnitudes vs + 12 * length vs + 40) / 8 < room → length (srlStream ws vs) ≤ room
 surely ws [] room h = omega arith
 surely ws (v ∷ vs) room h = omega (arith, some-length ws (v ∷ vs) (λ e. omega arith), stream-small 8 0 ws (v ∷ vs) (omega arith))
+
+-- the stream is written: k and q are the writer and the output after its bits, n and p what the padding gives, and a byte 0 follows
+pub stream-out : (ws : List ℕ) (vs : List ℤ) (out : List ℕ) {k : BitWriter} {q p : List ℕ} {n : ℕ} → (length vs ≡ 0 → ⊥)
+    → k ≡ streamAfter (callStart freshWriter) ws vs → q ≡ streamWrite out (callStart freshWriter) ws vs → n ≡ padCount k → p ≡ padOut q k
+    → (n + 1 ≡ length (srlStream ws vs)) × (set p n 0 ≡ sets out 0 (srlStream ws vs))
+stream-out ws vs out {n = n} h a b c d =
+    let bits = streamBits 8 0 ws vs in
+    let bytes = pack 0 0 bits in
+    let r = padded bits out a b c d in (
+      omega (arith, r .0, length-append bytes (0 ∷ [])) ∙ ap length (sym (stream-some ws vs h)),
+      ap (λ l. set l n 0) (r .1)
+          ∙ ap (λ i. set (sets out 0 bytes) i 0) (r .0)
+          ∙ ap (λ i. set (sets out 0 bytes) i 0) (sym (zero-add (length bytes)))
+          ∙ sym (sets-append bytes (0 ∷ []) out 0)
+          ∙ ap (sets out 0) (sym (stream-some ws vs h)),
+    )
 
 -- ════ measuring, value by value ════
 

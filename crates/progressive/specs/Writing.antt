@@ -47,6 +47,9 @@ abbrev pub joined : Lists → Lists → Lists
 joined a b =
     lists (a .values ++ b .values) (a .widths ++ b .widths) (a .numbers ++ b .numbers) (a .numberWidths ++ b .numberWidths)
 
+abbrev pub counts : ℕ → ℕ → Collected
+counts n m = record { srl = n; raw = m }
+
 -- what four arrays hold, filled as far as the counts say
 abbrev pub filled : Collected → List ℤ → List ℕ → List ℕ → List ℕ → Lists
 filled d vs ws ms ns = lists (take (d .srl) vs) (take (d .srl) ws) (take (d .raw) ms) (take (d .raw) ns)

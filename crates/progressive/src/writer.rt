@@ -238,7 +238,7 @@ fn srl_length(values: &[i16], widths: &[u8]) -> usize
 
 fn sum_magnitudes(values: &[i16]) -> usize
     requires { ⌜ length (now values) ≤ 4096 ⌝ }
-    ensures { λ r. ⌜ r ≡ magnitudes (now (values .entry)) ⌝ }
+    ensures { λ r. ⌜ (r ≡ magnitudes (now (values .entry))) × (r ≤ 32768 * 4096) ⌝ }
 {
     let mut sum: usize = 0;
     let mut i: usize = 0;

@@ -44,7 +44,7 @@ returns : tie.Need-returns Inv-loop μ-loop
 returns c =
     let vs = c .before .before .args .values .now in
     let l = c .before .loop in
-    omega (arith, l .inv .2, ap magnitudes (drop-of-length-le vs {i = l .i} (omega arith)))
+    (omega (arith, l .inv .2, ap magnitudes (drop-of-length-le vs {i = l .i} (omega arith))), omega (arith, l .inv .1, l .inv .0, c .before .before .pre))
 
 pub sum-magnitudes-spec : {M : Type 1} → statement M
 sum-magnitudes-spec = tie.close (tie.spec Inv-loop μ-loop loop-holds (λ c. search needs) (λ c. search needs) (λ c κs. search needs) (λ c. search needs) add-sum (λ c. search needs) (λ c. search needs) loop-again returns)
