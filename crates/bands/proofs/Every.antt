@@ -21,7 +21,7 @@ module _ {A : Type 0} (f : A → Bool) (l : List A) (j : ℕ) (d : A) where
 pub ends : {A : Type 0} (f : A → Bool) (l : List A) (j : ℕ) → length l ≤ j → every f (drop j l) ≡ true
 ends f l j h = rw (drop-of-length-le l {i = j} h)
 
-both-true : (a b : Bool) → (a && b) ≡ true → (a ≡ true) × (b ≡ true)
+pub both-true : (a b : Bool) → (a && b) ≡ true → (a ≡ true) × (b ≡ true)
 both-true true b e = (refl, e)
 both-true false b e = absurd (true≢false (sym e))
 
