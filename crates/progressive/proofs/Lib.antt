@@ -1,4 +1,5 @@
 -- Laws of the pass, for the proofs here and in the crates above.
+pub mod Bandwise
 pub mod Lists
 pub mod Samples
 pub mod WrittenValues

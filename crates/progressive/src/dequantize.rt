@@ -6,6 +6,7 @@ ghost use mathlib.Core.List.{map};
 ghost use lib.ListN.{length};
 ghost use Rattle.fixed.specs.Fixed.{roundShift, shiftLeftClamp};
 ghost use Rattle.progressive.specs.Dequantize.{dequantized, dequantizedAll, quantizers};
+use crate::span;
 
 // Each coefficient shifted left and clamped.
 fn shift_left_all(coefficients: &mut [i16], shift: u8)
@@ -51,9 +52,9 @@ pub fn dequantize_bands(coefficients: &mut [i16], quant: [u8; 10], use_reduce_ex
 {
     let mut b: usize = 0;
     while b < 10 {
-        let info = bands::band(use_reduce_extrapolate, b);
-        let from = info.offset;
-        let to = from + info.width * info.height;
+        let place = span::band_span(use_reduce_extrapolate, b);
+        let from = place.from;
+        let to = place.to;
         dequantize_band(&mut coefficients[from..to], quant[b]);
         b += 1;
     }
