@@ -21,6 +21,10 @@ use Rattle.progressive.proofs.Steps.{source-srl, source-raw, source-non
 
 -- ════ one place ════
 
+pub one-le : (b : Bool) → oneIf b ≤ 1
+one-le true = omega arith
+one-le false = omega arith
+
 -- an element before others, where it is kept
 abbrev keep : {A : Type 0} → Bool → A → List A → List A
 keep true a l = a ∷ l
