@@ -1,22 +1,29 @@
 -- Laws of collecting: what a place adds to the lists, a band, and a band that is skipped. Assumes nothing.
-use mathlib.Core.Path.{_≡_, refl, ap, sym, _∙_}
+use mathlib.Core.Path.{_≡_, refl, ap, sym, _∙_, subst}
 use mathlib.Core.Bool.{Bool, true, false, not}
 use mathlib.Core.List.{List, [], _∷_, _++_, append-assoc, append-nil}
 use Prim.Native.Nat.{ℕ, zero, suc, _+_, _-_, _≤_, _<_}
 use native.Mathlib.Nat.{add-zero, le-refl}
 use native.Mathlib.Numerals.{add-one}
 use native.Mathlib.Omega.{arith}
+use borrow.Author.Tests.{ltb-true, ltb-false}
+use lib.Dec.{ltb}
 use lib.IntN.{ℤ, pos}
-use lib.ListN.{length, getD, take, drop, set, replicate}
-use lib.Seq.{drop-cons, take-suc-set, take-set-le}
+use lib.ListN.{length, getD, take, drop, set, replicate, List·getD-eq-default}
+use lib.Seq.{drop-cons, take-suc-set, take-set-le, length-take-le}
 use Rattle.fixed.specs.Fixed.{isZero}
 use Rattle.bands.specs.declared.BandInfo.{BandInfo}
 use Rattle.bands.specs.Bands.{countOf, layout, spread}
 use Rattle.bands.specs.Positions.{rowInDomain}
+use Rattle.bands.proofs.Every.{low-position}
+use Rattle.bands.proofs.Laid.{band-within}
+use Rattle.bands.proofs.Spread.{perPlaceTo, place-none, place-count}
 use Rattle.progressive.specs.Upgrade.{Step, Source, skipped, srl, raw, sourceOf, source, stepOf, steps, srlWidth, srlWidths, rawWidth, rawWidths}
 use Rattle.progressive.specs.Encode.{srlDifference, rawDifference, srlGiven, rawGiven, srlDifferences, rawDifferences}
 use Rattle.progressive.specs.Walk.{fromSrl}
-use Rattle.progressive.specs.Writing.{AllWide, oneIf, Lists, lists, passLists, joined, filled, counts}
+use Rattle.progressive.specs.Writing.{AllWide, oneIf, Lists, lists, passLists, joined, filled, counts, Long, Both}
+use Rattle.progressive.specs.declared.writer.Collected.{Collected}
+use Rattle.progressive.proofs.Bandwise.{Lies, place-more}
 use Rattle.progressive.proofs.Steps.{source-srl, source-raw, source-none}
 
 -- ════ one place ════
@@ -222,10 +229,24 @@ pass-append ts us cs ps ss h j k =
     let w = more-number-widths ts us ss k in
     λ o. lists (x o) (y o) (z o) (w o)
 
--- no band
-pub pass-none : (cs ps ss : List ℤ) → passLists [] cs ps ss ≡ lists [] [] [] []
+-- of a layout: before its first band, and one band more
+pub pass-start : (e : Bool) (f : ℕ → Step) (cs ps ss : List ℤ) → passLists (perPlaceTo e f 0) cs ps ss ≡ lists [] [] [] []
 unfolding srlDifferences srlWidths rawDifferences rawWidths
-pass-none cs ps ss = refl
+pass-start e f cs ps ss = ap (λ (ts : List Step). passLists ts cs ps ss) (place-none e f)
+
+pub pass-turn : (e : Bool) (f : ℕ → Step) (b from to : ℕ) → Lies e b from to → (cs ps ss : List ℤ) → Long cs → Long ps → Long ss → {a d : Lists}
+    → a ≡ passLists (perPlaceTo e f b) cs ps ss → d ≡ joined a (passLists (replicate (to - from) (f b)) (drop from cs) (drop from ps) (drop from ss))
+    → d ≡ passLists (perPlaceTo e f (b + 1)) cs ps ss
+pass-turn e f b from to p cs ps ss h j k {a} {d} before now =
+    let ts = perPlaceTo e f b in
+    let us = replicate (to - from) (f b) in
+    let n : length ts ≡ from = place-count e f b (p .number) ∙ sym (p .begins) in
+    let m : length ts ≤ 4096 = omega (arith, n, p .begins, band-within e b) in
+    now
+    ∙ ap (λ (x : Lists). joined x (passLists us (drop from cs) (drop from ps) (drop from ss))) before
+    ∙ ap (λ (x : ℕ). joined (passLists ts cs ps ss) (passLists us (drop x cs) (drop x ps) (drop x ss))) (sym n)
+    ∙ sym (pass-append ts us cs ps ss (omega arith) (omega arith) (omega arith))
+    ∙ ap (λ (x : List Step). passLists x cs ps ss) (sym (place-more e f b from to p))
 
 -- ════ the widths that are collected ════
 
@@ -270,3 +291,28 @@ raw-wide (t ∷ ts) (s ∷ ss) a = by (t .bottom) (t .width) (isZero s) (rawWidt
     by true (suc w) z ws h r = ((omega arith, h), r)
     by false (suc w) true ws h r = r
     by false (suc w) false ws h r = ((omega arith, h), r)
+
+-- the positions of a row in the domain are low, and past its end they are 0
+low : (row : List ℕ) (b : ℕ) → rowInDomain row ≡ true → getD row b 0 ≤ 15
+low row b e = by (ltb b (length row)) refl
+  where
+    by : (q : Bool) → ltb b (length row) ≡ q → getD row b 0 ≤ 15
+    by true q = low-position row b e (ltb-true b (length row) q)
+    by false q = rw (List·getD-eq-default row 0 (ltb-false b (length row) q)) (omega arith)
+
+narrow-steps : (e : Bool) (prev curr : List ℕ) → rowInDomain prev ≡ true → Narrow (steps e prev curr)
+narrow-steps e prev curr h = narrow-spread (stepOf prev curr) 0 (layout e) (λ b. omega (arith, low prev b h))
+
+-- what a pass gives has a width for each value: the arrays hold it as far as the counts say
+pub collected-both : (e : Bool) (prev curr : List ℕ) (cs ps ss : List ℤ) (d : Collected) (vs : List ℤ) (ws ms ns : List ℕ) → rowInDomain prev ≡ true → d .srl + d .raw ≤ 4096
+    → Long vs → Long ws → Long ms → Long ns → filled d vs ws ms ns ≡ passLists (steps e prev curr) cs ps ss
+    → Both (take (d .srl) vs) (take (d .srl) ws) × Both (take (d .raw) ms) (take (d .raw) ns)
+collected-both e prev curr cs ps ss d vs ws ms ns r n h j k l q =
+    let ts = narrow-steps e prev curr r in
+    let a = length-take-le (d .srl) vs (omega arith) in
+    let b = length-take-le (d .srl) ws (omega arith) in
+    let x = length-take-le (d .raw) ms (omega arith) in
+    let y = length-take-le (d .raw) ns (omega arith) in (
+      record { same = b ∙ sym a; few = omega (arith, a); wide = subst AllWide (sym (ap (λ (g : Lists). g .widths) q)) (srl-wide (steps e prev curr) ss ts) },
+      record { same = y ∙ sym x; few = omega (arith, x); wide = subst AllWide (sym (ap (λ (g : Lists). g .numberWidths) q)) (raw-wide (steps e prev curr) ss ts) },
+    )

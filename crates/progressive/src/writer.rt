@@ -17,6 +17,7 @@ ghost use Rattle.progressive.specs.Encode.{srlDifference, rawDifference,
 ghost use Rattle.progressive.specs.Walk.{bandStep};
 ghost use Rattle.progressive.specs.Writing.{oneIf, Lists, lists, passLists, joined, filled, Long, AllWide, Both, anyTooLarge, magnitudes, total, endCount, streamAfter, streamWrite, listsAnswer, listsSrlOut, listsRawOut};
 use crate::Written;
+use crate::span;
 use crate::upgrade;
 
 // How many values are collected for each stream.
@@ -152,9 +153,9 @@ fn collect(
     let mut b: usize = 0;
     while b < 10 {
         let t = upgrade::band_step(b, prev[b], curr[b]);
-        let info = bands::band(use_reduce_extrapolate, b);
-        let from = info.offset;
-        let to = from + info.width * info.height;
+        let place = span::band_span(use_reduce_extrapolate, b);
+        let from = place.from;
+        let to = place.to;
         done = collect_band(
             coefficients,
             prev_coefficients,
