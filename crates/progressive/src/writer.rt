@@ -89,10 +89,7 @@ fn collect_places(
         m += 1 - one;
         i += 1;
     }
-    Collected {
-        srl: n,
-        raw: m,
-    }
+    Collected { srl: n, raw: m }
 }
 
 // A band: of width 0 it is skipped.
@@ -146,10 +143,7 @@ fn collect(
     requires { ⌜ (rowInDomain curr ≡ true) × Long (now coefficients) × Long (now «prev_coefficients») × Long (now sign) × Long (now «srl_values») × Long (now «srl_widths») × Long (now «raw_values») × Long (now «raw_widths») ⌝ }
     ensures { λ r. ⌜ (filled r (now («srl_values» .exit)) (now («srl_widths» .exit)) (now («raw_values» .exit)) (now («raw_widths» .exit)) ≡ passLists (steps «use_reduce_extrapolate» prev curr) (now (coefficients .entry)) (now («prev_coefficients» .entry)) (now (sign .entry))) × (r .srl + r .raw ≤ 4096) ⌝ }
 {
-    let mut done = Collected {
-        srl: 0,
-        raw: 0,
-    };
+    let mut done = Collected { srl: 0, raw: 0 };
     let mut b: usize = 0;
     while b < 10 {
         let t = upgrade::band_step(b, prev[b], curr[b]);

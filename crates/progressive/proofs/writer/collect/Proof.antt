@@ -43,8 +43,7 @@ collect-band-requires c κs =
     let l = c .before .before .before .before .before .before .before .loop in
     let at = lies (c .before .before .before .before) in
     let low = low-position (k .args .t4) (l .b) (k .pre .0) (omega (arith, l .inv .1, at .number)) in
-    let q : c .before .before .before .before .before .band-step .result .position ≡ getD (k .args .t4) (l .b) 0 = ap (λ (t : Step). t .position) (step (c .before .before .before .before .before)) in
-    (
+    let q : c .before .before .before .before .before .band-step .result .position ≡ getD (k .args .t4) (l .b) 0 = ap (λ (t : Step). t .position) (step (c .before .before .before .before .before)) in (
       omega (arith, q, low),
       omega (arith, l .inv .6, place-count (k .args .use-reduce-extrapolate) (stepOf (k .args .t3) (k .args .t4)) (l .b) (at .number), at .begins),
       omega (arith, at .ends),
@@ -70,8 +69,7 @@ loop-again c =
     let at = lies (c .before .before .before .before .before .before .before .before .before .before .before .before) in
     let cs = a .coefficients .now in
     let ps = a .prev-coefficients .now in
-    let ss = a .sign .now in
-    (
+    let ss = a .sign .now in (
       omega arith,
       l .inv .1,
       u .kept .1 .1 .1 .1 .1 .1 .1 .0 ∙ l .inv .2,
@@ -91,8 +89,7 @@ returns c =
     let e = a .use-reduce-extrapolate in
     let f = stepOf (a .t3) (a .t4) in
     let ten : l .b ≡ 10 = omega arith in
-    let all : perPlaceTo e f (l .b) ≡ steps e (a .t3) (a .t4) = ap (perPlaceTo e f) ten ∙ place-all e f in
-    (
+    let all : perPlaceTo e f (l .b) ≡ steps e (a .t3) (a .t4) = ap (perPlaceTo e f) ten ∙ place-all e f in (
       l .inv .7 ∙ ap (λ ts. passLists ts (a .coefficients .now) (a .prev-coefficients .now) (a .sign .now)) all,
       omega (arith, l .inv .6, ap length all, place-whole e f),
     )

@@ -73,8 +73,7 @@ returns : tie.Need-returns Inv-loop μ-loop
 returns c =
     let k = c .before .before .before .before .before in
     let l = c .before .loop in
-    let a = k .args in
-    (
+    let a = k .args in (
       sym (l .inv .6 ∙ band-done (bandStep (a .t)) (drop (l .i) (a .coefficients .now)) (drop (l .i) (a .prev-coefficients .now)) (drop (l .i) (a .sign .now)) (a .to - l .i) (omega arith) (filled (counts (l .n) (l .m)) (l .srl-values) (l .srl-widths) (l .raw-values) (l .raw-widths))),
       omega (arith, l .inv .0, l .inv .1),
     )
