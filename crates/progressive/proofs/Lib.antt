@@ -1,5 +1,6 @@
 -- Laws of the pass, for the proofs here and in the crates above.
 pub mod Bandwise
+pub mod Dequantized
 pub mod Lists
 pub mod Samples
 pub mod WrittenValues
