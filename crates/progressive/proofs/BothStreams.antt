@@ -1,8 +1,8 @@
 -- Laws of both streams together: what is refused, test by test, and what is answered and stored then. Assumes nothing.
 use mathlib.Core.Path.{_≡_, refl, ap, sym, _∙_}
-use mathlib.Core.Bool.{Bool, true, false, cond, _||_}
+use mathlib.Core.Bool.{Bool, cond, _||_}
 use mathlib.Core.List.{List}
-use Prim.Native.Nat.{ℕ, zero, suc, _+_, _≤_}
+use Prim.Native.Nat.{ℕ, zero, suc, _≤_}
 use native.Mathlib.Omega.{arith}
 use lib.Dec.{ltb}
 use lib.ListN.{length}
@@ -11,7 +11,7 @@ use Rattle.bits.proofs.Packed.{sets-start}
 use Rattle.srl.specs.Decode.{stored}
 use Rattle.srl.specs.Encode.{firstOf}
 use Rattle.srl.proofs.EncodedCalls.{stored-some}
-use Rattle.progressive.specs.Encode.{srlStream, rawStream, noRoomFor, written}
+use Rattle.progressive.specs.Encode.{srlStream, rawStream, written}
 use Rattle.progressive.specs.Writing.{Lists, anyTooLarge, listsRefusal, listsAnswer, listsSrlOut, listsRawOut}
 use Rattle.progressive.specs.declared.Written.the-variants.{Bytes, Refused}
 use Rattle.progressive.proofs.WrittenValues.{fault-by-size}

@@ -220,7 +220,7 @@ more-number-widths (t ∷ ts) us [] k = absurd (omega arith)
 more-number-widths (t ∷ ts) us (s ∷ ss) k =
     ap (rawWidth (source t s) (t .width)) (more-number-widths ts us ss (omega arith)) ∙ given-number-widths (source t s) (t .width) (rawWidths ts ss) (rawWidths us (drop (length ts) ss))
 
-pub pass-append : (ts us : List Step) (cs ps ss : List ℤ) → length ts ≤ length cs → length ts ≤ length ps → length ts ≤ length ss
+pass-append : (ts us : List Step) (cs ps ss : List ℤ) → length ts ≤ length cs → length ts ≤ length ps → length ts ≤ length ss
     → passLists (ts ++ us) cs ps ss ≡ joined (passLists ts cs ps ss) (passLists us (drop (length ts) cs) (drop (length ts) ps) (drop (length ts) ss))
 pass-append ts us cs ps ss h j k =
     let x = more-values ts us cs ps ss h j k in

@@ -1,12 +1,12 @@
 -- Laws of the numbers of the raw stream, each with its width: measured and written one by one. Assumes nothing.
 use mathlib.Core.Path.{_≡_, refl, ap, sym, _∙_}
 use mathlib.Core.List.{List, [], _∷_, _++_}
-use Prim.Native.Nat.{ℕ, zero, suc, _+_, _*_, _/_, _≤_, _<_}
+use Prim.Native.Nat.{ℕ, suc, _+_, _*_, _/_, _≤_, _<_}
 use native.Mathlib.Numerals.{add-one}
 use native.Mathlib.Omega.{arith}
 use lib.ListN.{length, getD, drop, length-append}
 use lib.Seq.{drop-cons}
-use Rattle.bits.specs.Written.{bitsOf, bitsOfAll, pack}
+use Rattle.bits.specs.Written.{bitsOf, bitsOfAll}
 use Rattle.bits.proofs.Puts.{length-bitsOf}
 use Rattle.bits.proofs.Packed.{length-pack}
 use Rattle.progressive.specs.Encode.{rawStream}

@@ -17,12 +17,12 @@ use Rattle.bits.specs.declared.writer.BitWriter.{BitWriter}
 use Rattle.bits.proofs.Puts.{after-append, write-append, after-sound, after-at}
 use Rattle.bits.proofs.Packed.{counted-two, length-pack, sets-append, padded}
 use Rattle.srl.specs.Inner.{Width}
-use Rattle.srl.specs.Encode.{valueBits, valueKp, valueZeros, valueFault, firstOf, freshWriter}
+use Rattle.srl.specs.Encode.{valueBits, valueKp, valueZeros, firstOf, freshWriter}
 use Rattle.srl.specs.Finish.{flush, streamBits}
 use Rattle.srl.specs.EncodeInner.{callStart, valueState, valueWrite, valueMeasure, placeOf, Good, GoodMeasure}
 use Rattle.srl.specs.declared.encoder.CallState.{CallState}
 use Rattle.srl.specs.declared.encoder.Measured.{Measured}
-use Rattle.srl.proofs.EncodedValues.{value-kp, value-zeros}
+use Rattle.srl.proofs.EncodedValues.{value-kp}
 use Rattle.srl.proofs.Runs.{length-flush}
 use Rattle.srl.proofs.Sizes.{value-length}
 use Rattle.progressive.specs.Encode.{valuesFault, srlStream}
@@ -107,7 +107,7 @@ stream-small kp z (w ∷ ws) (v ∷ vs) h =
 -- ════ a whole stream ════
 
 -- where there is a value
-pub stream-some : (ws : List ℕ) (vs : List ℤ) → (length vs ≡ 0 → ⊥) → srlStream ws vs ≡ pack 0 0 (streamBits 8 0 ws vs) ++ (0 ∷ [])
+stream-some : (ws : List ℕ) (vs : List ℤ) → (length vs ≡ 0 → ⊥) → srlStream ws vs ≡ pack 0 0 (streamBits 8 0 ws vs) ++ (0 ∷ [])
 stream-some ws [] h = absurd (h refl)
 stream-some ws (v ∷ vs) h = refl
 
@@ -145,7 +145,7 @@ stream-out ws vs out {n = n} h a b c d =
 
 module _ (ws : List ℕ) (vs : List ℤ) (i : ℕ) (h : i < length ws) (k : i < length vs) where
   -- the rest from here is a value and the rest behind it
-  pub bits-step : (kp z : ℕ) → streamBits kp z (drop i ws) (drop i vs)
+  bits-step : (kp z : ℕ) → streamBits kp z (drop i ws) (drop i vs)
       ≡ valueBits (getD ws i 0) kp z (getD vs i (pos 0)) ++ streamBits (valueKp kp z (getD vs i (pos 0))) (valueZeros z (getD vs i (pos 0))) (drop (i + 1) ws) (drop (i + 1) vs)
   unfolding streamBits
   bits-step kp z =

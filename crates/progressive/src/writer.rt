@@ -1,6 +1,6 @@
 // The writer of a pass. A refusal alters nothing, so the values for both streams are collected first, then judged and measured, then stored.
 ghost use mathlib.Core.Path.{_≡_};
-ghost use mathlib.Core.Bool.{true, cond, _||_};
+ghost use mathlib.Core.Bool.{true, _||_};
 ghost use Prim.Native.Nat.{_+_, _-_, _*_, _/_, _^_, _≤_, _<_};
 ghost use lib.Dec.{ltb};
 ghost use lib.IntN.{natAbs};
@@ -15,7 +15,7 @@ ghost use Rattle.srl.specs.EncodeInner.{callStart, measureStart, placeOf, Good,
 ghost use Rattle.progressive.specs.Upgrade.{steps};
 ghost use Rattle.progressive.specs.Encode.{srlDifference, rawDifference, srlStream, rawStream};
 ghost use Rattle.progressive.specs.Walk.{bandStep};
-ghost use Rattle.progressive.specs.Writing.{oneIf, Lists, lists, passLists, joined, filled, Long, AllWide, Both, anyTooLarge, magnitudes, total, endCount, streamAfter, streamWrite, listsAnswer, listsSrlOut, listsRawOut};
+ghost use Rattle.progressive.specs.Writing.{oneIf, lists, passLists, joined, filled, Long, AllWide, Both, anyTooLarge, magnitudes, total, endCount, streamAfter, streamWrite, listsAnswer, listsSrlOut, listsRawOut};
 use crate::Written;
 use crate::span;
 use crate::upgrade;

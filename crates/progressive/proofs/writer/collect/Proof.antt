@@ -5,10 +5,10 @@ use native.Mathlib.Omega.{arith}
 use lib.ListN.{length, drop, getD, replicate}
 use borrow.Author.Needs.{needs}
 use Rattle.bands.proofs.Every.{low-position}
-use Rattle.bands.proofs.Spread.{perPlaceTo, place-none, place-count, place-all, place-whole}
+use Rattle.bands.proofs.Spread.{perPlaceTo, place-count, place-all, place-whole}
 use Rattle.progressive.specs.Upgrade.{Step, stepOf, steps}
 use Rattle.progressive.specs.Walk.{bandStep}
-use Rattle.progressive.specs.Writing.{Lists, passLists, joined, filled}
+use Rattle.progressive.specs.Writing.{passLists, joined, filled}
 use Rattle.progressive.proofs.Bandwise.{Lies, more-length}
 use Rattle.progressive.proofs.Collected.{pass-start, pass-turn}
 use Rattle.progressive.proofs.writer.collect.Statement.{statement}

@@ -1,5 +1,4 @@
 -- `progressive::writer::put_raw` meets its contract. Assumes nothing.
-use mathlib.Core.Path.{_≡_, sym, ap, _∙_}
 use native.Mathlib.Omega.{arith}
 use borrow.Author.Needs.{needs}
 use Rattle.bits.specs.Written.{bitsOfAll, writer}

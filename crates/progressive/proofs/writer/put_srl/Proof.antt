@@ -1,11 +1,10 @@
 -- `progressive::writer::put_srl` meets its contract. Assumes nothing.
-use mathlib.Core.Path.{_≡_, sym, ap, _∙_}
+use mathlib.Core.Path.{sym, ap, _∙_}
 use Prim.Native.Nat.{_+_, _*_, _≤_}
 use native.Mathlib.Omega.{arith}
 use lib.ListN.{length}
 use lib.Seq.{sets}
 use borrow.Author.Needs.{needs}
-use Rattle.bits.specs.Written.{padCount}
 use Rattle.bits.proofs.Puts.{wrote-sound, wrote-at}
 use Rattle.bits.proofs.Packed.{pad-le}
 use Rattle.srl.specs.Finish.{flush}

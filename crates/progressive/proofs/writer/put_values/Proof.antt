@@ -1,10 +1,10 @@
 -- `progressive::writer::put_values` meets its contract. The invariant: the writer and the bytes after the whole stream are those after the rest
 -- from here. Assumes nothing.
-use mathlib.Core.Path.{_≡_, refl, sym, ap, _∙_, subst}
+use mathlib.Core.Path.{_≡_, refl, sym, ap, _∙_}
 use Prim.Native.Nat.{_+_, _-_, _*_, _≤_}
 use native.Mathlib.Omega.{arith}
 use lib.ListN.{length, drop, getD, drop-of-length-le}
-use lib.IntN.{pos, natAbs}
+use lib.IntN.{pos}
 use mir.Val.{toZ, ofZ}
 use mir.Syntax.{w16}
 use mir.ValLaws.{toZ-ofZ}
@@ -12,7 +12,6 @@ use borrow.Author.Needs.{needs}
 use Rattle.bits.specs.Written.{after, write}
 use Rattle.srl.specs.Encode.{freshWriter}
 use Rattle.srl.specs.EncodeInner.{callStart, valueState, valueWrite, Good}
-use Rattle.srl.proofs.EncodedValues.{value-zeros}
 use Rattle.progressive.specs.Writing.{streamAfter, streamWrite}
 use Rattle.progressive.proofs.WrittenValues.{wide-at, abs-small, after-step, write-step, bits-none, state-good, state-small}
 use Rattle.progressive.proofs.writer.put_values.Statement.{statement}

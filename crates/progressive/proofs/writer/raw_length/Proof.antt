@@ -1,8 +1,8 @@
 -- `progressive::writer::raw_length` meets its contract. The invariant: the sum of all is that of those seen and those left. Assumes nothing.
-use mathlib.Core.Path.{_≡_, sym, ap, _∙_}
+use mathlib.Core.Path.{_≡_, ap}
 use Prim.Native.Nat.{_+_, _-_, _*_, _≤_}
 use native.Mathlib.Omega.{arith}
-use lib.ListN.{length, drop, getD, drop-of-length-le}
+use lib.ListN.{length, drop, drop-of-length-le}
 use borrow.Author.Needs.{needs}
 use Rattle.progressive.specs.Writing.{total}
 use Rattle.progressive.proofs.RawNumbers.{total-step}

@@ -1,5 +1,5 @@
 -- `progressive::writer::srl_difference` meets its contract. Assumes nothing.
-use mathlib.Core.Path.{_≡_, ap, _∙_}
+use mathlib.Core.Path.{ap, _∙_}
 use lib.IntN.{_-ℤ_}
 use mir.Val.{toZ, ofZ}
 use mir.Syntax.{w16}

@@ -1,9 +1,7 @@
 -- `progressive::writer::srl_exceeds` meets its contract: what surely fits is not measured, and else the measure is exact. Assumes nothing.
-use mathlib.Core.Path.{_≡_, sym, ap, _∙_}
-use Prim.Native.Nat.{_+_, _*_, _/_, _≤_, _<_}
+use mathlib.Core.Path.{sym, ap}
 use native.Mathlib.Omega.{arith}
 use lib.Dec.{ltb}
-use lib.ListN.{length}
 use borrow.Author.Needs.{needs}
 use borrow.Author.Tests.{le-ltb}
 use Rattle.progressive.proofs.WrittenValues.{surely}

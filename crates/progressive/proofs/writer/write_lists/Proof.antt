@@ -1,14 +1,11 @@
 -- `progressive::writer::write_lists` meets its contract: each test is one of `listsRefusal`, and the bytes stored are those measured. Assumes nothing.
-use mathlib.Core.Path.{_≡_, refl, sym, ap, _∙_}
-use mathlib.Core.Bool.{Bool, true, false, cond, _||_}
+use mathlib.Core.Path.{_≡_, refl, sym, _∙_}
 use Prim.Native.Nat.{_≤_}
 use native.Mathlib.Omega.{arith}
-use lib.Dec.{ltb}
 use lib.ListN.{length}
 use borrow.Author.Needs.{needs}
 use borrow.Author.Tests.{lt-ltb, le-ltb, ltb-false}
-use Rattle.srl.specs.Encode.{firstOf}
-use Rattle.progressive.specs.Encode.{srlStream, rawStream}
+use Rattle.progressive.specs.Encode.{rawStream}
 use Rattle.progressive.specs.Writing.{Lists, lists}
 use Rattle.progressive.proofs.BothStreams.{refusal-is, refused, accepted}
 use Rattle.progressive.proofs.RawNumbers.{raw-bytes}
