@@ -4,8 +4,8 @@ pub mod Dequantized
 pub mod Lists
 pub mod Samples
 pub mod WrittenValues
-pub mod RawNumbers
 pub mod Steps
 pub mod Walks
 pub mod BothStreams
-pub mod Collected
+pub mod Onward
+pub mod Surveyed

@@ -158,10 +158,7 @@ fn readers_of(
 {
     Readers {
         srl: srl::SrlState {
-            reader: bits::reader::BitReader {
-                byte_idx,
-                bit_idx,
-            },
+            reader: bits::reader::BitReader { byte_idx, bit_idx },
             kp,
             zero_run_remaining: run,
             nonzero_pending: pending,

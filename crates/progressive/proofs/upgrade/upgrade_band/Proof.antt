@@ -29,8 +29,7 @@ upgrade-place-requires : tie.Need-upgrade-place-requires Inv-loop μ-loop
 upgrade-place-requires c κs =
     let p = c .before .before .before .before .before .before .before .before .before .pre in
     let l = c .before .before .before .before .loop in
-    let y = l .inv .4 (2 ^ 40) (p .1) in
-    (
+    let y = l .inv .4 (2 ^ 40) (p .1) in (
       p .0,
       subst (λ (r : Readers). Early r (2 ^ 41)) (sym (c .before .before .readers-of .ensures)) (record { place = y .place; kp = y .kp; srl-read = omega (arith, y .srl-read, l .inv .0, p .3); raw-read = omega (arith, y .raw-read, l .inv .0, p .3) }),
       omega arith,
