@@ -5,8 +5,8 @@ pub mod Lists
 pub mod Regained
 pub mod Samples
 pub mod WrittenValues
-pub mod RawNumbers
 pub mod Steps
 pub mod Walks
 pub mod BothStreams
-pub mod Collected
+pub mod Onward
+pub mod Surveyed

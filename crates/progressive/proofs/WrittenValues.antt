@@ -1,65 +1,36 @@
 -- Laws of the values of the SRL stream, each with its width: judged, measured and written one by one. Assumes nothing.
-use mathlib.Core.Path.{_≡_, refl, ap, sym, _∙_}
+use mathlib.Core.Path.{_≡_, refl, ap, sym, _∙_, subst}
 use mathlib.Core.Bool.{Bool, true, false, cond, _||_}
-use mathlib.Core.List.{List, [], _∷_, _++_}
+use mathlib.Core.List.{List, [], _∷_, _++_, append-nil}
 use Prim.Native.Nat.{ℕ, zero, suc, _+_, _-_, _*_, _/_, _^_, _≤_, _<_}
 use native.Mathlib.Nat.{zero-add}
-use native.Mathlib.Numerals.{add-one}
 use native.Mathlib.Omega.{arith}
 use borrow.Author.Tests.{lt-ltb, le-ltb, ltb-true, ltb-false}
 use lib.Dec.{ltb}
-use lib.IntN.{ℤ, pos, negsuc, natAbs}
-use lib.ListN.{length, getD, drop, set, length-append}
-use lib.Seq.{drop-cons, sets}
-use lib.Signed.{mag}
-use Rattle.bits.specs.Written.{after, write, counted, pack, padCount, padOut}
+use lib.IntN.{ℤ, pos, negsuc, natAbs, _-ℤ_}
+use lib.ListN.{length, set, length-append}
+use lib.Seq.{sets}
+use Rattle.fixed.specs.Fixed.{clampI16, floorShift}
+use Rattle.bits.specs.Written.{bitsOf, bitsOfAll, after, write, counted, pack, padCount, padOut}
 use Rattle.bits.specs.declared.writer.BitWriter.{BitWriter}
-use Rattle.bits.proofs.Puts.{after-append, write-append, after-sound, after-at}
+use Rattle.bits.proofs.Puts.{after-append, write-append, after-sound, after-at, wrote-sound, wrote-at, length-bitsOf}
 use Rattle.bits.proofs.Packed.{counted-two, length-pack, sets-append, padded}
-use Rattle.srl.specs.Inner.{Width}
-use Rattle.srl.specs.Encode.{valueBits, valueKp, valueZeros, firstOf, freshWriter}
+use Rattle.srl.specs.Encode.{valueBits, valueKp, valueZeros, firstOf}
 use Rattle.srl.specs.Finish.{flush, streamBits}
-use Rattle.srl.specs.EncodeInner.{callStart, valueState, valueWrite, valueMeasure, placeOf, Good, GoodMeasure}
+use Rattle.srl.specs.EncodeInner.{valueState, valueWrite, valueMeasure, placeOf}
 use Rattle.srl.specs.declared.encoder.CallState.{CallState}
 use Rattle.srl.specs.declared.encoder.Measured.{Measured}
-use Rattle.srl.proofs.EncodedValues.{value-kp}
+use Rattle.srl.proofs.EncodedValues.{value-kp, value-zeros}
 use Rattle.srl.proofs.Runs.{length-flush}
 use Rattle.srl.proofs.Sizes.{value-length}
-use Rattle.progressive.specs.Encode.{valuesFault, srlStream}
-use Rattle.progressive.specs.Writing.{AllWide, anyTooLarge, magnitudes, endCount, streamAfter, streamWrite}
-
--- ════ widths ════
-
-pub wide-at : (ws : List ℕ) (i : ℕ) → AllWide ws → i < length ws → Width (getD ws i 0)
-wide-at [] i a h = absurd (omega arith)
-wide-at (w ∷ ws) zero a h = a .0
-wide-at (w ∷ ws) (suc i) a h = wide-at ws i (a .1) (omega arith)
+use Rattle.progressive.specs.Upgrade.{Step}
+use Rattle.progressive.specs.Encode.{srlDifference, rawDifference, valuesFault, srlStream, rawStream}
+use Rattle.progressive.specs.Walk.{fromSrl}
+use Rattle.progressive.specs.Writing.{Lists, placeLists, anyTooLarge, magnitudes, measuredOf, endCount, Measures, Measurable, freshSinks, streamAfter, streamWrite, endLength, endOut, Outputs, outputs, Stores, Writable}
+use Rattle.progressive.specs.declared.writer.Sinks.{Sinks}
+use Rattle.progressive.proofs.Onward.{Onward, chain, place-srl, place-raw}
 
 -- ════ judging ════
-
-or-assoc : (a b c : Bool) → (a || (b || c)) ≡ ((a || b) || c)
-or-assoc true b c = refl
-or-assoc false b c = refl
-
-or-false : (a : Bool) → (a || false) ≡ a
-or-false true = refl
-or-false false = refl
-
--- one more is judged
-pub large-step : (ws : List ℕ) (vs : List ℤ) (i : ℕ) (b : Bool) → i < length ws → i < length vs
-    → (b || anyTooLarge (drop i ws) (drop i vs)) ≡ ((b || ltb (2 ^ getD ws i 0 - 1) (natAbs (getD vs i (pos 0)))) || anyTooLarge (drop (i + 1) ws) (drop (i + 1) vs))
-unfolding anyTooLarge
-large-step ws vs i b h k =
-    ap (λ l. b || anyTooLarge l (drop i vs)) (drop-cons ws i 0 h)
-    ∙ ap (λ l. b || anyTooLarge (getD ws i 0 ∷ drop (suc i) ws) l) (drop-cons vs i (pos 0) k)
-    ∙ or-assoc b (ltb (2 ^ getD ws i 0 - 1) (natAbs (getD vs i (pos 0)))) (anyTooLarge (drop (suc i) ws) (drop (suc i) vs))
-    ∙ ap (λ n. (b || ltb (2 ^ getD ws i 0 - 1) (natAbs (getD vs i (pos 0)))) || anyTooLarge (drop n ws) (drop n vs)) (sym (add-one i))
-
--- none is left
-pub large-none : (ws : List ℕ) (b : Bool) → (b || anyTooLarge ws []) ≡ b
-unfolding anyTooLarge
-large-none [] b = or-false b
-large-none (w ∷ ws) b = or-false b
 
 judged : (w m f : ℕ) (b : Bool) → f ≡ cond b 5 0 → firstOf (cond (ltb m (2 ^ w - 1)) 0 5) f ≡ cond (ltb (2 ^ w - 1) (suc m) || b) 5 0
 judged w m f b e = by (ltb m (2 ^ w - 1)) refl
@@ -82,14 +53,14 @@ fault-by-size z (w ∷ ws) (negsuc m ∷ vs) h = judged w m (valuesFault 0 ws vs
 
 -- ════ how large ════
 
--- a value of sixteen bits
-pub abs-small : (v : ℤ) → mag v < 32768 → natAbs v ≤ 32768
-abs-small (pos n) h = omega arith
-abs-small (negsuc n) h = omega arith
-
-pub sum-step : (vs : List ℤ) (i : ℕ) → i < length vs → magnitudes (drop i vs) ≡ natAbs (getD vs i (pos 0)) + magnitudes (drop (i + 1) vs)
-sum-step vs i h =
-    ap magnitudes (drop-cons vs i (pos 0) h) ∙ ap (λ n. natAbs (getD vs i (pos 0)) + magnitudes (drop n vs)) (sym (add-one i))
+-- a value is one of sixteen bits
+pub difference-small : (q : ℕ) (c p : ℤ) → natAbs (srlDifference q c p) ≤ 32768
+unfolding clampI16
+difference-small q c p = by (floorShift c q -ℤ floorShift p q)
+  where
+    by : (z : ℤ) → natAbs (clampI16 z) ≤ 32768
+    by (pos n) = omega arith
+    by (negsuc n) = omega arith
 
 -- at most its magnitude and 12 bits for each value, and the zeros that are pending
 stream-small : (kp z : ℕ) (ws : List ℕ) (vs : List ℤ) → kp ≤ 80 → length (streamBits kp z ws vs) ≤ z + magnitudes vs + 12 * length vs + 11
@@ -115,7 +86,7 @@ pub stream-none : (ws : List ℕ) (vs : List ℤ) → length vs ≡ 0 → srlStr
 stream-none ws [] h = refl
 stream-none ws (v ∷ vs) h = absurd (omega arith)
 
-pub some-length : (ws : List ℕ) (vs : List ℤ) → (length vs ≡ 0 → ⊥) → length (srlStream ws vs) ≡ (length (streamBits 8 0 ws vs) + 7) / 8 + 1
+some-length : (ws : List ℕ) (vs : List ℤ) → (length vs ≡ 0 → ⊥) → length (srlStream ws vs) ≡ (length (streamBits 8 0 ws vs) + 7) / 8 + 1
 some-length ws vs h =
     let bits = streamBits 8 0 ws vs in
     ap length (stream-some ws vs h) ∙ omega (arith, length-append (pack 0 0 bits) (0 ∷ []), length-pack bits 0 0 (omega arith))
@@ -126,8 +97,8 @@ surely ws [] room h = omega arith
 surely ws (v ∷ vs) room h = omega (arith, some-length ws (v ∷ vs) (λ e. omega arith), stream-small 8 0 ws (v ∷ vs) (omega arith))
 
 -- the stream is written: k and q are the writer and the output after its bits, n and p what the padding gives, and a byte 0 follows
-pub stream-out : (ws : List ℕ) (vs : List ℤ) (out : List ℕ) {k : BitWriter} {q p : List ℕ} {n : ℕ} → (length vs ≡ 0 → ⊥)
-    → k ≡ streamAfter (callStart freshWriter) ws vs → q ≡ streamWrite out (callStart freshWriter) ws vs → n ≡ padCount k → p ≡ padOut q k
+stream-out : (ws : List ℕ) (vs : List ℤ) (out : List ℕ) {k : BitWriter} {q p : List ℕ} {n : ℕ} → (length vs ≡ 0 → ⊥)
+    → k ≡ streamAfter (freshSinks .srl) ws vs → q ≡ streamWrite out (freshSinks .srl) ws vs → n ≡ padCount k → p ≡ padOut q k
     → (n + 1 ≡ length (srlStream ws vs)) × (set p n 0 ≡ sets out 0 (srlStream ws vs))
 stream-out ws vs out {n = n} h a b c d =
     let bits = streamBits 8 0 ws vs in
@@ -141,57 +112,162 @@ stream-out ws vs out {n = n} h a b c d =
           ∙ ap (sets out 0) (sym (stream-some ws vs h)),
     )
 
--- ════ measuring, value by value ════
+-- the end of a stream that has values, in the code's steps: k and q are the writer and the output after the pending zeros, m and p what the padding gives
+pub end-some : (n : ℕ) (c : CallState) (out : List ℕ) {k : BitWriter} {q p : List ℕ} {m : ℕ} → (n ≡ 0 → ⊥) → k ≡ after (c .sink) (flush (c .kp) (c .zeros)) → q ≡ write out (c .sink) (flush (c .kp) (c .zeros))
+    → m ≡ padCount k → p ≡ padOut q k → (m + 1 ≡ endLength n c) × (set p m 0 ≡ endOut n out c)
+end-some zero c out h a b d e = absurd (h refl)
+end-some (suc n) c out h a b d e =
+    let m = d ∙ ap padCount a in
+    (ap (λ x. x + 1) m, λ i. set ((e ∙ (λ j. padOut (b j) (a j))) i) (m i) 0)
 
-module _ (ws : List ℕ) (vs : List ℤ) (i : ℕ) (h : i < length ws) (k : i < length vs) where
-  -- the rest from here is a value and the rest behind it
-  bits-step : (kp z : ℕ) → streamBits kp z (drop i ws) (drop i vs)
-      ≡ valueBits (getD ws i 0) kp z (getD vs i (pos 0)) ++ streamBits (valueKp kp z (getD vs i (pos 0))) (valueZeros z (getD vs i (pos 0))) (drop (i + 1) ws) (drop (i + 1) vs)
-  unfolding streamBits
-  bits-step kp z =
-      let w = getD ws i 0 in
-      let v = getD vs i (pos 0) in
-      ap (λ l. streamBits kp z l (drop i vs)) (drop-cons ws i 0 h)
-      ∙ ap (streamBits kp z (w ∷ drop (suc i) ws)) (drop-cons vs i (pos 0) k)
-      ∙ ap (λ n. valueBits w kp z v ++ streamBits (valueKp kp z v) (valueZeros z v) (drop n ws) (drop n vs)) (sym (add-one i))
-
-  pub end-step : (p : Measured) → endCount p (drop i ws) (drop i vs) ≡ endCount (valueMeasure (getD ws i 0) p (getD vs i (pos 0))) (drop (i + 1) ws) (drop (i + 1) vs)
-  end-step p =
-      let v = getD vs i (pos 0) in
-      let a = valueBits (getD ws i 0) (p .kp) (p .zeros) v in
-      let b = streamBits (valueKp (p .kp) (p .zeros) v) (valueZeros (p .zeros) v) (drop (i + 1) ws) (drop (i + 1) vs) in
-      ap (λ l. counted (placeOf p) (length l)) (bits-step (p .kp) (p .zeros))
-      ∙ ap (counted (placeOf p)) (length-append a b)
-      ∙ sym (counted-two (placeOf p) (length a) (length b))
-
-  pub after-step : (c : CallState) → streamAfter c (drop i ws) (drop i vs) ≡ streamAfter (valueState (getD ws i 0) c (getD vs i (pos 0))) (drop (i + 1) ws) (drop (i + 1) vs)
-  after-step c =
-      let v = getD vs i (pos 0) in
-      ap (after (c .sink)) (bits-step (c .kp) (c .zeros))
-      ∙ after-append (c .sink) (valueBits (getD ws i 0) (c .kp) (c .zeros) v) (streamBits (valueKp (c .kp) (c .zeros) v) (valueZeros (c .zeros) v) (drop (i + 1) ws) (drop (i + 1) vs))
-
-  pub write-step : (out : List ℕ) (c : CallState)
-      → streamWrite out c (drop i ws) (drop i vs) ≡ streamWrite (valueWrite (getD ws i 0) out c (getD vs i (pos 0))) (valueState (getD ws i 0) c (getD vs i (pos 0))) (drop (i + 1) ws) (drop (i + 1) vs)
-  write-step out c =
-      let v = getD vs i (pos 0) in
-      ap (write out (c .sink)) (bits-step (c .kp) (c .zeros))
-      ∙ write-append out (c .sink) (valueBits (getD ws i 0) (c .kp) (c .zeros) v) (streamBits (valueKp (c .kp) (c .zeros) v) (valueZeros (c .zeros) v) (drop (i + 1) ws) (drop (i + 1) vs))
-
--- no value is left: the end of the stream
-pub bits-none : (kp z : ℕ) (ws : List ℕ) (vs : List ℤ) → vs ≡ [] → streamBits kp z ws vs ≡ flush kp z
+-- the end of a stream that was written by its places: c and q are the writer and the output then
+pub stream-end : (ws : List ℕ) (vs : List ℤ) (out q : List ℕ) (c : CallState) → length ws ≡ length vs
+    → ((us : List ℤ) → streamAfter (freshSinks .srl) (ws ++ []) (vs ++ us) ≡ streamAfter c [] us) → ((us : List ℤ) → streamWrite out (freshSinks .srl) (ws ++ []) (vs ++ us) ≡ streamWrite q c [] us)
+    → (endLength (length vs) c ≡ length (srlStream ws vs)) × (endOut (length vs) q c ≡ sets out 0 (srlStream ws vs))
 unfolding streamBits
-bits-none kp z ws vs e = ap (streamBits kp z ws) e
+stream-end [] [] out q c e a b = (refl, sym (b (pos 0 ∷ [])))
+stream-end (w ∷ ws) [] out q c e a b = absurd (omega arith)
+stream-end ws (v ∷ vs) out q c e a b =
+    let x = append-nil ws in
+    let y = append-nil (v ∷ vs) in
+    stream-out ws (v ∷ vs) out (λ n. omega arith)
+    (sym (a []) ∙ (λ i. streamAfter (freshSinks .srl) (x i) (y i))) (sym (b []) ∙ (λ i. streamWrite out (freshSinks .srl) (x i) (y i))) refl refl
 
--- what a value leaves
-pub measure-good : (w : ℕ) (p : Measured) (v : ℤ) → GoodMeasure p → GoodMeasure (valueMeasure w p v)
-measure-good w p v g = (omega arith, value-kp (p .kp) (p .zeros) v (g .1))
+-- and of a raw stream: k and q are the writer and the output then, n and p what the padding gives
+pub raw-end : (ns ms out q : List ℕ) (k : BitWriter) {p : List ℕ} {n : ℕ} → after (freshSinks .raw) (bitsOfAll (ns ++ []) (ms ++ [])) ≡ after k (bitsOfAll [] [])
+    → write out (freshSinks .raw) (bitsOfAll (ns ++ []) (ms ++ [])) ≡ write q k (bitsOfAll [] []) → n ≡ padCount k → p ≡ padOut q k
+    → (n ≡ length (rawStream ns ms)) × (p ≡ sets out 0 (rawStream ns ms))
+unfolding bitsOfAll
+raw-end ns ms out q k a b =
+    let x = append-nil ns in
+    let y = append-nil ms in
+    padded (bitsOfAll ns ms) out (sym a ∙ (λ i. after (freshSinks .raw) (bitsOfAll (x i) (y i)))) (sym b ∙ (λ i. write out (freshSinks .raw) (bitsOfAll (x i) (y i))))
 
-pub measure-small : (w : ℕ) (p : Measured) (v : ℤ) → GoodMeasure p → natAbs v ≤ 32768 → valueMeasure w p v .at + valueMeasure w p v .zeros ≤ p .at + p .zeros + 32780
-measure-small w p v g h = omega (arith, value-length w (p .kp) (p .zeros) v (g .1), g .0)
+-- what was measured of all its values, and the pending zeros
+pub stream-length : (l : Lists) (m : Measured) → Measures l (measuredOf 0 0 8 0) m → (length (l .values) ≡ 0 → ⊥)
+    → length (srlStream (l .widths) (l .values)) ≡ m .at + (m .«bit_count» + length (flush (m .kp) (m .zeros)) + 7) / 8 + 1
+unfolding streamBits
+stream-length l m h n =
+    let x = append-nil (l .widths) in
+    let y = append-nil (l .values) in
+    let e : endCount (measuredOf 0 0 8 0) (l .widths) (l .values) ≡ counted (placeOf m) (length (flush (m .kp) (m .zeros))) = (λ i. endCount (measuredOf 0 0 8 0) (sym x i) (sym y i)) ∙ h .count [] [] in
+    let at = ap (λ p. p .at) e in
+    let rest = ap (λ p. p .«bit_count») e in
+    omega (arith, some-length (l .widths) (l .values) n, at, rest)
 
-pub state-good : (w : ℕ) (c : CallState) (v : ℤ) → Good c → Good (valueState w c v)
-state-good w c v g = (after-sound (c .sink) (valueBits w (c .kp) (c .zeros) v) (g .0), value-kp (c .kp) (c .zeros) v (g .1))
+-- ════ value by value ════
 
-pub state-small : (w : ℕ) (c : CallState) (v : ℤ) → Good c → natAbs v ≤ 32768
-    → valueState w c v .sink .at + valueState w c v .zeros ≤ c .sink .at + c .zeros + 32780
-state-small w c v g h = omega (arith, after-at (c .sink) (valueBits w (c .kp) (c .zeros) v) .1, value-length w (c .kp) (c .zeros) v (g .1))
+-- a value before the rest, measured and stored
+value-counted : (w : ℕ) (p : Measured) (v : ℤ) (ws : List ℕ) (us : List ℤ) → endCount p (w ∷ ws) (v ∷ us) ≡ endCount (valueMeasure w p v) ws us
+unfolding streamBits
+value-counted w p v ws us =
+    let a = valueBits w (p .kp) (p .zeros) v in
+    let b = streamBits (valueKp (p .kp) (p .zeros) v) (valueZeros (p .zeros) v) ws us in
+    ap (counted (placeOf p)) (length-append a b) ∙ sym (counted-two (placeOf p) (length a) (length b))
+
+value-after : (w : ℕ) (c : CallState) (v : ℤ) (ws : List ℕ) (us : List ℤ) → streamAfter c (w ∷ ws) (v ∷ us) ≡ streamAfter (valueState w c v) ws us
+unfolding streamBits
+value-after w c v ws us =
+    after-append (c .sink) (valueBits w (c .kp) (c .zeros) v) (streamBits (valueKp (c .kp) (c .zeros) v) (valueZeros (c .zeros) v) ws us)
+
+value-write : (w : ℕ) (out : List ℕ) (c : CallState) (v : ℤ) (ws : List ℕ) (us : List ℤ) → streamWrite out c (w ∷ ws) (v ∷ us) ≡ streamWrite (valueWrite w out c v) (valueState w c v) ws us
+unfolding streamBits
+value-write w out c v ws us =
+    write-append out (c .sink) (valueBits w (c .kp) (c .zeros) v) (streamBits (valueKp (c .kp) (c .zeros) v) (valueZeros (c .zeros) v) ws us)
+
+-- ════ measuring, place by place ════
+
+pub measures-onward : Onward Measures
+measures-onward = record {
+  none = λ p. record { count = λ ws us. refl };
+  then = λ a b x y z p q. record { count = chain endCount (a .widths) (b .widths) (a .values) (b .values) x y z (p .count) (q .count) };
+}
+
+module _ (t : Step) (c p s : ℤ) (h : 1 ≤ t .width) where
+  pub measures-srl : fromSrl t s ≡ true → (x y : Measured) → y ≡ valueMeasure (t .width) x (srlDifference (t .position) c p) → Measures (placeLists t c p s) x y
+  measures-srl q x y e =
+      let v = srlDifference (t .position) c p in
+      subst (λ (l : Lists). Measures l x y) (sym (place-srl t c p s h q))
+      (record { count = λ ws us. value-counted (t .width) x v ws us ∙ ap (λ m. endCount m ws us) (sym e) })
+
+  pub measures-raw : fromSrl t s ≡ false → (x : Measured) → Measures (placeLists t c p s) x x
+  measures-raw q x = subst (λ (l : Lists). Measures l x x) (sym (place-raw t c p s h q)) (record { count = λ ws us. refl })
+
+-- what is measured can go on
+pub measurable-value : (w i : ℕ) (x y : Measured) (q : ℕ) (c p : ℤ) → y ≡ valueMeasure w x (srlDifference q c p) → Measurable x i → Measurable y (i + 1)
+measurable-value w i x y q c p e m =
+    let v = srlDifference q c p in
+    subst (λ (z : Measured). Measurable z (i + 1)) (sym e)
+    (record {
+      good = (omega arith, value-kp (x .kp) (x .zeros) v (m .good .1));
+      early = omega (arith, value-length w (x .kp) (x .zeros) v (m .good .1), difference-small q c p, m .good .0, m .early);
+      few = omega (arith, m .few, value-zeros (x .zeros) v);
+    })
+
+pub measurable-on : (p : Measured) (i j : ℕ) → i ≤ j → Measurable p i → Measurable p j
+measurable-on p i j h m = record { good = m .good; early = omega (arith, m .early); few = omega (arith, m .few) }
+
+-- ════ storing, place by place ════
+
+pub stores-onward : Onward Stores
+stores-onward = record {
+  none = λ x. record { srl-after = λ ws us. refl; srl-write = λ ws us. refl; raw-after = λ ns ms. refl; raw-write = λ ns ms. refl };
+  then = λ a b x y z p q. record {
+    srl-after = chain (λ (o : Outputs) (ws : List ℕ) (us : List ℤ). streamAfter (o .sinks .srl) ws us) (a .widths) (b .widths) (a .values) (b .values) x y z (p .srl-after) (q .srl-after);
+    srl-write = chain (λ (o : Outputs) (ws : List ℕ) (us : List ℤ). streamWrite (o .srlOut) (o .sinks .srl) ws us) (a .widths) (b .widths) (a .values) (b .values) x y z (p .srl-write) (q .srl-write);
+    raw-after = chain (λ (o : Outputs) (ns ms : List ℕ). after (o .sinks .raw) (bitsOfAll ns ms)) (a .numberWidths) (b .numberWidths) (a .numbers) (b .numbers) x y z (p .raw-after) (q .raw-after);
+    raw-write = chain (λ (o : Outputs) (ns ms : List ℕ). write (o .rawOut) (o .sinks .raw) (bitsOfAll ns ms)) (a .numberWidths) (b .numberWidths) (a .numbers) (b .numbers) x y z (p .raw-write) (q .raw-write);
+  };
+}
+
+module _ (t : Step) (c p s : ℤ) (h : 1 ≤ t .width) where
+  -- a value: y and o are the writer and the output then
+  pub stores-srl : fromSrl t s ≡ true → (x : CallState) (k : BitWriter) (out rawOut : List ℕ) (y : CallState) (o : List ℕ) → y ≡ valueState (t .width) x (srlDifference (t .position) c p) → o ≡ valueWrite (t .width) out x (srlDifference (t .position) c p)
+      → Stores (placeLists t c p s) (outputs out rawOut (record { srl = x; raw = k })) (outputs o rawOut (record { srl = y; raw = k }))
+  stores-srl q x k out rawOut y o e f =
+      let v = srlDifference (t .position) c p in
+      subst (λ (l : Lists). Stores l (outputs out rawOut (record { srl = x; raw = k })) (outputs o rawOut (record { srl = y; raw = k }))) (sym (place-srl t c p s h q))
+      (record {
+        srl-after = λ ws us. value-after (t .width) x v ws us ∙ ap (λ z. streamAfter z ws us) (sym e);
+        srl-write = λ ws us. value-write (t .width) out x v ws us ∙ (λ i. streamWrite (sym f i) (sym e i) ws us);
+        raw-after = λ ns ms. refl;
+        raw-write = λ ns ms. refl;
+      })
+
+  -- a number
+  pub stores-raw : fromSrl t s ≡ false → (x : CallState) (k : BitWriter) (out rawOut : List ℕ) (y : BitWriter) (o : List ℕ) → y ≡ after k (bitsOf (t .width) (rawDifference (t .position) c p)) → o ≡ write rawOut k (bitsOf (t .width) (rawDifference (t .position) c p))
+      → Stores (placeLists t c p s) (outputs out rawOut (record { srl = x; raw = k })) (outputs out o (record { srl = x; raw = y }))
+  unfolding bitsOfAll
+  stores-raw q x k out rawOut y o e f =
+      let bits = bitsOf (t .width) (rawDifference (t .position) c p) in
+      subst (λ (l : Lists). Stores l (outputs out rawOut (record { srl = x; raw = k })) (outputs out o (record { srl = x; raw = y }))) (sym (place-raw t c p s h q))
+      (record {
+        srl-after = λ ws us. refl;
+        srl-write = λ ws us. refl;
+        raw-after = λ ns ms. after-append k bits (bitsOfAll ns ms) ∙ ap (λ z. after z (bitsOfAll ns ms)) (sym e);
+        raw-write = λ ns ms. write-append rawOut k bits (bitsOfAll ns ms) ∙ (λ i. write (sym f i) (sym e i) (bitsOfAll ns ms));
+      })
+
+-- the writers can go on
+pub writable-value : (w i : ℕ) (x y : CallState) (k : BitWriter) (q : ℕ) (c p : ℤ) → y ≡ valueState w x (srlDifference q c p) → Writable (record { srl = x; raw = k }) i → Writable (record { srl = y; raw = k }) (i + 1)
+writable-value w i x y k q c p e m =
+    let v = srlDifference q c p in
+    let bits = valueBits w (x .kp) (x .zeros) v in
+    subst (λ (z : CallState). Writable (record { srl = z; raw = k }) (i + 1)) (sym e)
+    (record {
+      good = (after-sound (x .sink) bits (m .good .0), value-kp (x .kp) (x .zeros) v (m .good .1));
+      early = omega (arith, m .early, after-at (x .sink) bits .1, value-length w (x .kp) (x .zeros) v (m .good .1), difference-small q c p);
+      sound = m .sound;
+      raw-early = omega (arith, m .raw-early);
+    })
+
+pub writable-number : (w n i : ℕ) (x : CallState) (k l : BitWriter) → w ≤ 15 → l ≡ after k (bitsOf w n) → Writable (record { srl = x; raw = k }) i → Writable (record { srl = x; raw = l }) (i + 1)
+writable-number w n i x k l h e m = record {
+  good = m .good;
+  early = omega (arith, m .early);
+  sound = wrote-sound k (bitsOf w n) e (m .sound);
+  raw-early = omega (arith, m .raw-early, wrote-at k (bitsOf w n) e, length-bitsOf w n);
+}
+
+pub writable-on : (k : Sinks) (i j : ℕ) → i ≤ j → Writable k i → Writable k j
+writable-on k i j h m = record { good = m .good; early = omega (arith, m .early); sound = m .sound; raw-early = omega (arith, m .raw-early) }

@@ -1,29 +1,41 @@
-// The writer of a pass. A refusal alters nothing, so the values for both streams are collected first, then judged and measured, then stored.
+// The writer of a pass. A refusal alters nothing, so all places are surveyed before a byte is stored, and measured where the survey does not
+// show that there is room. Each of the three is a walk over the places, band by band.
 ghost use mathlib.Core.Path.{_≡_};
-ghost use mathlib.Core.Bool.{true, _||_};
-ghost use Prim.Native.Nat.{_+_, _-_, _*_, _/_, _^_, _≤_, _<_};
+ghost use mathlib.Core.Bool.{true, false, _||_};
+ghost use Prim.Native.Nat.{_+_, _-_, _*_, _/_, _^_, _≤_, _<_, max};
 ghost use lib.Dec.{ltb};
-ghost use lib.IntN.{natAbs};
-ghost use lib.ListN.{length, take, drop, replicate};
+ghost use lib.ListN.{length};
 ghost use lib.Seq.{sets};
 ghost use Rattle.bands.specs.Positions.{rowInDomain};
-ghost use Rattle.bits.specs.Written.{bitsOfAll, writer, after, write, counted};
 ghost use Rattle.srl.specs.Inner.{Width};
-ghost use Rattle.srl.specs.Encode.{freshWriter};
-ghost use Rattle.srl.specs.Finish.{flush};
-ghost use Rattle.srl.specs.EncodeInner.{callStart, measureStart, placeOf, Good, GoodMeasure};
+ghost use Rattle.srl.specs.EncodeInner.{Good};
 ghost use Rattle.progressive.specs.Upgrade.{steps};
-ghost use Rattle.progressive.specs.Encode.{srlDifference, rawDifference, srlStream, rawStream};
+ghost use Rattle.progressive.specs.Encode.{srlDifference, rawDifference, srlBytes, rawBytes, written};
 ghost use Rattle.progressive.specs.Walk.{bandStep};
-ghost use Rattle.progressive.specs.Writing.{oneIf, lists, passLists, joined, filled, Long, AllWide, Both, anyTooLarge, magnitudes, total, endCount, streamAfter, streamWrite, listsAnswer, listsSrlOut, listsRawOut};
+ghost use Rattle.progressive.specs.Writing.{passLists, placeLists, bandLists, Long, Lent, oneIf, onlyIf, surveyOf, Counts, Surveys, noTotal, Few, measuredOf, Measures, Measurable, sinksOf, freshSinks, outputs, Stores, Writable, endLength, endOut, listsAnswer, listsSrlOut, listsRawOut};
 use crate::Written;
 use crate::span;
 use crate::upgrade;
 
-// How many values are collected for each stream.
-pub struct Collected {
-    pub srl: usize,
-    pub raw: usize,
+// What a band has for the SRL stream: how many values, the sum of their magnitudes, and the largest.
+pub struct Survey {
+    pub count: u32,
+    pub sum: u32,
+    pub largest: u16,
+}
+
+// What the bands have for both streams, and whether a value is larger than its width admits.
+pub struct Total {
+    pub count: usize,
+    pub sum: usize,
+    pub raw_bits: usize,
+    pub bad: bool,
+}
+
+// A writer for each stream.
+pub struct Sinks {
+    pub srl: srl::encoder::CallState,
+    pub raw: bits::writer::BitWriter,
 }
 
 // ---- one place
@@ -48,135 +60,25 @@ fn raw_difference(c: i16, p: i16, position: u8) -> u16
     if b < a { a - b } else { 0 }
 }
 
+// ---- surveying
+
 // A truth value as a count.
-fn one_if(b: bool) -> usize
+fn one_if(b: bool) -> u32
     ensures { λ r. ⌜ r ≡ oneIf b ⌝ }
 {
     if b { 1 } else { 0 }
 }
 
-// ---- collecting
-
-// The places of a band that is not skipped. Each gives a value and a number, and one of the two is kept: so there is no branch.
-fn collect_places(
-    coefficients: &[i16],
-    prev_coefficients: &[i16],
-    sign: &[i8],
-    t: upgrade::BandStep,
-    from: usize,
-    to: usize,
-    done: Collected,
-    srl_values: &mut [i16],
-    srl_widths: &mut [u8],
-    raw_values: &mut [u16],
-    raw_widths: &mut [u8],
-) -> Collected
-    requires { ⌜ (1 ≤ t .width) × (t .position ≤ 15) × (done .srl + done .raw ≤ from) × (from ≤ to) × (to ≤ 4096) × Long (now coefficients) × Long (now «prev_coefficients») × Long (now sign) × Long (now «srl_values») × Long (now «srl_widths») × Long (now «raw_values») × Long (now «raw_widths») ⌝ }
-    ensures { λ r. ⌜ (filled r (now («srl_values» .exit)) (now («srl_widths» .exit)) (now («raw_values» .exit)) (now («raw_widths» .exit)) ≡ joined (filled done (now («srl_values» .entry)) (now («srl_widths» .entry)) (now («raw_values» .entry)) (now («raw_widths» .entry))) (passLists (replicate (to - from) (bandStep t)) (drop from (now (coefficients .entry))) (drop from (now («prev_coefficients» .entry))) (drop from (now (sign .entry))))) × (r .srl + r .raw ≤ to) ⌝ }
+fn only_if(b: bool, m: u16) -> u16
+    ensures { λ r. ⌜ r ≡ onlyIf b m ⌝ }
 {
-    let mut n = done.srl;
-    let mut m = done.raw;
-    let mut i = from;
-    while i < to {
-        let c = coefficients[i];
-        let p = prev_coefficients[i];
-        srl_values[n] = srl_difference(c, p, t.position);
-        srl_widths[n] = t.width;
-        raw_values[m] = raw_difference(c, p, t.position);
-        raw_widths[m] = t.width;
-        let one = one_if(upgrade::from_srl(t, sign[i]));
-        n += one;
-        m += 1 - one;
-        i += 1;
-    }
-    Collected { srl: n, raw: m }
+    if b { m } else { 0 }
 }
 
-// A band: of width 0 it is skipped.
-fn collect_band(
-    coefficients: &[i16],
-    prev_coefficients: &[i16],
-    sign: &[i8],
-    t: upgrade::BandStep,
-    from: usize,
-    to: usize,
-    done: Collected,
-    srl_values: &mut [i16],
-    srl_widths: &mut [u8],
-    raw_values: &mut [u16],
-    raw_widths: &mut [u8],
-) -> Collected
-    requires { ⌜ (t .position ≤ 15) × (done .srl + done .raw ≤ from) × (from ≤ to) × (to ≤ 4096) × Long (now coefficients) × Long (now «prev_coefficients») × Long (now sign) × Long (now «srl_values») × Long (now «srl_widths») × Long (now «raw_values») × Long (now «raw_widths») ⌝ }
-    ensures { λ r. ⌜ (filled r (now («srl_values» .exit)) (now («srl_widths» .exit)) (now («raw_values» .exit)) (now («raw_widths» .exit)) ≡ joined (filled done (now («srl_values» .entry)) (now («srl_widths» .entry)) (now («raw_values» .entry)) (now («raw_widths» .entry))) (passLists (replicate (to - from) (bandStep t)) (drop from (now (coefficients .entry))) (drop from (now («prev_coefficients» .entry))) (drop from (now (sign .entry))))) × (r .srl + r .raw ≤ to) ⌝ }
+fn larger(a: u16, b: u16) -> u16
+    ensures { λ r. ⌜ r ≡ max a b ⌝ }
 {
-    if t.width == 0 {
-        return done;
-    }
-    collect_places(
-        coefficients,
-        prev_coefficients,
-        sign,
-        t,
-        from,
-        to,
-        done,
-        srl_values,
-        srl_widths,
-        raw_values,
-        raw_widths,
-    )
-}
-
-// The ten bands.
-fn collect(
-    coefficients: &[i16],
-    prev_coefficients: &[i16],
-    prev: [u8; 10],
-    curr: [u8; 10],
-    sign: &[i8],
-    use_reduce_extrapolate: bool,
-    srl_values: &mut [i16],
-    srl_widths: &mut [u8],
-    raw_values: &mut [u16],
-    raw_widths: &mut [u8],
-) -> Collected
-    requires { ⌜ (rowInDomain curr ≡ true) × Long (now coefficients) × Long (now «prev_coefficients») × Long (now sign) × Long (now «srl_values») × Long (now «srl_widths») × Long (now «raw_values») × Long (now «raw_widths») ⌝ }
-    ensures { λ r. ⌜ (filled r (now («srl_values» .exit)) (now («srl_widths» .exit)) (now («raw_values» .exit)) (now («raw_widths» .exit)) ≡ passLists (steps «use_reduce_extrapolate» prev curr) (now (coefficients .entry)) (now («prev_coefficients» .entry)) (now (sign .entry))) × (r .srl + r .raw ≤ 4096) ⌝ }
-{
-    let mut done = Collected { srl: 0, raw: 0 };
-    let mut b: usize = 0;
-    while b < 10 {
-        let t = upgrade::band_step(b, prev[b], curr[b]);
-        let place = span::band_span(use_reduce_extrapolate, b);
-        let from = place.from;
-        let to = place.to;
-        done = collect_band(
-            coefficients,
-            prev_coefficients,
-            sign,
-            t,
-            from,
-            to,
-            done,
-            srl_values,
-            srl_widths,
-            raw_values,
-            raw_widths,
-        );
-        b += 1;
-    }
-    done
-}
-
-// ---- judging and measuring
-
-// Whether a value is larger than its width admits.
-fn too_large(v: i16, width: u8) -> bool
-    requires { ⌜ Width width ⌝ }
-    ensures { λ r. ⌜ r ≡ ltb (2 ^ width - 1) (natAbs v) ⌝ }
-{
-    let most = (1u16 << width) - 1;
-    most < fixed::magnitude(v)
+    if a < b { b } else { a }
 }
 
 fn either(a: bool, b: bool) -> bool
@@ -185,200 +87,510 @@ fn either(a: bool, b: bool) -> bool
     if a { true } else { b }
 }
 
-// Whether any is, in a pass without branches.
-fn any_too_large(values: &[i16], widths: &[u8]) -> bool
-    requires { ⌜ (length (now widths) ≡ length (now values)) × AllWide (now widths) ⌝ }
-    ensures { λ r. ⌜ r ≡ anyTooLarge (now (widths .entry)) (now (values .entry)) ⌝ }
+// Whether a magnitude is larger than a width admits.
+fn too_large(m: u16, width: u8) -> bool
+    requires { ⌜ Width width ⌝ }
+    ensures { λ r. ⌜ r ≡ ltb (2 ^ width - 1) m ⌝ }
 {
-    let mut bad = false;
-    let mut i: usize = 0;
-    while i < values.len() {
-        bad = either(bad, too_large(values[i], widths[i]));
-        i += 1;
-    }
-    bad
+    let most = (1u16 << width) - 1;
+    most < m
 }
 
-// How many bytes and bits the values take, and the zeros that are then pending.
-fn measure_values(values: &[i16], widths: &[u8]) -> srl::encoder::Measured
-    requires { ⌜ Both (now values) (now widths) ⌝ }
-    ensures { λ r. ⌜ (endCount (measureStart freshWriter) (now (widths .entry)) (now (values .entry)) ≡ counted (placeOf r) (length (flush (r .kp) (r .zeros)))) × GoodMeasure r × (r .at + r .zeros ≤ 40000 * 4096) × (r .zeros ≤ 4096) ⌝ }
+// The places of a band that is not skipped. There is no branch, so the compiler does several places at a time.
+fn survey_band(
+    coefficients: &[i16],
+    prev_coefficients: &[i16],
+    sign: &[i8],
+    t: upgrade::BandStep,
+    from: usize,
+    to: usize,
+) -> Survey
+    requires { ⌜ Lent (now coefficients) (now «prev_coefficients») (now sign) from to × (1 ≤ t .width) ⌝ }
+    ensures { λ r. ⌜ Counts (bandLists (bandStep t) from to (now (coefficients .entry)) (now («prev_coefficients» .entry)) (now (sign .entry))) (surveyOf 0 0 0) r × (r .count ≤ to - from) × (r .sum ≤ 32768 * (to - from)) ⌝ }
 {
-    let mut cur = srl::encoder::Measured {
-        at: 0,
-        bit_count: 0,
-        kp: 8,
-        zeros: 0,
-    };
-    let mut i: usize = 0;
-    while i < values.len() {
-        cur = srl::encoder::measure_value(cur, values[i], widths[i]);
+    let mut count: u32 = 0;
+    let mut sum: u32 = 0;
+    let mut largest: u16 = 0;
+    let mut i = from;
+    while i < to {
+        let v = srl_difference(coefficients[i], prev_coefficients[i], t.position);
+        let given = upgrade::from_srl(t, sign[i]);
+        let m = only_if(given, fixed::magnitude(v));
+        count += one_if(given);
+        sum += m as u32;
+        largest = larger(largest, m);
         i += 1;
+    }
+    Survey {
+        count,
+        sum,
+        largest,
+    }
+}
+
+// One band more: of width 0 it is skipped.
+fn survey_next(
+    coefficients: &[i16],
+    prev_coefficients: &[i16],
+    sign: &[i8],
+    t: upgrade::BandStep,
+    from: usize,
+    to: usize,
+    done: Total,
+) -> Total
+    requires { ⌜ Lent (now coefficients) (now «prev_coefficients») (now sign) from to × (t .width ≤ 15) × Few done from ⌝ }
+    ensures { λ r. ⌜ Surveys (bandLists (bandStep t) from to (now (coefficients .entry)) (now («prev_coefficients» .entry)) (now (sign .entry))) done r × Few r to ⌝ }
+{
+    if t.width == 0 {
+        return done;
+    }
+    let s = survey_band(coefficients, prev_coefficients, sign, t, from, to);
+    let n = s.count as usize;
+    Total {
+        count: done.count + n,
+        sum: done.sum + (s.sum as usize),
+        raw_bits: done.raw_bits + (to - from - n) * (t.width as usize),
+        bad: either(done.bad, too_large(s.largest, t.width)),
+    }
+}
+
+// The ten bands.
+fn survey_bands(
+    coefficients: &[i16],
+    prev_coefficients: &[i16],
+    prev: [u8; 10],
+    curr: [u8; 10],
+    sign: &[i8],
+    use_reduce_extrapolate: bool,
+) -> Total
+    requires { ⌜ (rowInDomain prev ≡ true) × Long (now coefficients) × Long (now «prev_coefficients») × Long (now sign) ⌝ }
+    ensures { λ r. ⌜ Surveys (passLists (steps «use_reduce_extrapolate» prev curr) (now (coefficients .entry)) (now («prev_coefficients» .entry)) (now (sign .entry))) noTotal r × Few r 4096 ⌝ }
+{
+    let mut done = Total {
+        count: 0,
+        sum: 0,
+        raw_bits: 0,
+        bad: false,
+    };
+    let mut b: usize = 0;
+    while b < 10 {
+        let t = upgrade::band_step(b, prev[b], curr[b]);
+        let place = span::band_span(use_reduce_extrapolate, b);
+        let from = place.from;
+        let to = place.to;
+        done = survey_next(coefficients, prev_coefficients, sign, t, from, to, done);
+        b += 1;
+    }
+    done
+}
+
+// ---- measuring
+
+// What is measured, by its parts.
+fn measured_of(at: usize, bit_count: u8, kp: u8, zeros: usize) -> srl::encoder::Measured
+    ensures { λ r. ⌜ r ≡ measuredOf at «bit_count» kp zeros ⌝ }
+{
+    srl::encoder::Measured {
+        at,
+        bit_count,
+        kp,
+        zeros,
+    }
+}
+
+// One place of a band that is not skipped.
+fn measure_place(
+    start: srl::encoder::Measured,
+    t: upgrade::BandStep,
+    c: i16,
+    p: i16,
+    s: i8,
+    i: usize,
+) -> srl::encoder::Measured
+    requires { ⌜ Width (t .width) × Measurable start i × (i < 4096) ⌝ }
+    ensures { λ r. ⌜ Measures (placeLists (bandStep t) c p s) start r × Measurable r (i + 1) ⌝ }
+{
+    if upgrade::from_srl(t, s) {
+        let v = srl_difference(c, p, t.position);
+        return srl::encoder::measure_value(start, v, t.width);
+    }
+    start
+}
+
+// All places of a band that is not skipped. The loop keeps the parts of what is measured, as `upgrade_band` does.
+fn measure_band(
+    coefficients: &[i16],
+    prev_coefficients: &[i16],
+    sign: &[i8],
+    t: upgrade::BandStep,
+    from: usize,
+    to: usize,
+    start: srl::encoder::Measured,
+) -> srl::encoder::Measured
+    requires { ⌜ Lent (now coefficients) (now «prev_coefficients») (now sign) from to × Width (t .width) × Measurable start from ⌝ }
+    ensures { λ r. ⌜ Measures (bandLists (bandStep t) from to (now (coefficients .entry)) (now («prev_coefficients» .entry)) (now (sign .entry))) start r × Measurable r to ⌝ }
+{
+    let mut at = start.at;
+    let mut bit_count = start.bit_count;
+    let mut kp = start.kp;
+    let mut zeros = start.zeros;
+    let mut i = from;
+    while i < to {
+        let c = coefficients[i];
+        let p = prev_coefficients[i];
+        let s = sign[i];
+        let next = measure_place(measured_of(at, bit_count, kp, zeros), t, c, p, s, i);
+        at = next.at;
+        bit_count = next.bit_count;
+        kp = next.kp;
+        zeros = next.zeros;
+        i += 1;
+    }
+    measured_of(at, bit_count, kp, zeros)
+}
+
+// One band more: of width 0 it is skipped.
+fn measure_next(
+    coefficients: &[i16],
+    prev_coefficients: &[i16],
+    sign: &[i8],
+    t: upgrade::BandStep,
+    from: usize,
+    to: usize,
+    start: srl::encoder::Measured,
+) -> srl::encoder::Measured
+    requires { ⌜ Lent (now coefficients) (now «prev_coefficients») (now sign) from to × (t .width ≤ 15) × Measurable start from ⌝ }
+    ensures { λ r. ⌜ Measures (bandLists (bandStep t) from to (now (coefficients .entry)) (now («prev_coefficients» .entry)) (now (sign .entry))) start r × Measurable r to ⌝ }
+{
+    if t.width == 0 {
+        return start;
+    }
+    measure_band(coefficients, prev_coefficients, sign, t, from, to, start)
+}
+
+// The ten bands.
+fn measure_bands(
+    coefficients: &[i16],
+    prev_coefficients: &[i16],
+    prev: [u8; 10],
+    curr: [u8; 10],
+    sign: &[i8],
+    use_reduce_extrapolate: bool,
+) -> srl::encoder::Measured
+    requires { ⌜ (rowInDomain prev ≡ true) × Long (now coefficients) × Long (now «prev_coefficients») × Long (now sign) ⌝ }
+    ensures { λ r. ⌜ Measures (passLists (steps «use_reduce_extrapolate» prev curr) (now (coefficients .entry)) (now («prev_coefficients» .entry)) (now (sign .entry))) (measuredOf 0 0 8 0) r × Measurable r 4096 ⌝ }
+{
+    let mut cur = measured_of(0, 0, 8, 0);
+    let mut b: usize = 0;
+    while b < 10 {
+        let t = upgrade::band_step(b, prev[b], curr[b]);
+        let place = span::band_span(use_reduce_extrapolate, b);
+        let from = place.from;
+        let to = place.to;
+        cur = measure_next(coefficients, prev_coefficients, sign, t, from, to, cur);
+        b += 1;
     }
     cur
 }
 
-// How many bytes the SRL stream takes.
-fn srl_length(values: &[i16], widths: &[u8]) -> usize
-    requires { ⌜ Both (now values) (now widths) ⌝ }
-    ensures { λ r. ⌜ r ≡ length (srlStream (now (widths .entry)) (now (values .entry))) ⌝ }
+// How many bytes the SRL stream takes, which has so many values.
+fn srl_length(
+    coefficients: &[i16],
+    prev_coefficients: &[i16],
+    prev: [u8; 10],
+    curr: [u8; 10],
+    sign: &[i8],
+    use_reduce_extrapolate: bool,
+    count: usize,
+) -> usize
+    requires { ⌜ (rowInDomain prev ≡ true) × Long (now coefficients) × Long (now «prev_coefficients») × Long (now sign) × (count ≡ length (passLists (steps «use_reduce_extrapolate» prev curr) (now coefficients) (now «prev_coefficients») (now sign) .values)) ⌝ }
+    ensures { λ r. ⌜ r ≡ length (srlBytes (steps «use_reduce_extrapolate» prev curr) (now (coefficients .entry)) (now («prev_coefficients» .entry)) (now (sign .entry))) ⌝ }
 {
-    if values.len() == 0 {
+    if count == 0 {
         return 0;
     }
-    let m = measure_values(values, widths);
+    let m = measure_bands(
+        coefficients,
+        prev_coefficients,
+        prev,
+        curr,
+        sign,
+        use_reduce_extrapolate,
+    );
     let n = srl::encoder::flush_length(m.kp, m.zeros);
     m.at + ((m.bit_count as usize) + n + 7) / 8 + 1
 }
 
-fn sum_magnitudes(values: &[i16]) -> usize
-    requires { ⌜ length (now values) ≤ 4096 ⌝ }
-    ensures { λ r. ⌜ (r ≡ magnitudes (now (values .entry))) × (r ≤ 32768 * 4096) ⌝ }
-{
-    let mut sum: usize = 0;
-    let mut i: usize = 0;
-    while i < values.len() {
-        sum += fixed::magnitude(values[i]) as usize;
-        i += 1;
-    }
-    sum
-}
-
 // Whether the SRL stream exceeds the room. A value takes at most its magnitude and 12 bits more, whatever the others are.
-fn srl_exceeds(values: &[i16], widths: &[u8], room: usize) -> bool
-    requires { ⌜ Both (now values) (now widths) ⌝ }
-    ensures { λ r. ⌜ r ≡ ltb room (length (srlStream (now (widths .entry)) (now (values .entry)))) ⌝ }
+fn srl_exceeds(
+    coefficients: &[i16],
+    prev_coefficients: &[i16],
+    prev: [u8; 10],
+    curr: [u8; 10],
+    sign: &[i8],
+    use_reduce_extrapolate: bool,
+    total: Total,
+    room: usize,
+) -> bool
+    requires { ⌜ (rowInDomain prev ≡ true) × Long (now coefficients) × Long (now «prev_coefficients») × Long (now sign) × Surveys (passLists (steps «use_reduce_extrapolate» prev curr) (now coefficients) (now «prev_coefficients») (now sign)) noTotal total × Few total 4096 ⌝ }
+    ensures { λ r. ⌜ r ≡ ltb room (length (srlBytes (steps «use_reduce_extrapolate» prev curr) (now (coefficients .entry)) (now («prev_coefficients» .entry)) (now (sign .entry)))) ⌝ }
 {
-    let most = sum_magnitudes(values) + 12 * values.len() + 40;
+    let most = total.sum + 12 * total.count + 40;
     if most / 8 < room {
         return false;
     }
-    room < srl_length(values, widths)
-}
-
-// How many bytes the raw stream takes.
-fn raw_length(widths: &[u8]) -> usize
-    requires { ⌜ length (now widths) ≤ 4096 ⌝ }
-    ensures { λ r. ⌜ r ≡ (total (now (widths .entry)) + 7) / 8 ⌝ }
-{
-    let mut sum: usize = 0;
-    let mut i: usize = 0;
-    while i < widths.len() {
-        sum += widths[i] as usize;
-        i += 1;
-    }
-    (sum + 7) / 8
+    let n = srl_length(
+        coefficients,
+        prev_coefficients,
+        prev,
+        curr,
+        sign,
+        use_reduce_extrapolate,
+        total.count,
+    );
+    room < n
 }
 
 // ---- storing
 
-// The values for the SRL stream, and the zeros that are then pending.
-fn put_values(values: &[i16], widths: &[u8], out: &mut [u8]) -> srl::encoder::CallState
-    requires { ⌜ Both (now values) (now widths) ⌝ }
-    ensures { λ r. ⌜ (streamAfter (callStart freshWriter) (now (widths .entry)) (now (values .entry)) ≡ after (r .sink) (flush (r .kp) (r .zeros))) × (streamWrite (now (out .entry)) (callStart freshWriter) (now (widths .entry)) (now (values .entry)) ≡ write (now (out .exit)) (r .sink) (flush (r .kp) (r .zeros))) × Good r × (r .sink .at + r .zeros ≤ 40000 * 4096) ⌝ }
+// Both writers by their parts.
+fn sinks_of(
+    at: usize,
+    current: u8,
+    bit_count: u8,
+    kp: u8,
+    zeros: usize,
+    raw_at: usize,
+    raw_current: u8,
+    raw_count: u8,
+) -> Sinks
+    ensures { λ r. ⌜ r ≡ sinksOf at current «bit_count» kp zeros «raw_at» «raw_current» «raw_count» ⌝ }
 {
-    let mut cur = srl::encoder::call_start(srl::SrlWriter::new());
-    let mut i: usize = 0;
-    while i < values.len() {
-        cur = srl::encoder::put_value(out, cur, values[i], widths[i]);
+    Sinks {
+        srl: srl::encoder::CallState {
+            sink: bits::writer::BitWriter {
+                at,
+                current,
+                bit_count,
+            },
+            kp,
+            zeros,
+        },
+        raw: bits::writer::BitWriter {
+            at: raw_at,
+            current: raw_current,
+            bit_count: raw_count,
+        },
+    }
+}
+
+// One place of a band that is not skipped.
+fn write_place(
+    start: Sinks,
+    t: upgrade::BandStep,
+    c: i16,
+    p: i16,
+    s: i8,
+    i: usize,
+    srl_out: &mut [u8],
+    raw_out: &mut [u8],
+) -> Sinks
+    requires { ⌜ Width (t .width) × (t .position ≤ 15) × Writable start i × (i < 4096) ⌝ }
+    ensures { λ r. ⌜ Stores (placeLists (bandStep t) c p s) (outputs (now («srl_out» .entry)) (now («raw_out» .entry)) start) (outputs (now («srl_out» .exit)) (now («raw_out» .exit)) r) × Writable r (i + 1) ⌝ }
+{
+    let a = start.srl;
+    let k = start.raw;
+    if upgrade::from_srl(t, s) {
+        let v = srl_difference(c, p, t.position);
+        return Sinks {
+            srl: srl::encoder::put_value(srl_out, a, v, t.width),
+            raw: k,
+        };
+    }
+    let m = raw_difference(c, p, t.position);
+    Sinks {
+        srl: a,
+        raw: bits::writer::put_bits(raw_out, k, m as usize, t.width),
+    }
+}
+
+// All places of a band that is not skipped. The loop keeps the writers' parts, as `upgrade_band` does.
+fn write_band(
+    coefficients: &[i16],
+    prev_coefficients: &[i16],
+    sign: &[i8],
+    t: upgrade::BandStep,
+    from: usize,
+    to: usize,
+    start: Sinks,
+    srl_out: &mut [u8],
+    raw_out: &mut [u8],
+) -> Sinks
+    requires { ⌜ Lent (now coefficients) (now «prev_coefficients») (now sign) from to × Width (t .width) × (t .position ≤ 15) × Writable start from ⌝ }
+    ensures { λ r. ⌜ Stores (bandLists (bandStep t) from to (now (coefficients .entry)) (now («prev_coefficients» .entry)) (now (sign .entry))) (outputs (now («srl_out» .entry)) (now («raw_out» .entry)) start) (outputs (now («srl_out» .exit)) (now («raw_out» .exit)) r) × Writable r to ⌝ }
+{
+    let a = start.srl;
+    let k = a.sink;
+    let r = start.raw;
+    let mut at = k.at;
+    let mut current = k.current;
+    let mut bit_count = k.bit_count;
+    let mut kp = a.kp;
+    let mut zeros = a.zeros;
+    let mut raw_at = r.at;
+    let mut raw_current = r.current;
+    let mut raw_count = r.bit_count;
+    let mut i = from;
+    while i < to {
+        let cur = sinks_of(
+            at,
+            current,
+            bit_count,
+            kp,
+            zeros,
+            raw_at,
+            raw_current,
+            raw_count,
+        );
+        let c = coefficients[i];
+        let p = prev_coefficients[i];
+        let s = sign[i];
+        let next = write_place(cur, t, c, p, s, i, srl_out, raw_out);
+        let b = next.srl;
+        let l = b.sink;
+        let q = next.raw;
+        at = l.at;
+        current = l.current;
+        bit_count = l.bit_count;
+        kp = b.kp;
+        zeros = b.zeros;
+        raw_at = q.at;
+        raw_current = q.current;
+        raw_count = q.bit_count;
         i += 1;
+    }
+    sinks_of(
+        at,
+        current,
+        bit_count,
+        kp,
+        zeros,
+        raw_at,
+        raw_current,
+        raw_count,
+    )
+}
+
+// One band more: of width 0 it is skipped.
+fn write_next(
+    coefficients: &[i16],
+    prev_coefficients: &[i16],
+    sign: &[i8],
+    t: upgrade::BandStep,
+    from: usize,
+    to: usize,
+    start: Sinks,
+    srl_out: &mut [u8],
+    raw_out: &mut [u8],
+) -> Sinks
+    requires { ⌜ Lent (now coefficients) (now «prev_coefficients») (now sign) from to × (t .width ≤ 15) × (t .position ≤ 15) × Writable start from ⌝ }
+    ensures { λ r. ⌜ Stores (bandLists (bandStep t) from to (now (coefficients .entry)) (now («prev_coefficients» .entry)) (now (sign .entry))) (outputs (now («srl_out» .entry)) (now («raw_out» .entry)) start) (outputs (now («srl_out» .exit)) (now («raw_out» .exit)) r) × Writable r to ⌝ }
+{
+    if t.width == 0 {
+        return start;
+    }
+    write_band(
+        coefficients,
+        prev_coefficients,
+        sign,
+        t,
+        from,
+        to,
+        start,
+        srl_out,
+        raw_out,
+    )
+}
+
+// The ten bands.
+fn write_bands(
+    coefficients: &[i16],
+    prev_coefficients: &[i16],
+    prev: [u8; 10],
+    curr: [u8; 10],
+    sign: &[i8],
+    use_reduce_extrapolate: bool,
+    srl_out: &mut [u8],
+    raw_out: &mut [u8],
+) -> Sinks
+    requires { ⌜ (rowInDomain prev ≡ true) × (rowInDomain curr ≡ true) × Long (now coefficients) × Long (now «prev_coefficients») × Long (now sign) ⌝ }
+    ensures { λ r. ⌜ Stores (passLists (steps «use_reduce_extrapolate» prev curr) (now (coefficients .entry)) (now («prev_coefficients» .entry)) (now (sign .entry))) (outputs (now («srl_out» .entry)) (now («raw_out» .entry)) freshSinks) (outputs (now («srl_out» .exit)) (now («raw_out» .exit)) r) × Writable r 4096 ⌝ }
+{
+    let mut cur = sinks_of(0, 0, 0, 8, 0, 0, 0, 0);
+    let mut b: usize = 0;
+    while b < 10 {
+        let t = upgrade::band_step(b, prev[b], curr[b]);
+        let place = span::band_span(use_reduce_extrapolate, b);
+        let from = place.from;
+        let to = place.to;
+        cur = write_next(
+            coefficients,
+            prev_coefficients,
+            sign,
+            t,
+            from,
+            to,
+            cur,
+            srl_out,
+            raw_out,
+        );
+        b += 1;
     }
     cur
 }
 
-// The SRL stream: how many bytes it has.
-fn put_srl(values: &[i16], widths: &[u8], out: &mut [u8]) -> usize
-    requires { ⌜ Both (now values) (now widths) ⌝ }
-    ensures { λ r. ⌜ (r ≡ length (srlStream (now (widths .entry)) (now (values .entry)))) × (now (out .exit) ≡ sets (now (out .entry)) 0 (srlStream (now (widths .entry)) (now (values .entry)))) ⌝ }
+// The end of the SRL stream, which has so many values: how many bytes it has.
+fn end_srl(out: &mut [u8], c: srl::encoder::CallState, count: usize) -> usize
+    requires { ⌜ Good c × (c .sink .at + c .zeros ≤ 40000 * 4096) ⌝ }
+    ensures { λ r. ⌜ (r ≡ endLength count c) × (now (out .exit) ≡ endOut count (now (out .entry)) c) ⌝ }
 {
-    if values.len() == 0 {
+    if count == 0 {
         return 0;
     }
-    let done = put_values(values, widths, out);
-    let sink = srl::encoder::put_flush(out, done);
+    let sink = srl::encoder::put_flush(out, c);
     let n = bits::writer::put_pad(out, sink);
     bits::writer::store(out, n, 0);
     n + 1
 }
 
-// The numbers for the raw stream.
-fn put_numbers(numbers: &[u16], widths: &[u8], out: &mut [u8]) -> bits::writer::BitWriter
-    requires { ⌜ Both (now numbers) (now widths) ⌝ }
-    ensures { λ r. ⌜ (r ≡ after (writer 0 0 0) (bitsOfAll (now (widths .entry)) (now (numbers .entry)))) × (now (out .exit) ≡ write (now (out .entry)) (writer 0 0 0) (bitsOfAll (now (widths .entry)) (now (numbers .entry)))) ⌝ }
-{
-    let mut cur = bits::writer::BitWriter {
-        at: 0,
-        current: 0,
-        bit_count: 0,
-    };
-    let mut i: usize = 0;
-    while i < numbers.len() {
-        cur = bits::writer::put_bits(out, cur, numbers[i] as usize, widths[i]);
-        i += 1;
-    }
-    cur
-}
-
-// The raw stream: how many bytes it has.
-fn put_raw(numbers: &[u16], widths: &[u8], out: &mut [u8]) -> usize
-    requires { ⌜ Both (now numbers) (now widths) ⌝ }
-    ensures { λ r. ⌜ (r ≡ length (rawStream (now (widths .entry)) (now (numbers .entry)))) × (now (out .exit) ≡ sets (now (out .entry)) 0 (rawStream (now (widths .entry)) (now (numbers .entry)))) ⌝ }
-{
-    let done = put_numbers(numbers, widths, out);
-    bits::writer::put_pad(out, done)
-}
-
-// ---- both streams
-
-// If no value is too large and there is room for both.
-fn write_lists(
-    values: &[i16],
-    widths: &[u8],
-    numbers: &[u16],
-    number_widths: &[u8],
+// Both streams, with room for both; the SRL stream has so many values.
+fn write_streams(
+    coefficients: &[i16],
+    prev_coefficients: &[i16],
+    prev: [u8; 10],
+    curr: [u8; 10],
+    sign: &[i8],
+    use_reduce_extrapolate: bool,
+    count: usize,
     srl_out: &mut [u8],
     raw_out: &mut [u8],
 ) -> Written
-    requires { ⌜ Both (now values) (now widths) × Both (now numbers) (now «number_widths») ⌝ }
-    ensures { λ r. ⌜ (r ≡ listsAnswer (lists (now (values .entry)) (now (widths .entry)) (now (numbers .entry)) (now («number_widths» .entry))) (now («srl_out» .entry)) (now («raw_out» .entry))) × (now («srl_out» .exit) ≡ listsSrlOut (lists (now (values .entry)) (now (widths .entry)) (now (numbers .entry)) (now («number_widths» .entry))) (now («srl_out» .entry)) (now («raw_out» .entry))) × (now («raw_out» .exit) ≡ listsRawOut (lists (now (values .entry)) (now (widths .entry)) (now (numbers .entry)) (now («number_widths» .entry))) (now («srl_out» .entry)) (now («raw_out» .entry))) ⌝ }
+    requires { ⌜ (rowInDomain prev ≡ true) × (rowInDomain curr ≡ true) × Long (now coefficients) × Long (now «prev_coefficients») × Long (now sign) × (count ≡ length (passLists (steps «use_reduce_extrapolate» prev curr) (now coefficients) (now «prev_coefficients») (now sign) .values)) ⌝ }
+    ensures { λ r. ⌜ (r ≡ written 0 (length (srlBytes (steps «use_reduce_extrapolate» prev curr) (now (coefficients .entry)) (now («prev_coefficients» .entry)) (now (sign .entry)))) (length (rawBytes (steps «use_reduce_extrapolate» prev curr) (now (coefficients .entry)) (now («prev_coefficients» .entry)) (now (sign .entry))))) × (now («srl_out» .exit) ≡ sets (now («srl_out» .entry)) 0 (srlBytes (steps «use_reduce_extrapolate» prev curr) (now (coefficients .entry)) (now («prev_coefficients» .entry)) (now (sign .entry)))) × (now («raw_out» .exit) ≡ sets (now («raw_out» .entry)) 0 (rawBytes (steps «use_reduce_extrapolate» prev curr) (now (coefficients .entry)) (now («prev_coefficients» .entry)) (now (sign .entry)))) ⌝ }
 {
-    if any_too_large(values, widths) {
-        return Written::Refused(5);
-    }
-    if srl_exceeds(values, widths, srl_out.len()) {
-        return Written::Refused(7);
-    }
-    if raw_out.len() < raw_length(number_widths) {
-        return Written::Refused(7);
-    }
-    let n = put_srl(values, widths, srl_out);
-    let m = put_raw(numbers, number_widths, raw_out);
-    Written::Bytes(n, m)
-}
-
-// Both streams of what was collected.
-fn write_filled(
-    values: &[i16],
-    widths: &[u8],
-    numbers: &[u16],
-    number_widths: &[u8],
-    done: Collected,
-    srl_out: &mut [u8],
-    raw_out: &mut [u8],
-) -> Written
-    requires { ⌜ (done .srl ≤ length (now values)) × (done .srl ≤ length (now widths)) × (done .raw ≤ length (now numbers)) × (done .raw ≤ length (now «number_widths»)) × Both (take (done .srl) (now values)) (take (done .srl) (now widths)) × Both (take (done .raw) (now numbers)) (take (done .raw) (now «number_widths»)) ⌝ }
-    ensures { λ r. ⌜ (r ≡ listsAnswer (filled done (now (values .entry)) (now (widths .entry)) (now (numbers .entry)) (now («number_widths» .entry))) (now («srl_out» .entry)) (now («raw_out» .entry))) × (now («srl_out» .exit) ≡ listsSrlOut (filled done (now (values .entry)) (now (widths .entry)) (now (numbers .entry)) (now («number_widths» .entry))) (now («srl_out» .entry)) (now («raw_out» .entry))) × (now («raw_out» .exit) ≡ listsRawOut (filled done (now (values .entry)) (now (widths .entry)) (now (numbers .entry)) (now («number_widths» .entry))) (now («srl_out» .entry)) (now («raw_out» .entry))) ⌝ }
-{
-    let n = done.srl;
-    let m = done.raw;
-    write_lists(
-        &values[..n],
-        &widths[..n],
-        &numbers[..m],
-        &number_widths[..m],
+    let done = write_bands(
+        coefficients,
+        prev_coefficients,
+        prev,
+        curr,
+        sign,
+        use_reduce_extrapolate,
         srl_out,
         raw_out,
-    )
+    );
+    let n = end_srl(srl_out, done.srl, count);
+    let m = bits::writer::put_pad(raw_out, done.raw);
+    Written::Bytes(n, m)
 }
 
 // A pass over a component, at positions in the domain.
@@ -395,28 +607,40 @@ pub fn write_pass(
     requires { ⌜ (rowInDomain prev ≡ true) × (rowInDomain curr ≡ true) × Long (now coefficients) × Long (now «prev_coefficients») × Long (now sign) ⌝ }
     ensures { λ r. ⌜ (r ≡ listsAnswer (passLists (steps «use_reduce_extrapolate» prev curr) (now (coefficients .entry)) (now («prev_coefficients» .entry)) (now (sign .entry))) (now («srl_out» .entry)) (now («raw_out» .entry))) × (now («srl_out» .exit) ≡ listsSrlOut (passLists (steps «use_reduce_extrapolate» prev curr) (now (coefficients .entry)) (now («prev_coefficients» .entry)) (now (sign .entry))) (now («srl_out» .entry)) (now («raw_out» .entry))) × (now («raw_out» .exit) ≡ listsRawOut (passLists (steps «use_reduce_extrapolate» prev curr) (now (coefficients .entry)) (now («prev_coefficients» .entry)) (now (sign .entry))) (now («srl_out» .entry)) (now («raw_out» .entry))) ⌝ }
 {
-    let mut srl_values = [0i16; 4096];
-    let mut srl_widths = [0u8; 4096];
-    let mut raw_values = [0u16; 4096];
-    let mut raw_widths = [0u8; 4096];
-    let done = collect(
+    let total = survey_bands(
         coefficients,
         prev_coefficients,
         prev,
         curr,
         sign,
         use_reduce_extrapolate,
-        &mut srl_values,
-        &mut srl_widths,
-        &mut raw_values,
-        &mut raw_widths,
     );
-    write_filled(
-        &srl_values,
-        &srl_widths,
-        &raw_values,
-        &raw_widths,
-        done,
+    if total.bad {
+        return Written::Refused(5);
+    }
+    if raw_out.len() < (total.raw_bits + 7) / 8 {
+        return Written::Refused(7);
+    }
+    if srl_exceeds(
+        coefficients,
+        prev_coefficients,
+        prev,
+        curr,
+        sign,
+        use_reduce_extrapolate,
+        total,
+        srl_out.len(),
+    ) {
+        return Written::Refused(7);
+    }
+    write_streams(
+        coefficients,
+        prev_coefficients,
+        prev,
+        curr,
+        sign,
+        use_reduce_extrapolate,
+        total.count,
         srl_out,
         raw_out,
     )

@@ -1,0 +1,19 @@
+-- `progressive::writer::measure_next` meets its contract: a skipped band has nothing to measure. Assumes nothing.
+use Rattle.progressive.specs.Walk.{bandStep}
+use Rattle.progressive.specs.Writing.{Measures}
+use Rattle.progressive.proofs.Onward.{band-skip}
+use Rattle.progressive.proofs.WrittenValues.{measures-onward, measurable-on}
+use borrow.Author.Needs.{needs}
+use Rattle.progressive.proofs.writer.measure_next.Statement.{statement}
+use Rattle.progressive.proofs.writer.measure_next.Tie as tie
+
+returns : tie.Need-returns
+returns c =
+    let k = c .before .before in
+    let a = k .args in (
+      band-skip Measures measures-onward (a .coefficients .now) (a .prev-coefficients .now) (a .sign .now) (bandStep (a .t)) (a .from) (a .to) (k .pre .0) (c .if1 .taken) (a .start),
+      measurable-on (a .start) (a .from) (a .to) (k .pre .0 .begins) (k .pre .2),
+    )
+
+pub measure-next-spec : {M : Type 1} → statement M
+measure-next-spec = tie.close (tie.spec returns (λ c κs. search needs) (λ c. search needs))
