@@ -1,5 +1,6 @@
 //! Writes recorded cases to standard output: `record SEED [SCALE]`.
 
+mod digest;
 mod kinds;
 mod random;
 mod record;
