@@ -2,6 +2,7 @@
 use crate::number;
 use crate::srl_exhaustive;
 ghost use Prim.Native.Nat.{_≤_};
+ghost use lib.ListN.{length};
 
 // The next word: a step of xorshift64.
 fn next(word: u64) -> u64 {
@@ -74,11 +75,11 @@ fn fill_band(
     prev: u8,
     curr: u8,
     last: u64,
-    targets: &mut [i16; 4352],
-    befores: &mut [i16; 4352],
-    signs: &mut [i8; 4352],
+    targets: &mut [i16],
+    befores: &mut [i16],
+    signs: &mut [i8],
 ) -> u64
-    requires { ⌜ to ≤ 4352 ⌝ }
+    requires { ⌜ (to ≤ length (now targets)) × (to ≤ length (now befores)) × (to ≤ length (now signs)) ⌝ }
 {
     let mut word = last;
     let mut i = from;
@@ -95,12 +96,9 @@ fn fill_band(
 }
 
 // Makes the places of a case: those of the ten bands, and the others behind them.
-pub fn fill(
-    c: &[u8],
-    targets: &mut [i16; 4352],
-    befores: &mut [i16; 4352],
-    signs: &mut [i8; 4352],
-) {
+pub fn fill(c: &[u8], targets: &mut [i16], befores: &mut [i16], signs: &mut [i8])
+    requires { ⌜ (4352 ≤ length (now targets)) × (4352 ≤ length (now befores)) × (4352 ≤ length (now signs)) ⌝ }
+{
     let extrapolate = number::flag_at(c, 12);
     let mut word = number::u64_at(c, 0);
     let mut b: usize = 0;
@@ -132,8 +130,7 @@ pub fn with_bytes(digest: u64, bytes: &[u8]) -> u64 {
     let mut d = digest;
     let mut i: usize = 0;
     while i < bytes.len() {
-        let b = bytes[i];
-        d = srl_exhaustive::mixed(d, b as u64);
+        d = srl_exhaustive::mixed(d, number::u8_at(bytes, i) as u64);
         i += 1;
     }
     d

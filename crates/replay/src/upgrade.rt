@@ -65,27 +65,29 @@ fn read(c: &[u8], srl_data: &[u8], raw_data: &[u8], befores: &mut [i16], signs: 
     ))
 }
 
-// Whether a pass that is read agrees with a case of kind 36.
-fn read_agrees(c: &[u8], befores: &mut [i16], signs: &mut [i8]) -> bool {
+// Kind 36: whether the port agrees with a case.
+pub fn decode_agrees(c: &[u8]) -> bool {
     let from: usize = 52;
     let middle = from + number::u16_at(c, 39) as usize;
     let to = middle + number::u16_at(c, 41) as usize;
     if to != c.len() {
         return false;
     }
-    if read(c, &c[from..middle], &c[middle..to], befores, signs) != number::u8_at(c, 43) {
-        return false;
-    }
-    digest(befores, signs) == number::u64_at(c, 44)
-}
-
-// Kind 36: whether the port agrees with a case.
-pub fn decode_agrees(c: &[u8]) -> bool {
     let mut targets = [0i16; 4352];
     let mut befores = [0i16; 4352];
     let mut signs = [0i8; 4352];
     component::fill(c, &mut targets, &mut befores, &mut signs);
-    read_agrees(c, &mut befores, &mut signs)
+    let k = read(
+        c,
+        &c[from..middle],
+        &c[middle..to],
+        &mut befores,
+        &mut signs,
+    );
+    if k != number::u8_at(c, 43) {
+        return false;
+    }
+    digest(&befores, &signs) == number::u64_at(c, 44)
 }
 
 // Writes a pass from as many elements as the case lends into as many bytes; 255 where there are not so many.
