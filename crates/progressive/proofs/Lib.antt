@@ -1,2 +1,7 @@
 -- Laws of the pass, for the proofs here and in the crates above.
+pub mod Bandwise
+pub mod Dequantized
+pub mod Lists
 pub mod Samples
+pub mod Steps
+pub mod Walks

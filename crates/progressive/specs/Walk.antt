@@ -3,7 +3,8 @@
 use mathlib.Core.Bool.{Bool, false, cond}
 use mathlib.Core.List.{List, [], _∷_}
 use Prim.Native.Nat.{ℕ, _+_, _≤_}
-use lib.IntN.{ℤ}
+use lib.IntN.{ℤ, pos}
+use lib.ListN.{getD, set}
 use Rattle.fixed.specs.Fixed.{isZero}
 use Rattle.bits.specs.Bits.{num, bitsRead}
 use Rattle.srl.specs.Srl.{Reader, nextValue, nextReader}
@@ -61,6 +62,18 @@ walk srlData rawData (t ∷ ts) (c ∷ cs) (s ∷ ss) r n =
     (walk srlData rawData ts cs ss (readerAt srlData rawData t (source t s) r) (countAt srlData rawData t (source t s) n))
 
 -- ════ what the inner functions ask and promise ════
+
+-- a walk's slices and readers once the place i, whose value comes from o, has had its step
+abbrev pub steppedFrom : Source → List ℕ → List ℕ → Step → ℕ → Walked → Walked
+steppedFrom o srlData rawData t i w =
+    walked
+    (set (w .coefficients) i (coefficientAt srlData rawData t o (getD (w .coefficients) i (pos 0)) (getD (w .sign) i (pos 0)) (w .srl) (w .raw)))
+    (set (w .sign) i (signAt srlData rawData t o (getD (w .sign) i (pos 0)) (w .srl)))
+    (readerAt srlData rawData t o (w .srl))
+    (countAt srlData rawData t o (w .raw))
+
+abbrev pub stepped : List ℕ → List ℕ → Step → ℕ → Walked → Walked
+stepped srlData rawData t i w = steppedFrom (source t (getD (w .sign) i (pos 0))) srlData rawData t i w
 
 -- the slices and the readers of the code, as a walk gives them
 abbrev pub reached : List ℤ → List ℤ → Readers → Walked

@@ -10,6 +10,7 @@ ghost use Rattle.progressive.specs.Encode.{encodeAnswer, encodeSrlOut, e
 ghost use Rattle.progressive.specs.Dequantize.{dequantizeAnswer, dequantizeOut};
 
 mod dequantize;
+mod span;
 mod upgrade;
 mod writer;
 

@@ -11,7 +11,8 @@ ghost use Rattle.srl.specs.Inner.{Sound, Width, shut};
 ghost use Rattle.fixed.specs.Fixed.{isZero};
 ghost use Rattle.bands.specs.Positions.{rowInDomain};
 ghost use Rattle.progressive.specs.Upgrade.{stepAt, steps, srlCoefficient, srlSign, adds, rawCoefficient, upgradedCoefficients, upgradedSigns};
-ghost use Rattle.progressive.specs.Walk.{walk, reached, bandStep, fromSrl, Early};
+ghost use Rattle.progressive.specs.Walk.{walk, stepped, reached, bandStep, fromSrl, Early};
+use crate::span;
 
 // A reader for each stream: the SRL decoder's state, and the count of raw bits read.
 pub struct Readers {
@@ -66,7 +67,7 @@ fn srl_place(
 
 // The raw bits of a place, as a number.
 fn raw_number(raw_data: &[u8], at: usize, width: u8) -> u16
-    requires { ⌜ width ≤ 15 ⌝ }
+    requires { ⌜ Width width ⌝ }
     ensures { λ r. ⌜ r ≡ num (now («raw_data» .entry)) at width ⌝ }
 {
     bits::reader::number(raw_data, bits::reader::place(at), width) as u16
@@ -81,7 +82,7 @@ fn raw_place(
     i: usize,
     coefficients: &mut [i16],
 )
-    requires { ⌜ (t .width ≤ 15) × (i < length (now coefficients)) ⌝ }
+    requires { ⌜ Width (t .width) × (i < length (now coefficients)) ⌝ }
     ensures { λ _. ⌜ now (coefficients .exit) ≡ set (now (coefficients .entry)) i (rawCoefficient adds (t .position) (num (now («raw_data» .entry)) at (t .width)) (getD (now (coefficients .entry)) i (pos 0))) ⌝ }
 {
     let m = raw_number(raw_data, at, t.width);
@@ -113,6 +114,35 @@ fn adds_raw(t: BandStep, s: i8) -> bool
     fixed::is_positive_sign(s)
 }
 
+// One place of a band that is not skipped.
+fn upgrade_place(
+    srl_data: &[u8],
+    raw_data: &[u8],
+    t: BandStep,
+    from: Readers,
+    i: usize,
+    coefficients: &mut [i16],
+    sign: &mut [i8],
+) -> Readers
+    requires { ⌜ Width (t .width) × Early from (2 ^ 41) × (i < length (now coefficients)) × (i < length (now sign)) ⌝ }
+    ensures { λ r. ⌜ (reached (now (coefficients .exit)) (now (sign .exit)) r ≡ stepped (now («srl_data» .entry)) (now («raw_data» .entry)) (bandStep t) i (reached (now (coefficients .entry)) (now (sign .entry)) from)) × ((m : ℕ) → Early from m → Early r (m + 40000)) ⌝ }
+{
+    let s = sign[i];
+    let state = from.srl;
+    let at = from.raw;
+    if from_srl(t, s) {
+        return Readers {
+            srl: srl_place(srl_data, state, t, i, coefficients, sign),
+            raw: at,
+        };
+    }
+    raw_place(raw_data, at, t, adds_raw(t, s), i, coefficients);
+    Readers {
+        srl: state,
+        raw: at + t.width as usize,
+    }
+}
+
 // ---- a band
 
 // All places of a band that is not skipped.
@@ -127,23 +157,13 @@ fn upgrade_band(
     requires { ⌜ Width (t .width) × Early from (2 ^ 40) × (length (now sign) ≡ length (now coefficients)) × (length (now coefficients) ≤ 4096) ⌝ }
     ensures { λ r. ⌜ (walk (now («srl_data» .entry)) (now («raw_data» .entry)) (replicate (length (now (coefficients .entry))) (bandStep t)) (now (coefficients .entry)) (now (sign .entry)) (opened (from .srl)) (from .raw) ≡ reached (now (coefficients .exit)) (now (sign .exit)) r) × ((m : ℕ) → Early from m → Early r (m + 40000 * length (now (coefficients .entry)))) ⌝ }
 {
-    let mut state = from.srl;
-    let mut at = from.raw;
+    let mut cur = from;
     let mut i: usize = 0;
     while i < coefficients.len() {
-        let s = sign[i];
-        if from_srl(t, s) {
-            state = srl_place(srl_data, state, t, i, coefficients, sign);
-        } else {
-            raw_place(raw_data, at, t, adds_raw(t, s), i, coefficients);
-            at += t.width as usize;
-        }
+        cur = upgrade_place(srl_data, raw_data, t, cur, i, coefficients, sign);
         i += 1;
     }
-    Readers {
-        srl: state,
-        raw: at,
-    }
+    cur
 }
 
 // A band: of width 0 it is skipped.
@@ -166,14 +186,23 @@ fn one_band(
 
 // ---- all bands
 
+// The width of a band.
+fn band_width(prev: u8, curr: u8) -> u8
+    ensures { λ r. ⌜ r ≡ prev - curr ⌝ }
+{
+    if curr < prev {
+        return prev - curr;
+    }
+    0
+}
+
 // What a pass does in the band numbered `b`.
 pub fn band_step(b: usize, prev: u8, curr: u8) -> BandStep
     ensures { λ r. ⌜ bandStep r ≡ stepAt b prev curr ⌝ }
 {
-    let width = if curr < prev { prev - curr } else { 0 };
     BandStep {
         bottom: b == 9,
-        width,
+        width: band_width(prev, curr),
         position: curr,
     }
 }
@@ -198,9 +227,9 @@ pub fn upgrade_bands(
     let mut b: usize = 0;
     while b < 10 {
         let t = band_step(b, prev[b], curr[b]);
-        let info = bands::band(use_reduce_extrapolate, b);
-        let from = info.offset;
-        let to = from + info.width * info.height;
+        let place = span::band_span(use_reduce_extrapolate, b);
+        let from = place.from;
+        let to = place.to;
         readers = one_band(
             srl_data,
             raw_data,

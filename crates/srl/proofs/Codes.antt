@@ -4,16 +4,18 @@ use mathlib.Core.Bool.{Bool, true, false, cond}
 use mathlib.Core.List.{List}
 use Prim.Native.Nat.{ℕ, zero, suc, _+_, _-_, _/_, _^_, _≤_, _<_, min}
 use native.Mathlib.Omega.{arith}
+use borrow.Author.Tests.{ltb-true}
+use lib.Dec.{ltb}
 use lib.IntN.{pos}
 use lib.Pow.{pow-mono}
 use lib.Signed.{mag}
 use Rattle.fixed.specs.Fixed.{clampI16, withSign}
 use Rattle.fixed.proofs.Clamp.{clamp-same}
-use Rattle.bits.specs.Bits.{bitAt, num, zeros, placeOf}
+use Rattle.bits.specs.Bits.{bitAt, num, zeros, zerosLength, placeOf}
 use Rattle.bits.specs.declared.reader.BitReader.{BitReader}
 use Rattle.bits.proofs.Numbers.{num-lt}
 use Rattle.bits.proofs.Ones.{zeros-le}
-use Rattle.srl.specs.Srl.{Reader, reader, mostZeros, nonzero, behind, codeWord, ready, value, past}
+use Rattle.srl.specs.Srl.{Reader, reader, mostZeros, nonzero, behind, codeWord, ready, value, past, readied, nextReader}
 use Rattle.srl.specs.Inner.{Width, shut}
 use Rattle.srl.specs.declared.SrlState.{SrlState}
 use Rattle.srl.proofs.Widths.{pow-low, pow-high}
@@ -81,6 +83,25 @@ past-kp s w r h = by (r .run)
     by : (run : ℕ) → past s w (r .read) (r .kp) run (r .pending) .kp ≤ 80
     by zero = h
     by (suc run) = h
+
+-- zeros before a 1 take no more bits than they may be
+length-le : (s : List ℕ) (n l : ℕ) → zerosLength s n l ≤ l
+length-le s n l = by (ltb (zeros s n l) l) refl
+  where
+    by : (b : Bool) → ltb (zeros s n l) l ≡ b → cond b (zeros s n l + 1) l ≤ l
+    by true e = omega (arith, ltb-true (zeros s n l) l e)
+    by false e = omega arith
+
+past-near : (s : List ℕ) (w n kp run : ℕ) (pending : Bool) → past s w n kp run pending .read ≤ n + 1 + 2 ^ w
+past-near s w n kp zero pending = omega (arith, length-le s (n + 1) (mostZeros w))
+past-near s w n kp (suc run) pending = omega arith
+
+-- how far a value goes: a code word and a nonzero value at most
+pub next-near : (s : List ℕ) (w : ℕ) (r : Reader) → r .kp ≤ 80 → (nextReader s w r .read ≤ r .read + 12 + 2 ^ w) × (nextReader s w r .kp ≤ 80)
+next-near s w r h =
+    let q = readied s r in
+    let near = ready-near s (r .read) (r .kp) (r .run) (r .pending) h in
+    (omega (arith, past-near s w (q .read) (q .kp) (q .run) (q .pending), near .read-near), past-kp s w q (near .kp-low))
 
 pub ready-mono : (s : List ℕ) (n kp run : ℕ) (pending : Bool) → n ≤ ready s n kp run pending .read
 ready-mono s n kp (suc run) pending = omega arith
