@@ -87,6 +87,22 @@ module _ (f : List Bool) (out : List ℕ) (j cur n : ℕ) where
           ∙ ap (λ i. set (sets out j (whole cur n f)) i x) (after-whole f j cur n)
           ∙ sym (sets-append (whole cur n f) (x ∷ []) out j)
 
+-- from the start: k and q are the writer and the output after the bits, n and p what the padding gives
+pub padded : (f : List Bool) (out : List ℕ) {k : BitWriter} {q p : List ℕ} {n : ℕ} → k ≡ after (writer 0 0 0) f → q ≡ write out (writer 0 0 0) f
+    → n ≡ padCount k → p ≡ padOut q k → (n ≡ length (pack 0 0 f)) × (p ≡ sets out 0 (pack 0 0 f))
+padded f out {k = k} a b c d = (
+  c ∙ ap padCount a ∙ pad-count f out 0 0 0 ∙ zero-add (length (pack 0 0 f)),
+  d ∙ ap (λ x. padOut x k) b ∙ ap (padOut (write out (writer 0 0 0) f)) a ∙ pad-out f out 0 0 0,
+)
+
+-- the padding makes at most one byte more
+pub pad-le : (k : BitWriter) → padCount k ≤ k .at + 1
+pad-le k = by (eqb (k .«bit_count») 0)
+  where
+    by : (e : Bool) → cond e (k .at) (k .at + 1) ≤ k .at + 1
+    by true = omega arith
+    by false = omega arith
+
 -- from the start, where they fit: the rest of the list stays
 pub sets-start : (vs l : List ℕ) → length vs ≤ length l → sets l 0 vs ≡ vs ++ drop (length vs) l
 sets-start vs l h = sets-eq vs l 0 (omega arith) ∙ ap (λ n. vs ++ drop n l) (zero-add (length vs))

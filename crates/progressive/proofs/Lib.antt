@@ -3,5 +3,9 @@ pub mod Bandwise
 pub mod Dequantized
 pub mod Lists
 pub mod Samples
+pub mod WrittenValues
+pub mod RawNumbers
 pub mod Steps
 pub mod Walks
+pub mod BothStreams
+pub mod Collected

@@ -3,3 +3,4 @@ pub mod Upgrade
 pub mod Encode
 pub mod Dequantize
 pub mod Walk
+pub mod Writing

@@ -7,7 +7,7 @@ use native.Mathlib.Nat.{mul-le-mul-left}
 use native.Mathlib.Omega.{arith}
 use borrow.Author.Tests.{lt-ltb}
 use lib.Dec.{ltb}
-use lib.IntN.{ℤ, pos, negsuc}
+use lib.IntN.{ℤ, pos, negsuc, natAbs}
 use lib.ListN.{length, length-append}
 use Rattle.srl.specs.Inner.{Width}
 use Rattle.srl.specs.Encode.{nonzeroBits, runBits, valueBits, valueKp, valueZeros, callBits, callBytes, valueFault, firstOf, fault}
@@ -40,6 +40,17 @@ call-small w kp z (v ∷ vs) h e =
       value-small w kp z v h (f .0),
       call-small w (valueKp kp z v) (valueZeros z v) vs (value-kp kp z v h) (f .1),
     )
+
+-- a value takes at most its magnitude and 12 bits, and a bit for each zero that was pending, whatever its width
+nonzero-length : (w kp z m : ℕ) (b : Bool) → kp ≤ 80 → length (runBits (suc z) kp z ++ nonzeroBits w b m) ≤ z + m + 13
+nonzero-length w kp z m b h =
+    let n : m + 1 - 1 ≡ m = omega arith in
+    omega (arith, length-append (runBits (suc z) kp z) (nonzeroBits w b m), length-run (suc z) kp z h, rw n at (nonzero-le w (m + 1) b (omega arith)))
+
+pub value-length : (w kp z : ℕ) (v : ℤ) → kp ≤ 80 → length (valueBits w kp z v) + valueZeros z v ≤ z + natAbs v + 12
+value-length w kp z (pos zero) h = omega arith
+value-length w kp z (pos (suc m)) h = omega (arith, nonzero-length w kp z m false h)
+value-length w kp z (negsuc m) h = omega (arith, nonzero-length w kp z m true h)
 
 -- where the room is more than that, the bytes fit
 pub surely : (w : ℕ) (st : SrlWriter) (vs : List ℤ) (room : ℕ) → GoodWriter st → fault w (st .«pending_zeros») vs ≡ 0
