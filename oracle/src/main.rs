@@ -2,7 +2,6 @@
 
 mod digest;
 mod kinds;
-mod random;
 mod record;
 
 use std::env;

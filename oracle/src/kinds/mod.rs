@@ -9,8 +9,8 @@ mod wrong;
 
 use std::io;
 
-use crate::random::Random;
 use crate::record::{Case, Recording};
+use oracle::random::Random;
 
 /// The kind of the last record, which has no payload. A file without it is cut.
 const END: u8 = 0;

@@ -8,9 +8,9 @@ mod encode;
 use std::io;
 
 use super::{NO_ROOM, record_kind, short};
-use crate::random::Random;
 use crate::record::{Case, Recording};
 use component::{Before, Given, PLACES, Row, Shape, Signs};
+use oracle::random::Random;
 
 /// The port's refusals of a slice that is too short and of a number above 15. The text panics at the
 /// first, and takes no such number from the wire: README.md has the rule.

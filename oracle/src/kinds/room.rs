@@ -1,6 +1,6 @@
 //! How much room the output of a call has.
 
-use crate::random::Random;
+use oracle::random::Random;
 
 /// How much room a call's output has.
 #[derive(Clone, Copy)]

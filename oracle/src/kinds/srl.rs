@@ -7,8 +7,8 @@ mod exhaustive;
 use std::io;
 
 use super::{NO_ROOM, record_kind, short};
-use crate::random::Random;
 use crate::record::{Case, Recording};
+use oracle::random::Random;
 
 /// The most values or bytes that a call of a case has room for.
 const MOST_ROOM: usize = 8192;

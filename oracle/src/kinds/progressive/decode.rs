@@ -10,8 +10,8 @@ use super::{
     random_given, record_kind, refusal, short, typical,
 };
 use crate::digest::with_values;
-use crate::random::Random;
 use crate::record::{Case, Recording};
+use oracle::random::Random;
 
 const DECODE_UPGRADE: u8 = 36;
 

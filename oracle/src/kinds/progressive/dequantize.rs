@@ -8,8 +8,8 @@ use super::{
     GREATEST, Given, LAYOUTS, Shape, bad_rows, lengths, random_given, record_kind, refusal, typical,
 };
 use crate::digest::with_values;
-use crate::random::Random;
 use crate::record::{Case, Recording};
+use oracle::random::Random;
 
 const DEQUANTIZE: u8 = 38;
 

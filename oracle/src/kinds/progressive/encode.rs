@@ -12,8 +12,8 @@ use super::{
 };
 use crate::digest::with_bytes;
 use crate::kinds::room::Room;
-use crate::random::Random;
 use crate::record::{Case, Recording};
+use oracle::random::Random;
 
 const ENCODE_UPGRADE: u8 = 37;
 

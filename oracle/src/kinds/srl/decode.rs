@@ -9,8 +9,8 @@ use super::{
     BAD_WIDTHS, IMPOSSIBLE_STATE, MAX_KP, MOST_ROOM, NO_ROOM, long, random_width, record_kind,
     short,
 };
-use crate::random::Random;
 use crate::record::{Case, Recording};
+use oracle::random::Random;
 
 const SRL_DECODE: u8 = 32;
 

@@ -10,8 +10,8 @@ use super::{
     short,
 };
 use crate::kinds::room::Room;
-use crate::random::Random;
 use crate::record::{Case, Recording};
+use oracle::random::Random;
 
 const SRL_ENCODE: u8 = 33;
 
