@@ -52,7 +52,10 @@ fn before(c: &[u8], word: u64, target: i16, prev: u8) -> i16 {
             fixed::is_negative(target),
         ),
         1 => fixed::shift_left_clamp(fixed::shift_right_floor(target, prev), prev),
-        2 => fixed::with_sign((word / 4294967296 % 65536) as u16, negative),
+        2 => fixed::with_sign(
+            shifted((word / 4294967296 % 65536) as u16, number::u8_at(c, 9)),
+            negative,
+        ),
         _ => fixed::with_sign(65535, negative),
     }
 }

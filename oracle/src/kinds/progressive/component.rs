@@ -19,7 +19,7 @@ pub enum Before {
     Cut,
     /// The same with floor.
     Floor,
-    /// Any, whatever the target is.
+    /// Any of the same size, whatever the target is.
     Any,
     /// The least and the greatest.
     Extreme,
@@ -46,7 +46,7 @@ pub struct Shape {
     pub density: u8,
     /// Each magnitude of sixteen bits is shifted right so far,
     pub drop: u8,
-    /// and then by a number of the bits that are set here.
+    /// and that of a target then by a number of the bits that are set here.
     pub spread: u8,
     pub before: Before,
     pub signs: Signs,
@@ -157,7 +157,7 @@ impl Shape {
                 let shift = prev.min(15);
                 target >> shift << shift
             }
-            Before::Any => with_sign((word >> 32) as u16, bit(word, 29)),
+            Before::Any => with_sign(shifted((word >> 32) as u16, self.drop), bit(word, 29)),
             Before::Extreme => with_sign(u16::MAX, bit(word, 29)),
         }
     }

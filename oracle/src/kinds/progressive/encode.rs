@@ -158,7 +158,7 @@ fn shapes() -> Vec<Case> {
     for before in [Before::Cut, Before::Floor, Before::Any, Before::Extreme] {
         for signs in [Signs::Before, Signs::Any, Signs::Zero, Signs::Later] {
             for density in [2, 50, 200, 255] {
-                for (drop, cut) in [(0, false), (11, true), (13, true), (11, false)] {
+                for (drop, cut) in [(0, false), (11, true), (13, true), (11, false), (13, false)] {
                     let mut given = typical(random.next() | 1);
                     given.use_reduce_extrapolate = random.one_in(2);
                     given.shape = Shape {
@@ -234,10 +234,11 @@ fn rooms() -> Vec<Case> {
     cases
 }
 
-/// Values that are too large for their width, with room and without: their refusal comes first.
+/// Values that are too large for their width, with room and without: their refusal comes first. And
+/// differences that leave the range, which are clamped and then not too large.
 fn faults() -> Vec<Case> {
     let mut random = Random::new(3, ENCODE_UPGRADE);
-    let mut cases = Vec::new();
+    let mut cases = vec![case(clamped(), Room::Of(MOST_ROOM), Room::Exact)];
     for curr in [0, 1, 2, 3] {
         for drop in [11, 12, 13] {
             let mut given = typical(random.next() | 1);
@@ -261,6 +262,21 @@ fn faults() -> Vec<Case> {
         }
     }
     cases
+}
+
+/// Zeros over the least and the greatest, in one band of 15 bits.
+fn clamped() -> Given {
+    let mut given = typical(11);
+    given.shape = Shape {
+        drop: 16,
+        before: Before::Extreme,
+        signs: Signs::Zero,
+        ..given.shape
+    };
+    given.curr = [0; 10];
+    given.prev = [0; 10];
+    given.prev[8] = 15;
+    given
 }
 
 fn random_case(random: &mut Random) -> Case {
