@@ -88,7 +88,7 @@ fn input(random: &mut Random, sort: Sort) -> Input {
 
 /// A multiple of 4: at least 8 if it is known before the pass, 4 if the pass brings it.
 fn coefficient(random: &mut Random, sort: Sort) -> i16 {
-    let choice = random.next() % 1000;
+    let choice = random.word() % 1000;
     let magnitude = if choice < sort.known {
         let bits = 3 + random.below(6);
         (1i16 << bits) + (random.below(1 << (bits - 2).min(7)) as i16) * 4

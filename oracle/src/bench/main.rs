@@ -17,7 +17,7 @@ use input::{CURR, Input, PREV, QUANT, SORTS, USE_REDUCE_EXTRAPOLATE, inputs};
 const ROOM: usize = 16384;
 
 /// How many times a batch goes over the components of its sort.
-const ROUNDS: usize = 8;
+const ROUNDS: usize = 2;
 
 /// What a call works on, and what it leaves.
 struct Work {
@@ -59,10 +59,13 @@ fn main() -> ExitCode {
         eprintln!("usage: bench [REPETITIONS], at least 1");
         return ExitCode::from(2);
     };
+    println!("One component, in nanoseconds, {repetitions} batches of each side.");
+    println!("Ratio: port / Rust of each pair of batches, the median and the middle half.");
+    println!("{:<34}{:>16}{:>18}", "", "median of", "lowest of");
     println!(
-        "one component, nanoseconds: median of {repetitions} batches; ratio: median, lowest to highest"
+        "{:<34}{:>8}{:>8}{:>10}{:>8}   ratio",
+        "", "Rust", "port", "Rust", "port"
     );
-    println!("{:<34}{:>9}{:>9}   port / Rust", "", "Rust", "port");
     for sort in SORTS {
         let inputs = inputs(sort);
         row(
@@ -101,10 +104,10 @@ fn main() -> ExitCode {
     ExitCode::SUCCESS
 }
 
-/// How many batches of each side are timed. 41 if it is not given.
+/// How many batches of each side are timed. 201 if it is not given.
 fn repetitions() -> Option<usize> {
     let mut words = env::args().skip(1);
-    let number = words.next().map_or(Ok(41), |word| word.parse()).ok()?;
+    let number = words.next().map_or(Ok(201), |word| word.parse()).ok()?;
     (words.next().is_none() && number > 0).then_some(number)
 }
 
@@ -129,17 +132,18 @@ fn row(name: &str, inputs: &[Input], repetitions: usize, rust: Call, port: Call)
             times[side].push(batch(inputs, &mut works[side], call));
         }
     }
-    let ratios = times[1]
-        .iter()
-        .zip(&times[0])
-        .map(|(port, rust)| port / rust);
-    let ratios = sorted(ratios.collect());
-    let [rust, port] = times.map(|times| median(&sorted(times)));
+    let ratios = times[1].iter().zip(&times[0]);
+    let ratios = sorted(ratios.map(|(port, rust)| port / rust).collect());
+    let [rust, port] = times.map(sorted);
     println!(
-        "{name:<34}{rust:>9.0}{port:>9.0}   {:.2} ({:.2} to {:.2})",
-        median(&ratios),
-        ratios[0],
-        ratios[ratios.len() - 1]
+        "{name:<34}{:>8.0}{:>8.0}{:>10.0}{:>8.0}   {:.2} ({:.2} to {:.2})",
+        quartile(&rust, 2),
+        quartile(&port, 2),
+        rust[0],
+        port[0],
+        quartile(&ratios, 2),
+        quartile(&ratios, 1),
+        quartile(&ratios, 3),
     );
 }
 
@@ -159,8 +163,9 @@ fn sorted(mut numbers: Vec<f64>) -> Vec<f64> {
     numbers
 }
 
-fn median(numbers: &[f64]) -> f64 {
-    numbers[numbers.len() / 2]
+/// The number below which so many quarters of the numbers are.
+fn quartile(numbers: &[f64], quarters: usize) -> f64 {
+    numbers[numbers.len() * quarters / 4]
 }
 
 /// A fresh copy of the component: both sides work in place, and both are timed with it.

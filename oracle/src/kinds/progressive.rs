@@ -59,7 +59,7 @@ fn typical(seed: u64) -> Given {
             signs: Signs::Before,
             cut: true,
         },
-        use_reduce_extrapolate: seed % 2 == 0,
+        use_reduce_extrapolate: seed.is_multiple_of(2),
         prev: [4; 10],
         curr: [2; 10],
         lengths: [COMPONENT; 3],
@@ -170,7 +170,7 @@ fn random_shape(random: &mut Random, prev: Row, curr: Row) -> Shape {
         .zip(curr)
         .any(|(prev, curr)| prev.saturating_sub(curr) > 6);
     Shape {
-        seed: random.next() | 1,
+        seed: random.word() | 1,
         density: match random.below(6) {
             _ if wide => 10,
             0 => random.below(255),

@@ -140,7 +140,7 @@ impl Shape {
         if word as u8 > self.density {
             return 0;
         }
-        let shift = (word >> 24) as u8 % 16 & self.spread;
+        let shift = ((word >> 24) as u8 % 16) & self.spread;
         let magnitude = shifted(shifted((word >> 8) as u16, self.drop), shift);
         let magnitude = if self.cut {
             cut(magnitude, curr)

@@ -99,7 +99,7 @@ fn pairs() -> Vec<Case> {
                     drop: 0,
                     spread: 3,
                     signs: Signs::Later,
-                    ..typical(random.next() | 1).shape
+                    ..typical(random.word() | 1).shape
                 },
                 use_reduce_extrapolate,
                 prev,
@@ -122,7 +122,7 @@ fn shapes() -> Vec<Case> {
     for before in befores {
         for signs in all_signs {
             for density in [2, 50, 255] {
-                let seed = random.next() | 1;
+                let seed = random.word() | 1;
                 let mut given = typical(seed);
                 given.shape = Shape {
                     density,
@@ -228,7 +228,7 @@ fn random_streams(random: &mut Random, given: &Given) -> (Vec<u8>, Vec<u8>) {
             let kept = random.within(0..=stream.len());
             stream.truncate(kept);
             if kept > 0 {
-                stream[random.within(0..=kept - 1)] ^= random.next() as u8;
+                stream[random.within(0..=kept - 1)] ^= random.word() as u8;
             }
         }
     }

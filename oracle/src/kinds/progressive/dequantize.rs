@@ -55,7 +55,7 @@ fn every_quantizer() -> Vec<Case> {
             let mixed = core::array::from_fn(|band| (quantizer + band as u8) % 16);
             for curr in [[quantizer; 10], mixed] {
                 for (drop, spread) in [(0, 0), (0, 15), (8, 7)] {
-                    let typical = typical(random.next() | 1);
+                    let typical = typical(random.word() | 1);
                     cases.push(case(Given {
                         shape: Shape {
                             density: 255,

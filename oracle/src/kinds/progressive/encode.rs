@@ -138,7 +138,7 @@ fn pairs() -> Vec<Case> {
                     density: 8,
                     drop: 15 - most,
                     spread: 15,
-                    ..typical(random.next() | 1).shape
+                    ..typical(random.word() | 1).shape
                 },
                 use_reduce_extrapolate,
                 prev,
@@ -159,7 +159,7 @@ fn shapes() -> Vec<Case> {
         for signs in [Signs::Before, Signs::Any, Signs::Zero, Signs::Later] {
             for density in [2, 50, 200, 255] {
                 for (drop, cut) in [(0, false), (11, true), (13, true), (11, false), (13, false)] {
-                    let mut given = typical(random.next() | 1);
+                    let mut given = typical(random.word() | 1);
                     given.use_reduce_extrapolate = random.one_in(2);
                     given.shape = Shape {
                         density,
@@ -241,7 +241,7 @@ fn faults() -> Vec<Case> {
     let mut cases = vec![case(clamped(), Room::Of(MOST_ROOM), Room::Exact)];
     for curr in [0, 1, 2, 3] {
         for drop in [11, 12, 13] {
-            let mut given = typical(random.next() | 1);
+            let mut given = typical(random.word() | 1);
             given.prev = [curr + 1; 10];
             given.curr = [curr; 10];
             given.shape = Shape {

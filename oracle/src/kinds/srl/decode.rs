@@ -476,7 +476,7 @@ fn random_state(random: &mut Random, length: usize) -> DecoderState {
     }
     let state = DecoderState {
         byte_idx: match random.below(16) {
-            0 => random.next() as usize,
+            0 => random.word() as usize,
             _ => random.within(0..=length + 1),
         },
         bit_idx: random.below(8),
