@@ -44,16 +44,22 @@ fn digest(befores: &[i16], signs: &[i8]) -> u64 {
     component::with_signs(d, signs)
 }
 
-// Reads a pass into as many elements as the case lends: the refusal, or 255 where there are not so many.
+// How many elements a case lends of a list: the number at a place, and no more than there are.
+fn lent(c: &[u8], at: usize, most: usize) -> usize
+    requires { ⌜ at ≤ 1048576 ⌝ }
+    ensures { λ r. ⌜ r ≤ most ⌝ }
+{
+    let n = number::u16_at(c, at) as usize;
+    if n > most {
+        return most;
+    }
+    n
+}
+
+// Reads a pass into the elements that the case lends: the refusal.
 fn read(c: &[u8], srl_data: &[u8], raw_data: &[u8], befores: &mut [i16], signs: &mut [i8]) -> u8 {
-    let n = number::u16_at(c, 35) as usize;
-    let m = number::u16_at(c, 37) as usize;
-    if n > befores.len() {
-        return 255;
-    }
-    if m > signs.len() {
-        return 255;
-    }
+    let n = lent(c, 35, befores.len());
+    let m = lent(c, 37, signs.len());
     refusal(progressive::decode_upgrade_pass(
         srl_data,
         raw_data,
@@ -90,50 +96,9 @@ pub fn decode_agrees(c: &[u8]) -> bool {
     digest(&befores, &signs) == number::u64_at(c, 44)
 }
 
-// Writes a pass from as many elements as the case lends into as many bytes; 255 where there are not so many.
-fn write(
-    c: &[u8],
-    targets: &[i16],
-    befores: &[i16],
-    signs: &[i8],
-    srl_out: &mut [u8],
-    raw_out: &mut [u8],
-) -> Counts {
-    let l = number::u16_at(c, 33) as usize;
-    let n = number::u16_at(c, 35) as usize;
-    let m = number::u16_at(c, 37) as usize;
-    let srl_room = number::u16_at(c, 39) as usize;
-    let raw_room = number::u16_at(c, 41) as usize;
-    let none = Counts {
-        refusal: 255,
-        srl: 0,
-        raw: 0,
-    };
-    if l > targets.len() {
-        return none;
-    }
-    if n > befores.len() {
-        return none;
-    }
-    if m > signs.len() {
-        return none;
-    }
-    if srl_room > srl_out.len() {
-        return none;
-    }
-    if raw_room > raw_out.len() {
-        return none;
-    }
-    match progressive::encode_upgrade_pass(
-        &targets[..l],
-        &befores[..n],
-        row_at(c, 13),
-        row_at(c, 23),
-        &signs[..m],
-        number::flag_at(c, 12),
-        &mut srl_out[..srl_room],
-        &mut raw_out[..raw_room],
-    ) {
+// What a writer answers, in numbers.
+fn in_numbers(answer: progressive::Written) -> Counts {
+    match answer {
         progressive::Written::Bytes(srl, raw) => Counts {
             refusal: 0,
             srl,
@@ -145,6 +110,32 @@ fn write(
             raw: 0,
         },
     }
+}
+
+// Writes a pass from the elements that the case lends into the bytes that it lends.
+fn write(
+    c: &[u8],
+    targets: &[i16],
+    befores: &[i16],
+    signs: &[i8],
+    srl_out: &mut [u8],
+    raw_out: &mut [u8],
+) -> Counts {
+    let l = lent(c, 33, targets.len());
+    let n = lent(c, 35, befores.len());
+    let m = lent(c, 37, signs.len());
+    let srl_room = lent(c, 39, srl_out.len());
+    let raw_room = lent(c, 41, raw_out.len());
+    in_numbers(progressive::encode_upgrade_pass(
+        &targets[..l],
+        &befores[..n],
+        row_at(c, 13),
+        row_at(c, 23),
+        &signs[..m],
+        number::flag_at(c, 12),
+        &mut srl_out[..srl_room],
+        &mut raw_out[..raw_room],
+    ))
 }
 
 // Whether the coefficients and signs are the recorded ones after the streams, of some bytes, are read back.
@@ -196,30 +187,27 @@ pub fn encode_agrees(c: &[u8]) -> bool {
     let mut raw_out = [0u8; 16384];
     srl_encode::fill(&mut srl_out);
     srl_encode::fill(&mut raw_out);
-    let counts = write(c, &targets, &befores, &signs, &mut srl_out, &mut raw_out);
-    if !same_written(c, counts, &srl_out, &raw_out) {
+    let done = write(c, &targets, &befores, &signs, &mut srl_out, &mut raw_out);
+    if !same_written(c, done, &srl_out, &raw_out) {
         return false;
     }
-    if counts.refusal != 0 {
+    if done.refusal != 0 {
         return digest(&befores, &signs) == number::u64_at(c, 56);
     }
     read_back_agrees(
         c,
-        counts.srl,
+        done.srl,
         &srl_out,
-        counts.raw,
+        done.raw,
         &raw_out,
         &mut befores,
         &mut signs,
     )
 }
 
-// Dequantizes as many elements as the case lends: the refusal, or 255 where there are not so many.
+// Dequantizes the elements that the case lends: the refusal.
 fn dequantize(c: &[u8], targets: &mut [i16]) -> u8 {
-    let n = number::u16_at(c, 33) as usize;
-    if n > targets.len() {
-        return 255;
-    }
+    let n = lent(c, 33, targets.len());
     refusal(progressive::dequantize_component_ccq(
         &mut targets[..n],
         row_at(c, 23),
