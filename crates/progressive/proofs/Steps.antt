@@ -41,7 +41,6 @@ sign-kept (negsuc m) s e = absurd (true≢false (sym e))
 
 -- ════ where a place's value comes from, in a band that is not skipped ════
 
-
 from-srl : (b : Bool) (w : ℕ) (z : Bool) → 1 ≤ w → cond b false z ≡ true → sourceOf b w z ≡ srl
 from-srl b zero z h e = absurd (omega arith)
 from-srl true (suc w) z h e = absurd (true≢false (sym e))

@@ -79,6 +79,14 @@ stepped srlData rawData t i w = steppedFrom (source t (getD (w .sign) i (pos 0))
 abbrev pub reached : List ℤ → List ℤ → Readers → Walked
 reached cs ss r = walked cs ss (opened (r .srl)) (r .raw)
 
+-- the readers by their parts
+abbrev pub readersOf : ℕ → ℕ → ℕ → ℕ → Bool → ℕ → Readers
+readersOf byte bit kp run pending n =
+    record {
+      srl = record { reader = record { «byte_idx» = byte; «bit_idx» = bit }; kp = kp; «zero_run_remaining» = run; «nonzero_pending» = pending };
+      raw = n;
+    }
+
 -- what the code has for the step of a band
 abbrev pub bandStep : BandStep → Step
 bandStep t = record { bottom = t .bottom; width = t .width; position = t .position }

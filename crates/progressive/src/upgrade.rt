@@ -11,7 +11,7 @@ ghost use Rattle.srl.specs.Inner.{Sound, Width, shut};
 ghost use Rattle.fixed.specs.Fixed.{isZero};
 ghost use Rattle.bands.specs.Positions.{rowInDomain};
 ghost use Rattle.progressive.specs.Upgrade.{stepAt, steps, srlCoefficient, srlSign, adds, rawCoefficient, upgradedCoefficients, upgradedSigns};
-ghost use Rattle.progressive.specs.Walk.{walk, stepped, reached, bandStep, fromSrl, Early};
+ghost use Rattle.progressive.specs.Walk.{walk, stepped, reached, readersOf, bandStep, fromSrl, Early};
 use crate::span;
 
 // A reader for each stream: the SRL decoder's state, and the count of raw bits read.
@@ -145,7 +145,30 @@ fn upgrade_place(
 
 // ---- a band
 
-// All places of a band that is not skipped.
+// The readers by their parts.
+fn readers_of(
+    byte_idx: usize,
+    bit_idx: u8,
+    kp: u8,
+    run: usize,
+    pending: bool,
+    raw: usize,
+) -> Readers
+    ensures { λ r. ⌜ r ≡ readersOf «byte_idx» «bit_idx» kp run pending raw ⌝ }
+{
+    Readers {
+        srl: srl::SrlState {
+            reader: bits::reader::BitReader { byte_idx, bit_idx },
+            kp,
+            zero_run_remaining: run,
+            nonzero_pending: pending,
+        },
+        raw,
+    }
+}
+
+// All places of a band that is not skipped. The loop keeps the readers' parts: a struct that went round with it would have its padding
+// copied in each turn, which costs more than all the rest.
 fn upgrade_band(
     srl_data: &[u8],
     raw_data: &[u8],
@@ -157,13 +180,29 @@ fn upgrade_band(
     requires { ⌜ Width (t .width) × Early from (2 ^ 40) × (length (now sign) ≡ length (now coefficients)) × (length (now coefficients) ≤ 4096) ⌝ }
     ensures { λ r. ⌜ (walk (now («srl_data» .entry)) (now («raw_data» .entry)) (replicate (length (now (coefficients .entry))) (bandStep t)) (now (coefficients .entry)) (now (sign .entry)) (opened (from .srl)) (from .raw) ≡ reached (now (coefficients .exit)) (now (sign .exit)) r) × ((m : ℕ) → Early from m → Early r (m + 40000 * length (now (coefficients .entry)))) ⌝ }
 {
-    let mut cur = from;
+    let before = from.srl;
+    let start = before.reader;
+    let mut byte_idx = start.byte_idx;
+    let mut bit_idx = start.bit_idx;
+    let mut kp = before.kp;
+    let mut run = before.zero_run_remaining;
+    let mut pending = before.nonzero_pending;
+    let mut at = from.raw;
     let mut i: usize = 0;
     while i < coefficients.len() {
-        cur = upgrade_place(srl_data, raw_data, t, cur, i, coefficients, sign);
+        let cur = readers_of(byte_idx, bit_idx, kp, run, pending, at);
+        let next = upgrade_place(srl_data, raw_data, t, cur, i, coefficients, sign);
+        let state = next.srl;
+        let place = state.reader;
+        byte_idx = place.byte_idx;
+        bit_idx = place.bit_idx;
+        kp = state.kp;
+        run = state.zero_run_remaining;
+        pending = state.nonzero_pending;
+        at = next.raw;
         i += 1;
     }
-    cur
+    readers_of(byte_idx, bit_idx, kp, run, pending, at)
 }
 
 // A band: of width 0 it is skipped.

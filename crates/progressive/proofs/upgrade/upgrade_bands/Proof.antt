@@ -32,8 +32,7 @@ loop-holds : tie.Need-loop-holds Inv-loop μ-loop
 unfolding walk spreadTo
 loop-holds c =
     let a = c .before .before .before .args in
-    let e = c .new .ensures in
-    (
+    let e = c .new .ensures in (
       omega arith,
       search needs,
       refl,
@@ -67,8 +66,7 @@ one-band-requires c κs =
     let n = place-count (a .use-reduce-extrapolate) (stepOf (a .t3) (a .t4)) (l .b) (at .number) in
     let m = part-length (a .use-reduce-extrapolate) (l .b) (s .from) (s .to) (l .coefficients) at (omega (arith, p .1, l .inv .2)) in
     let k = part-length (a .use-reduce-extrapolate) (l .b) (s .from) (s .to) (l .sign) at (omega (arith, p .2, l .inv .3)) in
-    let low = low-position (a .t3) (l .b) (p .0) (omega (arith, l .inv .1, at .number)) in
-    (
+    let low = low-position (a .t3) (l .b) (p .0) (omega (arith, l .inv .1, at .number)) in (
       omega (arith, w, low),
       record { place = y .place; kp = y .kp; srl-read = omega (arith, y .srl-read, n, at .begins, at .ends, c .before .before .band-span .ensures .2); raw-read = omega (arith, y .raw-read, n, at .begins, at .ends, c .before .before .band-span .ensures .2) },
       k ∙ sym m,
@@ -85,8 +83,7 @@ loop-again c =
     let e = a .use-reduce-extrapolate in
     let f = stepOf (a .t3) (a .t4) in
     let at = lies (c .before .before .before .before .before) in
-    let m = part-length e (l .b) (s .from) (s .to) (l .coefficients) at (omega (arith, p .1, l .inv .2)) in
-    (
+    let m = part-length e (l .b) (s .from) (s .to) (l .coefficients) at (omega (arith, p .1, l .inv .2)) in (
       omega arith,
       l .inv .1,
       c .before .coefficients .given .1 ∙ l .inv .2,
@@ -94,7 +91,7 @@ loop-again c =
       band-turn (a .srl-data .now) (a .raw-data .now) e f (l .b) (s .from) (s .to) at (a .coefficients .now) (a .sign .now) (l .coefficients) (l .sign) (l .readers)
           (reached (u .last .1 .1 .1 .1 .0) (u .last .1 .1 .1 .1 .1 .0) (u .result)) (p .1) (p .2) (l .inv .4)
           (ap₂ (λ k t. walk (a .srl-data .now) (a .raw-data .now) (replicate k t) (midOf (s .from) (s .to - s .from) (l .coefficients)) (midOf (s .from) (s .to - s .from) (l .sign)) (opened (l .readers .srl)) (l .readers .raw)) (sym m) (sym (step (c .before .before .before .before .before .before)))
-              ∙ u .ensures .0),
+          ∙ u .ensures .0),
       subst (Early (u .result)) {x = 40000 * length (perPlaceTo e f (l .b)) + 40000 * length (midOf (s .from) (s .to - s .from) (l .coefficients))} {y = 40000 * length (perPlaceTo e f (l .b + 1))} (omega (arith, m, more-length e f (l .b) (s .from) (s .to) at))
           (u .ensures .1 (40000 * length (perPlaceTo e f (l .b))) (l .inv .5)),
     )
@@ -108,8 +105,7 @@ returns c =
     let ts = steps e (a .t3) (a .t4) in
     let ten : l .b ≡ 10 = omega arith in
     let done : walk (a .srl-data .now) (a .raw-data .now) ts (a .coefficients .now) (a .sign .now) start 0 ≡ reached (l .coefficients) (l .sign) (l .readers) =
-        ap (λ t. walk (a .srl-data .now) (a .raw-data .now) t (a .coefficients .now) (a .sign .now) start 0) (sym (ap (perPlaceTo e f) ten ∙ place-all e f)) ∙ l .inv .4 in
-    (
+    ap (λ t. walk (a .srl-data .now) (a .raw-data .now) t (a .coefficients .now) (a .sign .now) start 0) (sym (ap (perPlaceTo e f) ten ∙ place-all e f)) ∙ l .inv .4 in (
       sym (ap (λ (w : Walked). w .coefficients) done) ∙ walk-coefficients (a .srl-data .now) (a .raw-data .now) ts (a .coefficients .now) (a .sign .now) start 0,
       sym (ap (λ (w : Walked). w .sign) done) ∙ walk-signs (a .srl-data .now) (a .raw-data .now) ts (a .coefficients .now) (a .sign .now) start 0 (omega (arith, place-whole e f, c .before .before .before .before .before .pre .1)),
     )

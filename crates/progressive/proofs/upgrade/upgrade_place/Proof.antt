@@ -41,11 +41,10 @@ returns c =
     let x = getD (a .sign .now) (a .i) (pos 0) in
     let s = a .srl-data .now in
     let e = c .before .before .srl-place .ensures in
-    let o : opened (c .before .before .srl-place .result) ≡ nextReader s (a .t .width) (opened (a .from .srl)) = ap opened (e .0) ∙ opened-shut (nextReader s (a .t .width) (opened (a .from .srl))) in
-    (
+    let o : opened (c .before .before .srl-place .result) ≡ nextReader s (a .t .width) (opened (a .from .srl)) = ap opened (e .0) ∙ opened-shut (nextReader s (a .t .width) (opened (a .from .srl))) in (
       (λ j. walked (e .1 j) (e .2 j) (o j) (a .from .raw))
           ∙ ap (λ o. steppedFrom o s (a .raw-data .now) t (a .i) (reached (a .coefficients .now) (a .sign .now) (a .from)))
-              (sym (source-srl t x (p .0 .0) (srl-is (c .before .before .before .before .before .before) ∙ c .before .before .before .before .before .if1 .taken))),
+          (sym (source-srl t x (p .0 .0) (srl-is (c .before .before .before .before .before .before) ∙ c .before .before .before .before .before .if1 .taken))),
       λ m y. early-srl s (a .t .width) (a .from) (c .before .before .srl-place .result) m (p .0) (e .0) y,
     )
 
@@ -65,11 +64,10 @@ returns-2 c =
     let y = getD (a .coefficients .now) (a .i) (pos 0) in
     let k : c .before .before .before .before .adds-raw .result ≡ adds t x = c .before .before .before .before .adds-raw .ensures ∙ ap (adds t) (sign-is (c .before .before .before .before .before .before .before .before)) in
     let e = c .before .before .raw-place .ensures ∙ ap (λ b. set (a .coefficients .now) (a .i) (rawCoefficient b (a .t .position) m y)) k in
-    let own = set-own (a .sign .now) (a .i) (pos 0) in
-    (
+    let own = set-own (a .sign .now) (a .i) (pos 0) in (
       (λ j. walked (e j) (sym own j) (opened (a .from .srl)) (a .from .raw + a .t .width))
           ∙ ap (λ o. steppedFrom o (a .srl-data .now) d t (a .i) (reached (a .coefficients .now) (a .sign .now) (a .from)))
-              (sym (source-raw t x (p .0 .0) (srl-is (c .before .before .before .before .before .before) ∙ c .before .before .before .before .before .if1 .left))),
+          (sym (source-raw t x (p .0 .0) (srl-is (c .before .before .before .before .before .before) ∙ c .before .before .before .before .before .if1 .left))),
       λ m y. early-raw (a .t .width) (a .from) m (p .0) y,
     )
 
