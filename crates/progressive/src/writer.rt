@@ -2,7 +2,7 @@
 // show that there is room. Each of the three is a walk over the places, band by band.
 ghost use mathlib.Core.Path.{_≡_};
 ghost use mathlib.Core.Bool.{true, false, _||_};
-ghost use Prim.Native.Nat.{_+_, _-_, _*_, _/_, _^_, _≤_, _<_, max};
+ghost use Prim.Native.Nat.{_+_, _-_, _*_, _/_, _^_, _≤_, _<_};
 ghost use lib.Dec.{ltb};
 ghost use lib.ListN.{length};
 ghost use lib.Seq.{sets};
@@ -75,12 +75,6 @@ fn only_if(b: bool, m: u16) -> u16
     if b { m } else { 0 }
 }
 
-fn larger(a: u16, b: u16) -> u16
-    ensures { λ r. ⌜ r ≡ max a b ⌝ }
-{
-    if a < b { b } else { a }
-}
-
 fn either(a: bool, b: bool) -> bool
     ensures { λ r. ⌜ r ≡ (a || b) ⌝ }
 {
@@ -118,7 +112,7 @@ fn survey_band(
         let m = only_if(given, fixed::magnitude(v));
         count += one_if(given);
         sum += m as u32;
-        largest = larger(largest, m);
+        largest = srl::encoder::larger(largest, m);
         i += 1;
     }
     Survey {

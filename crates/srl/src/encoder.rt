@@ -147,7 +147,7 @@ fn find_fault(values: &[i16], zeros: usize, num_bits: u8) -> u8
     0
 }
 
-fn larger(a: u16, b: u16) -> u16
+pub fn larger(a: u16, b: u16) -> u16
     ensures { λ r. ⌜ r ≡ max a b ⌝ }
 {
     if a < b { b } else { a }
