@@ -2,7 +2,7 @@
 use mathlib.Core.Path.{_≡_, refl, ap, sym, _∙_, subst}
 use mathlib.Core.Bool.{Bool, true, false, _||_}
 use mathlib.Core.List.{List, [], _∷_, _++_, append-nil}
-use Prim.Native.Nat.{ℕ, zero, suc, _+_, _-_, _*_, _/_, _^_, _≤_, _<_, max}
+use Prim.Native.Nat.{ℕ, zero, suc, _+_, _-_, _*_, _/_, _^_, _≤_, max}
 use native.Mathlib.Nat.{suc-mul, mul-le-mul-left}
 use native.Mathlib.Omega.{arith}
 use borrow.Author.Tests.{lt-ltb, le-ltb, ltb-true, ltb-false}
@@ -20,7 +20,7 @@ use Rattle.progressive.specs.Walk.{fromSrl}
 use Rattle.progressive.specs.Writing.{Lists, placeLists, bandLists, Lent, oneIf, onlyIf, magnitudes, anyTooLarge, surveyOf, Counts, Surveys, noTotal, Few}
 use Rattle.progressive.specs.declared.writer.Survey.{Survey}
 use Rattle.progressive.specs.declared.writer.Total.{Total}
-use Rattle.progressive.proofs.Onward.{Onward, joined, given, chain, of-band, place-srl, place-raw}
+use Rattle.progressive.proofs.Onward.{Onward, given, chain, of-band, place-srl, place-raw}
 
 -- ════ a band's values ════
 

@@ -1,4 +1,5 @@
--- Laws of the values of the SRL stream, each with its width: judged, measured and written one by one. Assumes nothing.
+-- Laws of what a pass writes: its values judged, how large their stream is, the ends of both streams, and places measured and stored one by one.
+-- Assumes nothing.
 use mathlib.Core.Path.{_≡_, refl, ap, sym, _∙_, subst}
 use mathlib.Core.Bool.{Bool, true, false, cond, _||_}
 use mathlib.Core.List.{List, [], _∷_, _++_, append-nil}

@@ -1,11 +1,9 @@
 -- `progressive::writer::survey_band` meets its contract: after each turn the places so far are counted. Assumes nothing.
-use mathlib.Core.Path.{_≡_, refl, sym, ap, ap₂, _∙_}
-use mathlib.Core.Bool.{Bool}
-use Prim.Native.Nat.{ℕ, _+_, _-_, _*_, _≤_, max}
+use mathlib.Core.Path.{_≡_, refl, sym, ap, _∙_}
+use Prim.Native.Nat.{_+_, _-_, _*_, _≤_, max}
 use native.Mathlib.Omega.{arith}
 use lib.ListN.{getD}
 use lib.IntN.{ℤ, pos, natAbs}
-use mir.Val.{toZ, ofZ}
 use mir.Syntax.{w8, w16}
 use mir.ValLaws.{toZ-ofZ}
 use Rattle.fixed.proofs.Machine.{got}

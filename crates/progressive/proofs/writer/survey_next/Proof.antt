@@ -1,5 +1,5 @@
 -- `progressive::writer::survey_next` meets its contract: a band adds what its values and its numbers are. Assumes nothing.
-use mathlib.Core.Path.{_≡_, refl, ap, _∙_}
+use mathlib.Core.Path.{refl, ap, _∙_}
 use mathlib.Core.Bool.{_||_}
 use Prim.Native.Nat.{_-_, _*_, _≤_}
 use native.Mathlib.Nat.{mul-le-mul-left}
