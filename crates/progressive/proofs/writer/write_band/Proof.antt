@@ -10,8 +10,8 @@ use mir.ValLaws.{toZ-ofZ}
 use Rattle.progressive.specs.declared.writer.Sinks.{Sinks}
 use Rattle.progressive.specs.Walk.{bandStep}
 use Rattle.progressive.specs.Writing.{placeLists, bandLists, sinksOf, outputs, Stores, Writable}
-use Rattle.progressive.proofs.Onward.{band-none, place-next}
-use Rattle.progressive.proofs.WrittenValues.{stores-onward}
+use Rattle.progressive.proofs.Placewise.{band-none, place-next}
+use Rattle.progressive.proofs.WrittenValues.{stores-placewise}
 use borrow.Author.Needs.{needs}
 use Rattle.progressive.proofs.writer.write_band.Statement.{statement}
 use Rattle.progressive.proofs.writer.write_band.Tie as tie
@@ -28,7 +28,7 @@ loop-holds : tie.Need-loop-holds Inv-loop μ-loop
 loop-holds c =
     let k = c .before .before .before .before .before in
     let a = k .args in
-    (omega arith, k .pre .0 .begins, refl, refl, k .pre .3, band-none Stores stores-onward (a .coefficients .now) (a .prev-coefficients .now) (a .sign .now) (bandStep (a .t)) (a .from) (outputs (a .srl-out .now) (a .raw-out .now) (a .start)))
+    (omega arith, k .pre .0 .begins, refl, refl, k .pre .3, band-none Stores stores-placewise (a .coefficients .now) (a .prev-coefficients .now) (a .sign .now) (bandStep (a .t)) (a .from) (outputs (a .srl-out .now) (a .raw-out .now) (a .start)))
 
 write-place-requires : tie.Need-write-place-requires Inv-loop μ-loop
 write-place-requires c κs =
@@ -52,7 +52,7 @@ loop-again c =
       u .kept .1 .1 .1 .1 .1 .1 .0 ∙ l .inv .2,
       u .kept .1 .1 .1 .1 .1 .1 .1 .0 ∙ l .inv .3,
       u .ensures .1,
-      place-next Stores stores-onward (a .coefficients .now) (a .prev-coefficients .now) (a .sign .now) t (a .from) (l .i) (a .to) (k .pre .0) (l .inv .0) (c .before .before .before .before .before .before .before .before .before .before .before .before .before .before .loop-test .taken)
+      place-next Stores stores-placewise (a .coefficients .now) (a .prev-coefficients .now) (a .sign .now) t (a .from) (l .i) (a .to) (k .pre .0) (l .inv .0) (c .before .before .before .before .before .before .before .before .before .before .before .before .before .before .loop-test .taken)
           (outputs (a .srl-out .now) (a .raw-out .now) (a .start)) (outputs (l .srl-out) (l .raw-out) (sinksOf (l .at) (l .current) (l .n) (l .kp) (l .zeros) (l .raw-at) (l .raw-current) (l .raw-n))) then (l .inv .5)
           (toZ-ofZ w16 x (record { sfits = c .before .before .before .before .before .before .before .before .before .before .before .before .c .given })) (toZ-ofZ w16 y (record { sfits = c .before .before .before .before .before .before .before .before .before .before .before .p .given })) (toZ-ofZ w8 z (record { sfits = c .before .before .before .before .before .before .before .before .before .before .s .given }))
           (subst (λ (s : Sinks). Stores (placeLists t (toZ w16 (ofZ w16 x)) (toZ w16 (ofZ w16 y)) (toZ w8 (ofZ w8 z))) (outputs (l .srl-out) (l .raw-out) s) then) (c .before .before .before .before .before .before .before .before .before .before .before .before .before .sinks-of .ensures) (u .ensures .0)),

@@ -5,8 +5,8 @@ use native.Mathlib.Omega.{arith}
 use Rattle.progressive.specs.Walk.{bandStep}
 use lib.ListN.{length}
 use Rattle.progressive.specs.Writing.{freshSinks, Outputs, outputs, Stores, Writable}
-use Rattle.progressive.proofs.Onward.{Next, lent, narrow, low-step, Reached, reached-none, bound-before, reached-next, reached-all}
-use Rattle.progressive.proofs.WrittenValues.{stores-onward}
+use Rattle.progressive.proofs.Placewise.{Next, lent, narrow, low-step, Reached, reached-none, bound-before, reached-next, reached-all}
+use Rattle.progressive.proofs.WrittenValues.{stores-placewise}
 use borrow.Author.Needs.{needs}
 use Rattle.progressive.proofs.writer.write_bands.Statement.{statement}
 use Rattle.progressive.proofs.writer.write_bands.Tie as tie
@@ -30,7 +30,7 @@ loop-holds c =
       refl,
       refl,
       rw (c .sinks-of .ensures)
-          (reached-none Stores stores-onward Ready (a .coefficients .now) (a .prev-coefficients .now) (a .sign .now) (a .use-reduce-extrapolate) (a .t3) (a .t4) (outputs (a .srl-out .now) (a .raw-out .now) freshSinks)
+          (reached-none Stores stores-placewise Ready (a .coefficients .now) (a .prev-coefficients .now) (a .sign .now) (a .use-reduce-extrapolate) (a .t3) (a .t4) (outputs (a .srl-out .now) (a .raw-out .now) freshSinks)
           (record { good = ((omega arith, omega arith), omega arith); early = omega arith; sound = (omega arith, omega arith); raw-early = omega arith })),
     )
 
@@ -47,7 +47,7 @@ write-next-requires c κs =
       lent n (a .coefficients .now) (a .prev-coefficients .now) (a .sign .now) (k .pre .2) (k .pre .3) (k .pre .4),
       narrow n (k .pre .0),
       low-step n (k .pre .1),
-      bound-before Stores stores-onward Ready (a .coefficients .now) (a .prev-coefficients .now) (a .sign .now) (a .use-reduce-extrapolate) (a .t3) (a .t4) (l .b) _ _ _ (outputs (a .srl-out .now) (a .raw-out .now) freshSinks) (outputs (l .srl-out) (l .raw-out) (l .cur)) n (l .inv .3),
+      bound-before Stores stores-placewise Ready (a .coefficients .now) (a .prev-coefficients .now) (a .sign .now) (a .use-reduce-extrapolate) (a .t3) (a .t4) (l .b) _ _ _ (outputs (a .srl-out .now) (a .raw-out .now) freshSinks) (outputs (l .srl-out) (l .raw-out) (l .cur)) n (l .inv .3),
     )
 
 loop-again : tie.Need-loop-again Inv-loop μ-loop
@@ -60,7 +60,7 @@ loop-again c =
       omega (arith, c .before .before .before .before .before .before .before .before .before .loop-test .taken),
       u .kept .1 .1 .1 .1 .1 .1 .1 .0 ∙ l .inv .1,
       u .kept .1 .1 .1 .1 .1 .1 .1 .1 .0 ∙ l .inv .2,
-      reached-next Stores stores-onward Ready (a .coefficients .now) (a .prev-coefficients .now) (a .sign .now) (a .use-reduce-extrapolate) (a .t3) (a .t4) (l .b) _ _ _ (outputs (a .srl-out .now) (a .raw-out .now) freshSinks) (outputs (l .srl-out) (l .raw-out) (l .cur)) (outputs (o .0) (o .1 .0) (u .result))
+      reached-next Stores stores-placewise Ready (a .coefficients .now) (a .prev-coefficients .now) (a .sign .now) (a .use-reduce-extrapolate) (a .t3) (a .t4) (l .b) _ _ _ (outputs (a .srl-out .now) (a .raw-out .now) freshSinks) (outputs (l .srl-out) (l .raw-out) (l .cur)) (outputs (o .0) (o .1 .0) (u .result))
           (next (c .before .before .before .before .before .before .before)) (k .pre .2) (k .pre .3) (k .pre .4) (l .inv .3) (u .ensures),
     )
 
@@ -74,7 +74,7 @@ returns : tie.Need-returns Inv-loop μ-loop
 returns c =
     let a = c .before .before .before .before .before .args in
     let l = c .before .loop in
-    reached-all Stores stores-onward Ready (a .coefficients .now) (a .prev-coefficients .now) (a .sign .now) (a .use-reduce-extrapolate) (a .t3) (a .t4) (l .b) (outputs (a .srl-out .now) (a .raw-out .now) freshSinks) (outputs (l .srl-out) (l .raw-out) (l .cur)) (omega (arith, l .inv .0)) (l .inv .3)
+    reached-all Stores stores-placewise Ready (a .coefficients .now) (a .prev-coefficients .now) (a .sign .now) (a .use-reduce-extrapolate) (a .t3) (a .t4) (l .b) (outputs (a .srl-out .now) (a .raw-out .now) freshSinks) (outputs (l .srl-out) (l .raw-out) (l .cur)) (omega (arith, l .inv .0)) (l .inv .3)
 
 pub write-bands-spec : {M : Type 1} → statement M
 write-bands-spec = tie.close (tie.spec Inv-loop μ-loop (λ c κs. search needs) loop-holds (λ c. search needs) (λ c. search needs) (λ c κs. search needs) (λ c κs. search needs) write-next-requires (λ c. search needs) (λ c. search needs) loop-again same-length same-length-2 returns)

@@ -6,7 +6,7 @@ use Rattle.bands.proofs.Spread.{place-whole}
 use Rattle.progressive.specs.declared.Written.the-variants.{Bytes}
 use Rattle.progressive.specs.Upgrade.{steps, stepOf}
 use Rattle.progressive.specs.Writing.{passLists, endLength, endOut}
-use Rattle.progressive.proofs.Onward.{same-length}
+use Rattle.progressive.proofs.Placewise.{same-length}
 use Rattle.progressive.proofs.WrittenValues.{stream-end, raw-end}
 use borrow.Author.Needs.{needs}
 use Rattle.progressive.proofs.writer.write_streams.Statement.{statement}

@@ -161,11 +161,11 @@ chain F a b v u x y z p q ws us =
     ap (λ l. F x l ((v ++ u) ++ us)) (append-assoc a b ws) ∙ ap (F x (a ++ (b ++ ws))) (append-assoc v u us) ∙ p (b ++ ws) (u ++ us) ∙ q ws us
 
 -- it stays where there is none, and goes on behind what it went over
-pub record Onward {X : Type 0} (R : Lists → X → X → Type 0) : Type 0 where
+pub record Placewise {X : Type 0} (R : Lists → X → X → Type 0) : Type 0 where
   pub none : (x : X) → R noLists x x
   pub then : (a b : Lists) (x y z : X) → R a x y → R b y z → R (joined a b) x z
 
-module _ {X : Type 0} (R : Lists → X → X → Type 0) (o : Onward R) (cs ps ss : List ℤ) where
+module _ {X : Type 0} (R : Lists → X → X → Type 0) (o : Placewise R) (cs ps ss : List ℤ) where
   -- before the first place of a band
   pub band-none : (t : Step) (from : ℕ) (x : X) → R (bandLists t from from cs ps ss) x x
   band-none t from x =
@@ -212,7 +212,7 @@ pub record Reached {X : Type 0} (R : Lists → X → X → Type 0) (B : X → �
   pub over : R (passLists (perPlaceTo e (stepOf prev curr) b) cs ps ss) x y
   pub bound : B y (length (perPlaceTo e (stepOf prev curr) b))
 
-module _ {X : Type 0} (R : Lists → X → X → Type 0) (o : Onward R) (B : X → ℕ → Type 0) (cs ps ss : List ℤ) (e : Bool) (prev curr : List ℕ) where
+module _ {X : Type 0} (R : Lists → X → X → Type 0) (o : Placewise R) (B : X → ℕ → Type 0) (cs ps ss : List ℤ) (e : Bool) (prev curr : List ℕ) where
   pub reached-none : (x : X) → B x 0 → Reached R B cs ps ss e prev curr 0 x x
   reached-none x h =
       let n = place-none e (stepOf prev curr) in
