@@ -16,8 +16,14 @@ const INSIDE: &str = "crates/ironrdp-graphics/src";
 /// The files, without `.rs`.
 const FILES: [&str; 3] = ["dwt_extrapolate", "progressive", "srl"];
 
+/// The port's static library, in the repository.
+const PORT: &str = "target/staticlib/libtarjimp.a";
+
 fn main() {
     println!("cargo::rerun-if-changed=build.rs");
+    if env::var_os("CARGO_FEATURE_PORT").is_some() {
+        link_port();
+    }
     println!("cargo::rerun-if-env-changed={VARIABLE}");
 
     let source = env::var_os(VARIABLE)
@@ -41,6 +47,14 @@ fn main() {
         }
     }
     fs::write(Path::new(&out).join("source.rs"), generated).expect("the build folder is writable");
+}
+
+/// Has the program `bench` linked with the port.
+fn link_port() {
+    let folder = env::var("CARGO_MANIFEST_DIR").expect("cargo names the package's folder");
+    let library = Path::new(&folder).join("..").join(PORT);
+    println!("cargo::rerun-if-changed={}", library.display());
+    println!("cargo::rustc-link-arg-bin=bench={}", library.display());
 }
 
 /// Reads a file of the source and has cargo watch it. A build script runs in the folder of its

@@ -2,12 +2,13 @@
 //!
 //! `build.rs` fetches them from the folder that `TARJIMP_RUST_SRC` names. Each has one child module
 //! added, `reach`, which opens its private functions. What the text names outside of the three
-//! files is in [`stand_ins`].
+//! files is in [`stand_ins`]. [`random`] serves the programs that call them.
 
 // The text names two crates beside its own. Both are this crate.
 extern crate self as ironrdp_core;
 extern crate self as ironrdp_pdu;
 
+pub mod random;
 pub mod stand_ins;
 
 pub(crate) use stand_ins::invalid_field_err;

@@ -1,7 +1,7 @@
 //! Writes recorded cases to standard output: `record SEED [SCALE]`.
 
+mod digest;
 mod kinds;
-mod random;
 mod record;
 
 use std::env;

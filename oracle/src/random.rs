@@ -44,12 +44,12 @@ impl Random {
     /// A generator for one kind of cases.
     pub fn new(seed: u64, kind: u8) -> Self {
         let mut seeded = Self { state: seed };
-        let state = seeded.next() ^ u64::from(kind);
+        let state = seeded.word() ^ u64::from(kind);
         Self { state }
     }
 
     /// Any number.
-    pub fn next(&mut self) -> u64 {
+    pub fn word(&mut self) -> u64 {
         self.state = self.state.wrapping_add(0x9E37_79B9_7F4A_7C15);
         let mut z = self.state;
         z = (z ^ (z >> 30)).wrapping_mul(0xBF58_476D_1CE4_E5B9);
@@ -59,7 +59,7 @@ impl Random {
 
     /// A number from 0 to `bound - 1`.
     pub fn below(&mut self, bound: u8) -> u8 {
-        (self.next() % u64::from(bound)) as u8
+        (self.word() % u64::from(bound)) as u8
     }
 
     /// Whether one of `times` chances came.
@@ -70,7 +70,7 @@ impl Random {
     /// A number from `range`.
     pub fn within(&mut self, range: RangeInclusive<usize>) -> usize {
         let (least, most) = range.into_inner();
-        least + (self.next() % (most - least + 1) as u64) as usize
+        least + (self.word() % (most - least + 1) as u64) as usize
     }
 
     /// One of some values.
@@ -80,7 +80,7 @@ impl Random {
 
     /// Bytes of any values.
     pub fn bytes(&mut self, count: usize) -> Vec<u8> {
-        (0..count).map(|_| self.next() as u8).collect()
+        (0..count).map(|_| self.word() as u8).collect()
     }
 
     /// A value of one of three sorts: any of the type, any of a random number of bits, or one near
@@ -99,7 +99,7 @@ impl Random {
 
     /// A value of `bits` bits.
     fn signed(&mut self, bits: u32) -> i128 {
-        i128::from(self.next().cast_signed() >> (64 - bits))
+        i128::from(self.word().cast_signed() >> (64 - bits))
     }
 
     /// A value of `bits` bits near a power of two or its negative.

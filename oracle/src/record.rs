@@ -3,7 +3,7 @@
 
 use std::io::{self, Write};
 
-use crate::random::Random;
+use oracle::random::Random;
 
 /// The longest payload of a record, in bytes.
 pub const LONGEST_PAYLOAD: usize = 65536;

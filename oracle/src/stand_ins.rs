@@ -89,6 +89,23 @@ pub mod codecs {
                     }
                 }
 
+                /// A number for each band, in the order of `for_band`. The text does not name this.
+                pub const fn of_bands(row: [u8; 10]) -> Self {
+                    let [hl1, lh1, hh1, hl2, lh2, hh2, hl3, lh3, hh3, ll3] = row;
+                    Self {
+                        ll3,
+                        hl3,
+                        lh3,
+                        hh3,
+                        hl2,
+                        lh2,
+                        hh2,
+                        hl1,
+                        lh1,
+                        hh1,
+                    }
+                }
+
                 /// The number for the band at `index` of a band layout.
                 pub fn for_band(&self, index: usize) -> u8 {
                     [

@@ -2,6 +2,7 @@
 pub mod Bandwise
 pub mod Dequantized
 pub mod Lists
+pub mod Regained
 pub mod Samples
 pub mod WrittenValues
 pub mod Steps

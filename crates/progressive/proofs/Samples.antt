@@ -12,11 +12,24 @@ use Rattle.srl.specs.Srl.{values}
 use Rattle.srl.specs.Finish.{streamBits}
 use Rattle.progressive.specs.Upgrade.{Step, srlWidths, rawWidths, signsAfter, coefficientsAfter, upgradedCoefficients, upgradedSigns}
 use Rattle.progressive.specs.Encode.{srlDifferences, rawDifferences, valuesFault, passFault, srlBytes, rawBytes}
-use Rattle.progressive.specs.Dequantize.{dequantized, dequantizedAll}
+use Rattle.progressive.specs.Dequantize.{dequantizedAll}
+use Rattle.progressive.specs.Laws.{cuts}
 
 -- positions 3 to 1
 abbrev from3to1 : Bool → Step
 from3to1 bottom = record { bottom = bottom; width = 2; position = 1 }
+
+abbrev there : List Step
+there = from3to1 false ∷ from3to1 false ∷ from3to1 false ∷ []
+
+abbrev goal : List ℤ
+goal = pos 7 ∷ pos 14 ∷ negsuc 13 ∷ []
+
+abbrev from : List ℤ
+from = pos 0 ∷ pos 8 ∷ negsuc 7 ∷ []
+
+abbrev known : List ℤ
+known = pos 0 ∷ pos 1 ∷ negsuc 0 ∷ []
 
 -- raw bits 11: -8 with sign -1 gives -14; -32768 with sign -1 stays; in the bottom -8 gives -2
 raw-down : upgradedCoefficients (from3to1 false ∷ from3to1 false ∷ from3to1 true ∷ []) [] (252 ∷ []) (negsuc 7 ∷ negsuc 32767 ∷ negsuc 7 ∷ []) (negsuc 0 ∷ negsuc 0 ∷ negsuc 0 ∷ [])
@@ -49,6 +62,17 @@ writes-bytes = refl
 raw-bytes : rawBytes (from3to1 false ∷ []) (negsuc 13 ∷ []) (negsuc 7 ∷ []) (negsuc 0 ∷ []) ≡ (192 ∷ [])
 unfolding rawWidths rawDifferences clampI16 isZero bitsOfAll
 raw-bytes = refl
+
+-- what was written brings the target back: 7 over 0 without its lowest bit, 14 over 8 and -14 over -8
+back : (upgradedCoefficients there (srlBytes there goal from known) (rawBytes there goal from known) from known ≡ (pos 6 ∷ pos 14 ∷ negsuc 13 ∷ []))
+    × (cuts there goal from known ≡ (pos 6 ∷ pos 14 ∷ negsuc 13 ∷ []))
+unfolding srlWidths rawWidths srlDifferences rawDifferences coefficientsAfter cuts values numbers num clampI16 addScaled subScaled isZero isOne zeros streamBits bitsOfAll
+back = (refl, refl)
+
+-- a negative value of the bottom over its floor cut gains nothing
+bottom-stays : upgradedCoefficients (from3to1 true ∷ []) [] (rawBytes (from3to1 true ∷ []) (negsuc 6 ∷ []) (negsuc 7 ∷ []) (pos 0 ∷ [])) (negsuc 7 ∷ []) (pos 0 ∷ []) ≡ (negsuc 7 ∷ [])
+unfolding srlWidths rawWidths rawDifferences coefficientsAfter values numbers num clampI16 addScaled isZero isOne bitsOfAll
+bottom-stays = refl
 
 -- quantizer 5: -1 gives 0, 1 gives 1, -3 gives -1; 7: 20000 gives 32767
 dequantizes : dequantizedAll (5 ∷ 5 ∷ 5 ∷ 7 ∷ 6 ∷ []) (negsuc 0 ∷ pos 1 ∷ negsuc 2 ∷ pos 20000 ∷ negsuc 8 ∷ pos 9 ∷ [])

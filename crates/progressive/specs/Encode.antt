@@ -1,4 +1,4 @@
--- An upgrade pass over one component, written (docs/SCOPE.md, "Upgrade pass"): the bytes of both streams. The steps, and where a place's
+-- An upgrade pass over one component, written (docs/SCOPE.md, "Upgrade pass"; MS-RDPEGFX 3.2.8.1.5.2): the bytes of both streams. The steps, and where a place's
 -- value goes, are the reader's (`Upgrade`).
 use mathlib.Core.Bool.{Bool, true, false, cond, _&&_, _||_}
 use mathlib.Core.List.{List, [], _∷_, _++_}
@@ -58,7 +58,7 @@ rawDifferences (t ∷ ts) (c ∷ cs) (p ∷ ps) (s ∷ ss) =
 
 -- ════ the two streams ════
 
--- the whole SRL stream of values with these widths. "Where there is none, .. the writer gives no SRL bytes"
+-- the whole SRL stream of values with these widths. The source's `has_srl_values` is whether there is one: "where there is none, .. the writer gives no SRL bytes"
 abbrev pub srlStream : List ℕ → List ℤ → List ℕ
 srlStream ws [] = []
 srlStream ws (v ∷ vs) = pack 0 0 (streamBits 8 0 ws (v ∷ vs)) ++ (0 ∷ [])

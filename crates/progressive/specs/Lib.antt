@@ -2,5 +2,6 @@
 pub mod Upgrade
 pub mod Encode
 pub mod Dequantize
+pub mod Laws
 pub mod Walk
 pub mod Writing

@@ -1,4 +1,4 @@
--- An upgrade pass over one component, read (docs/SCOPE.md, "Upgrade pass"; MS-RDPEGFX 3.2.8.1.5.2): the coefficients and signs after it.
+-- An upgrade pass over one component, read (docs/SCOPE.md, "Upgrade pass"; MS-RDPEGFX 3.3.8.2.1.2): the coefficients and signs after it.
 -- A pass is a list of steps, one for each place. Everything below holds for every list of steps; what a slice has past them stays.
 use mathlib.Core.Bool.{Bool, true, false, cond, _&&_, _||_}
 use mathlib.Core.List.{List, [], _∷_}

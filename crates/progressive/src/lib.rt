@@ -8,6 +8,7 @@ ghost use Rattle.bands.specs.Positions.{rowInDomain};
 ghost use Rattle.progressive.specs.Upgrade.{decodeAnswer, decodeCoefficients, decodeSigns};
 ghost use Rattle.progressive.specs.Encode.{encodeAnswer, encodeSrlOut, encodeRawOut};
 ghost use Rattle.progressive.specs.Dequantize.{dequantizeAnswer, dequantizeOut};
+ghost use Rattle.progressive.specs.Laws.{PassRoundTrip};
 
 mod dequantize;
 mod span;
@@ -124,3 +125,8 @@ pub fn encode_upgrade_pass(
         raw_out,
     )
 }
+
+// What the writer wrote is read back, and where the writer's rules bring a component to its target.
+pub fn pass_round_trip()
+    ensures { λ _. ⌜ PassRoundTrip ⌝ }
+{}

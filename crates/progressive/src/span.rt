@@ -17,6 +17,6 @@ pub fn band_span(use_reduce_extrapolate: bool, b: usize) -> Span
     let from = info.offset;
     Span {
         from,
-        to: from + bands::band_count(use_reduce_extrapolate, b),
+        to: from + info.width * info.height,
     }
 }

@@ -3,6 +3,7 @@ use crate::number;
 use crate::srl_decode;
 use crate::srl_encode;
 use crate::srl_exhaustive;
+use crate::upgrade;
 
 // The size of a case; 0 for a kind whose cases differ in size, or that is not known.
 pub fn case_size(kind: u8) -> usize {
@@ -26,7 +27,7 @@ pub fn case_size(kind: u8) -> usize {
 // Whether a record of a kind is one case, whatever its size.
 pub fn is_one_case(kind: u8) -> bool {
     match kind {
-        32 | 33 | 35 => true,
+        32 | 33 | 35 | 36 | 37 | 38 => true,
         _ => false,
     }
 }
@@ -190,6 +191,9 @@ fn same(kind: u8, c: &[u8]) -> bool {
         32 => srl_decode::agrees(c),
         33 => srl_encode::agrees(c),
         34 => srl_exhaustive::agrees(c),
+        36 => upgrade::decode_agrees(c),
+        37 => upgrade::encode_agrees(c),
+        38 => upgrade::dequantize_agrees(c),
         _ => false,
     }
 }
@@ -217,7 +221,7 @@ fn wrong_case(c: &[u8]) -> bool {
     let kind = c[0];
     let from: usize = 1;
     match kind {
-        32 | 33 => !same(kind, &c[from..]),
+        32 | 33 | 36 | 37 | 38 => !same(kind, &c[from..]),
         _ => false,
     }
 }

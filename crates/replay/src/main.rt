@@ -2,12 +2,14 @@
 // compares; writes a line for each kind with the number of cases and of differences, and shows the first case of each kind that differs.
 use libc::STDIN_FILENO;
 
+mod component;
 mod kinds;
 mod number;
 mod report;
 mod srl_decode;
 mod srl_encode;
 mod srl_exhaustive;
+mod upgrade;
 
 // What the input has at the start of a record.
 enum Found {

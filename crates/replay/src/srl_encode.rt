@@ -38,7 +38,7 @@ fn pattern(i: usize) -> u8 {
     (i % 200) as u8 + 55
 }
 
-fn fill(out: &mut [u8]) {
+pub fn fill(out: &mut [u8]) {
     let mut i: usize = 0;
     while i < out.len() {
         out[i] = pattern(i);

@@ -2,14 +2,14 @@
 use crate::number;
 
 // A digest with one word more.
-fn mixed(digest: u64, word: u64) -> u64 {
+pub fn mixed(digest: u64, word: u64) -> u64 {
     let sum = std::num::wrapping_add_u64(digest, word);
     let spread = std::num::wrapping_add_u64(sum, sum << 25);
     spread ^ (spread >> 29)
 }
 
 // A digest with one value more.
-fn with_value(digest: u64, value: i16) -> u64 {
+pub fn with_value(digest: u64, value: i16) -> u64 {
     let twice = fixed::magnitude(value) as u64 * 2;
     if fixed::is_negative(value) {
         return mixed(digest, twice + 1);
@@ -18,7 +18,7 @@ fn with_value(digest: u64, value: i16) -> u64 {
 }
 
 // A digest with the first `count` values more.
-fn with_values(digest: u64, values: &[i16], count: usize) -> u64 {
+pub fn with_values(digest: u64, values: &[i16], count: usize) -> u64 {
     let mut d = digest;
     let mut i: usize = 0;
     while i < values.len() {

@@ -1,5 +1,6 @@
 -- Bench samples: what the definitions give, as tables. `samples::bench_samples` proves them.
 use mathlib.Core.Path.{_≡_}
+use mathlib.Core.Bool.{Bool, true, false, cond}
 use mathlib.Core.List.{List, [], _∷_, map}
 use Prim.Native.Nat.{ℕ}
 use lib.IntN.{ℤ, pos, negsuc}
@@ -7,6 +8,8 @@ use lib.ListN.{length, replicate}
 use Rattle.srl.specs.Srl.{values, start}
 use Rattle.srl.specs.Encode.{freshWriter}
 use Rattle.srl.specs.Laws.{streamFrom}
+use Rattle.progressive.specs.Upgrade.{Step, stepAt, upgradedCoefficients, upgradedSigns}
+use Rattle.progressive.specs.Encode.{srlDifferences, passFault}
 
 -- ════ SRL, written: one call of `encode`, then `finish` ════
 
@@ -46,6 +49,55 @@ srlRead =
 abbrev pub readAs : SrlRead → List ℤ
 readAs s = values (s .bytes) (replicate (s .count) (s .width)) start
 
+-- ════ a pass at one place, from one position to a lower one ════
+
+abbrev pub placed : Bool → ℕ → ℕ → List Step
+placed bottom from to = stepAt (cond bottom 9 0) from to ∷ []
+
+-- read, with these bytes of the raw stream and none of the other
+pub record PassRead : Type 0 where
+  pub bottom : Bool
+  pub from : ℕ
+  pub to : ℕ
+  pub raw : List ℕ
+  pub coefficient : ℤ
+  pub sign : ℤ
+  pub got : ℤ
+
+abbrev pub passRead : List PassRead
+passRead =
+    record { bottom = false; from = 3; to = 1; raw = 0xc0 ∷ []; coefficient = negsuc 7; sign = negsuc 0; got = negsuc 13 }
+    ∷ record { bottom = true; from = 3; to = 1; raw = 0xc0 ∷ []; coefficient = negsuc 7; sign = negsuc 0; got = negsuc 1 }
+    ∷ record { bottom = false; from = 3; to = 1; raw = 0xc0 ∷ []; coefficient = negsuc 32767; sign = negsuc 0; got = negsuc 32767 }
+    ∷ []
+
+abbrev pub upgradedAs : PassRead → List ℤ
+upgradedAs s = upgradedCoefficients (placed (s .bottom) (s .from) (s .to)) [] (s .raw) (s .coefficient ∷ []) (s .sign ∷ [])
+
+abbrev pub signedAs : PassRead → List ℤ
+signedAs s = upgradedSigns (placed (s .bottom) (s .from) (s .to)) [] (s .sign ∷ [])
+
+-- written, at a zero sign outside the bottom: the value for the SRL stream, and the refusal or 0
+pub record PassWritten : Type 0 where
+  pub from : ℕ
+  pub to : ℕ
+  pub coefficient : ℤ
+  pub over : ℤ
+  pub value : ℤ
+  pub refusal : ℕ
+
+abbrev pub passWritten : List PassWritten
+passWritten =
+    record { from = 3; to = 1; coefficient = pos 7; over = pos 0; value = pos 3; refusal = 0 }
+    ∷ record { from = 3; to = 1; coefficient = negsuc 6; over = pos 0; value = negsuc 3; refusal = 5 }
+    ∷ []
+
+abbrev pub valuedAs : PassWritten → List ℤ
+valuedAs s = srlDifferences (placed false (s .from) (s .to)) (s .coefficient ∷ []) (s .over ∷ []) (pos 0 ∷ [])
+
+abbrev pub refusedAs : PassWritten → ℕ
+refusedAs s = passFault (placed false (s .from) (s .to)) (s .coefficient ∷ []) (s .over ∷ []) (pos 0 ∷ [])
+
 -- ════ the statement ════
 
 pub record BenchSamples : Type 0 where
@@ -53,3 +105,7 @@ pub record BenchSamples : Type 0 where
   pub srl-read : map readAs srlRead ≡ map (λ s. s .got) srlRead
   -- an empty stream gives zeros, as many as are asked for and at every width
   pub srl-empty : (ws : List ℕ) → values [] ws start ≡ replicate (length ws) (pos 0)
+  pub pass-read : map upgradedAs passRead ≡ map (λ s. s .got ∷ []) passRead
+  pub pass-signs : map signedAs passRead ≡ map (λ s. s .sign ∷ []) passRead
+  pub pass-values : map valuedAs passWritten ≡ map (λ s. s .value ∷ []) passWritten
+  pub pass-refusals : map refusedAs passWritten ≡ map (λ s. s .refusal) passWritten

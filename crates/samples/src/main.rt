@@ -1,6 +1,8 @@
 // The bench samples: a line for each with what was asked and what came out. The tables that `bench_samples` proves come first; the other lines
 // are tried by this run alone.
 use libc::STDOUT_FILENO;
+ghost use Prim.Native.Nat.{_<_};
+ghost use lib.ListN.{length};
 ghost use Rattle.samples.specs.Samples.{BenchSamples};
 
 // What the definitions give for the samples of the tables.
@@ -133,6 +135,87 @@ fn show_read(src: &[u8], count: usize, num_bits: u8) {
     }
 }
 
+// What a call that works in place made of the value at a place.
+fn show_answer(answer: progressive::Answer, values: &[i16], place: usize)
+    requires { ⌜ place < length (now values) ⌝ }
+{
+    match answer {
+        progressive::Answer::Accepted => {
+            value(values[place]);
+            text(b"\n");
+        }
+        progressive::Answer::Refused(number) => refused(number),
+    }
+}
+
+// A pass with the raw bits 11 for its first place; every coefficient is the same, and every sign -1.
+fn show_pass(prev: [u8; 10], curr: [u8; 10], place: usize, coefficient: i16)
+    requires { ⌜ place < 4096 ⌝ }
+{
+    text(b"positions 3 to 1, raw c0, place ");
+    decimal(place as u64);
+    text(b", sign -1:");
+    value(coefficient);
+    text(b" gives");
+    let mut coefficients = [coefficient; 4096];
+    let mut sign = [-1i8; 4096];
+    let answer = progressive::decode_upgrade_pass(
+        b"",
+        b"\xc0",
+        prev,
+        curr,
+        false,
+        &mut coefficients,
+        &mut sign,
+    );
+    show_answer(answer, &coefficients, place);
+}
+
+// A pass of the first band from positions 3 to 1, written over zeros.
+fn show_upgrade(coefficient: i16) {
+    text(b"positions 3 to 1, writing");
+    value(coefficient);
+    text(b" over 0:");
+    let zeros = [0i16; 4096];
+    let mut coefficients = [0i16; 4096];
+    coefficients[0] = coefficient;
+    let prev = [3u8, 0, 0, 0, 0, 0, 0, 0, 0, 0];
+    let curr = [1u8, 0, 0, 0, 0, 0, 0, 0, 0, 0];
+    let sign = [0i8; 4096];
+    let mut srl_out = [0u8; 16];
+    let mut raw_out = [0u8; 16];
+    match progressive::encode_upgrade_pass(
+        &coefficients,
+        &zeros,
+        prev,
+        curr,
+        &sign,
+        false,
+        &mut srl_out,
+        &mut raw_out,
+    ) {
+        progressive::Written::Bytes(n, m) => {
+            some_bytes(&srl_out, n);
+            some_bytes(&raw_out, m);
+            text(b"\n");
+        }
+        progressive::Written::Refused(number) => refused(number),
+    }
+}
+
+// A component with one value, dequantized.
+fn show_dequantized(quantizer: u8, v: i16) {
+    text(b"quantizer ");
+    decimal(quantizer as u64);
+    text(b":");
+    value(v);
+    text(b" gives");
+    let mut coefficients = [0i16; 4096];
+    coefficients[0] = v;
+    let answer = progressive::dequantize_component_ccq(&mut coefficients, [quantizer; 10], false);
+    show_answer(answer, &coefficients, 0);
+}
+
 fn main() {
     bench_samples();
     show_written(&[1i16], 1);
@@ -151,4 +234,18 @@ fn main() {
     show_read(b"\xff", 2, 16);
     show_zeros(&[0i16; 4096]);
     show_zeros(&[0i16; 4097]);
+    show_pass([3; 10], [1; 10], 0, -8);
+    show_pass(
+        [0, 0, 0, 0, 0, 0, 0, 0, 0, 3],
+        [0, 0, 0, 0, 0, 0, 0, 0, 0, 1],
+        4032,
+        -8,
+    );
+    show_pass([3; 10], [1; 10], 0, -32768);
+    show_upgrade(7);
+    show_upgrade(-7);
+    show_dequantized(5, -1);
+    show_dequantized(5, 1);
+    show_dequantized(5, -3);
+    show_dequantized(7, 20000);
 }

@@ -28,7 +28,7 @@ use Rattle.srl.proofs.Values.{AlikeReader, alike, reader-trans, values-
 
 -- ════ accepted calls ════
 
-value-legal : (w z : ℕ) (v : ℤ) → valueFault w z v ≡ 0 → natAbs v < 2 ^ w
+pub value-legal : (w z : ℕ) (v : ℤ) → valueFault w z v ≡ 0 → natAbs v < 2 ^ w
 value-legal w z (pos zero) e = pow-pos w
 value-legal w z (pos (suc m)) e = omega (arith, passes m (2 ^ w - 1) 4 e)
 value-legal w z (negsuc m) e = omega (arith, passes m (2 ^ w - 1) 4 e)
@@ -47,7 +47,7 @@ calls-legal st (c ∷ cs) a =
 
 -- ════ the bits of calls are those of their values ════
 
-call-stream : (w kp z : ℕ) (vs : List ℤ) (ws : List ℕ) (us : List ℤ)
+pub call-stream : (w kp z : ℕ) (vs : List ℤ) (ws : List ℕ) (us : List ℤ)
     → streamBits kp z (replicate (length vs) w ++ ws) (vs ++ us) ≡ callBits w kp z vs ++ streamBits (callKp kp z vs) (callZeros z vs) ws us
 unfolding streamBits
 call-stream w kp z [] ws us = refl

@@ -9,8 +9,8 @@ use oracle::progressive::{
 };
 use oracle::{dwt_extrapolate, srl};
 
-use crate::random::{Number, Random, limits};
 use crate::record::{Cases, Kind, Recording};
+use oracle::random::{Number, Random, limits};
 
 const CLAMP_I16: Kind = kind(1, 4, 6);
 const CLAMP_U8: Kind = kind(2, 8, 9);

@@ -6,8 +6,9 @@ mod exhaustive;
 
 use std::io;
 
-use crate::random::Random;
+use super::{NO_ROOM, record_kind, short};
 use crate::record::{Case, Recording};
+use oracle::random::Random;
 
 /// The most values or bytes that a call of a case has room for.
 const MOST_ROOM: usize = 8192;
@@ -18,8 +19,7 @@ const MAX_KP: u8 = 80;
 /// Widths that no value can have.
 const BAD_WIDTHS: [u8; 5] = [0, 16, 17, 128, 255];
 
-/// The refusals that the port adds to those of the text: README.md has the rule.
-const NO_ROOM: u8 = 7;
+/// A refusal that the port adds to those of the text: README.md has the rule.
 const IMPOSSIBLE_STATE: u8 = 8;
 
 /// Records the cases of these kinds; the answer is cases that stand for all sorts of answers, each
@@ -29,34 +29,6 @@ pub fn record_all(recording: &mut Recording<'_>) -> io::Result<Vec<(u8, Case)>> 
     models.extend(encode::record_all(recording)?);
     exhaustive::record_all(recording)?;
     Ok(models)
-}
-
-/// Records the cases of one kind: models, directed ones, and random ones, `count` of them at scale 1.
-/// The answer is the models with the kind.
-fn record_kind(
-    recording: &mut Recording<'_>,
-    kind: u8,
-    models: Vec<Case>,
-    directed: &[Case],
-    count: u32,
-    random_case: fn(&mut Random) -> Case,
-) -> io::Result<Vec<(u8, Case)>> {
-    for case in models.iter().chain(directed) {
-        recording.record_case(kind, case)?;
-    }
-    let mut random = recording.random(kind);
-    for _ in 0..recording.scaled(count) {
-        let case = random_case(&mut random);
-        recording.record_case(kind, &case)?;
-    }
-    Ok(models.into_iter().map(|case| (kind, case)).collect())
-}
-
-/// A length or a count, as a field of 2 bytes.
-fn short(number: usize) -> [u8; 2] {
-    u16::try_from(number)
-        .expect("a length of a case fits")
-        .to_le_bytes()
 }
 
 /// A number of the machine's size, as a field of 8 bytes.

@@ -2,16 +2,27 @@
 use mathlib.Core.Path.{refl}
 use mathlib.Core.List.{[]}
 use native.Mathlib.Omega.{arith}
-use Rattle.bits.specs.Bits.{num, zeros}
+use Rattle.fixed.specs.Fixed.{clampI16, addScaled, subScaled, isZero, isOne}
+use Rattle.bits.specs.Bits.{num, numbers, zeros}
 use Rattle.srl.specs.Srl.{values}
 use Rattle.srl.proofs.Due.{values-past}
+use Rattle.progressive.specs.Upgrade.{srlWidths, rawWidths, signsAfter, coefficientsAfter}
+use Rattle.progressive.specs.Encode.{srlDifferences, valuesFault}
 use Rattle.samples.specs.Samples.{BenchSamples}
 use Rattle.samples.proofs.bench_samples.Statement.{statement}
 use Rattle.samples.proofs.bench_samples.Tie as tie
 
 samples : BenchSamples
-unfolding values num zeros
-samples = record { srl-written = refl; srl-read = refl; srl-empty = λ ws. values-past [] 0 8 0 ws (omega arith) }
+unfolding values num zeros numbers clampI16 addScaled subScaled isZero isOne srlWidths rawWidths signsAfter coefficientsAfter srlDifferences valuesFault
+samples = record {
+  srl-written = refl;
+  srl-read = refl;
+  srl-empty = λ ws. values-past [] 0 8 0 ws (omega arith);
+  pass-read = refl;
+  pass-signs = refl;
+  pass-values = refl;
+  pass-refusals = refl;
+}
 
 returns : tie.Need-returns
 returns c = samples

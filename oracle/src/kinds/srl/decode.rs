@@ -9,8 +9,8 @@ use super::{
     BAD_WIDTHS, IMPOSSIBLE_STATE, MAX_KP, MOST_ROOM, NO_ROOM, long, random_width, record_kind,
     short,
 };
-use crate::random::Random;
 use crate::record::{Case, Recording};
+use oracle::random::Random;
 
 const SRL_DECODE: u8 = 32;
 
@@ -476,7 +476,7 @@ fn random_state(random: &mut Random, length: usize) -> DecoderState {
     }
     let state = DecoderState {
         byte_idx: match random.below(16) {
-            0 => random.next() as usize,
+            0 => random.word() as usize,
             _ => random.within(0..=length + 1),
         },
         bit_idx: random.below(8),

@@ -9,8 +9,9 @@ use super::{
     BAD_WIDTHS, IMPOSSIBLE_STATE, MAX_KP, MOST_ROOM, NO_ROOM, long, random_width, record_kind,
     short,
 };
-use crate::random::Random;
+use crate::kinds::room::Room;
 use crate::record::{Case, Recording};
+use oracle::random::Random;
 
 const SRL_ENCODE: u8 = 33;
 
@@ -24,32 +25,6 @@ const START: EncoderState = EncoderState {
     current: 0,
     bit_count: 0,
 };
-
-/// How much room a call's output has.
-#[derive(Clone, Copy)]
-enum Room {
-    /// As much as the answer takes.
-    Exact,
-    /// One byte less; none where the answer takes none.
-    Short,
-    /// Some bytes more.
-    Over(usize),
-    /// So many bytes.
-    Of(usize),
-}
-
-impl Room {
-    /// The room in bytes, where the answer takes `needed`; never more than the output of a case.
-    fn bytes(self, needed: usize) -> usize {
-        let bytes = match self {
-            Self::Exact => needed,
-            Self::Short => needed.saturating_sub(1),
-            Self::Over(more) => needed + more,
-            Self::Of(bytes) => bytes,
-        };
-        bytes.min(MOST_ROOM)
-    }
-}
 
 /// What is asked in one call of `encode`.
 #[derive(Clone)]
@@ -99,7 +74,7 @@ fn case(start: EncoderState, calls: &[Call], end: Room) -> Case {
     let mut state = start;
     for call in calls {
         let (number, bytes, after) = encoded(state, call);
-        let room = call.room.bytes(bytes.len());
+        let room = call.room.bytes(bytes.len(), MOST_ROOM);
         case.given(&[call.num_bits]);
         case.given(&short(room));
         case.given(&short(call.values.len()));
@@ -109,7 +84,7 @@ fn case(start: EncoderState, calls: &[Call], end: Room) -> Case {
         state = answer(&mut case, number, &bytes, room, (state, after), true);
     }
     let (number, bytes) = finished(state);
-    let room = end.bytes(bytes.len());
+    let room = end.bytes(bytes.len(), MOST_ROOM);
     case.given(&short(room));
     answer(&mut case, number, &bytes, room, (state, state), false);
     case
@@ -430,7 +405,7 @@ fn random_case(random: &mut Random) -> Case {
     let start = random_state(random);
     let count = random.within(1..=6);
     let calls: Vec<Call> = (0..count).map(|_| random_call(random)).collect();
-    let end = random_room(random);
+    let end = Room::random(random);
     case(start, &calls, end)
 }
 
@@ -485,7 +460,7 @@ fn random_call(random: &mut Random) -> Call {
     Call {
         values,
         num_bits,
-        room: random_room(random),
+        room: Room::random(random),
     }
 }
 
@@ -503,15 +478,5 @@ fn random_value(random: &mut Random, width: u8) -> i16 {
         0 => magnitude.min(32767) as i16,
         1 => -(magnitude as i32) as i16,
         _ => 0,
-    }
-}
-
-/// Exactly full in half of the calls.
-fn random_room(random: &mut Random) -> Room {
-    match random.below(8) {
-        0 => Room::Short,
-        1 => Room::Of(random.within(0..=3)),
-        2 | 3 => Room::Over(random.within(1..=9)),
-        _ => Room::Exact,
     }
 }

@@ -5,6 +5,7 @@ use std::io;
 use oracle::srl::SrlDecoder;
 use oracle::srl::reach;
 
+use crate::digest::{mixed, with_values};
 use crate::record::{Kind, Recording};
 
 const SRL_EXHAUSTIVE: Kind = Kind {
@@ -41,10 +42,7 @@ fn digest(begin: &[u8], width: u8, count: u8) -> u64 {
         let values = decoder
             .decode(usize::from(count), width)
             .expect("the width is one the decoder takes");
-        for value in values {
-            let word = u64::from(value.unsigned_abs()) * 2 + u64::from(value < 0);
-            digest = mixed(digest, word);
-        }
+        digest = with_values(digest, values);
         let state = reach::decoder_state(&decoder);
         digest = mixed(digest, state.byte_idx as u64);
         digest = mixed(digest, u64::from(state.bit_idx));
@@ -53,12 +51,4 @@ fn digest(begin: &[u8], width: u8, count: u8) -> u64 {
         digest = mixed(digest, u64::from(state.nonzero_pending));
     }
     digest
-}
-
-/// The digest with one word more. Two digests or two words that differ stay so: each of the three
-/// steps can be undone.
-fn mixed(digest: u64, word: u64) -> u64 {
-    let sum = digest.wrapping_add(word);
-    let spread = sum.wrapping_add(sum << 25);
-    spread ^ (spread >> 29)
 }

@@ -1,0 +1,292 @@
+-- The round trip of a pass: what was written is read back, and what that makes of each place.
+use mathlib.Core.Path.{_≡_, refl, sym, ap, ap₂, _∙_, subst}
+use mathlib.Core.Bool.{Bool, true, false, cond, _&&_, true≢false}
+use mathlib.Core.List.{List, [], _∷_, _++_, append-nil}
+use Prim.Native.Nat.{ℕ, zero, suc, _+_, _-_, _*_, _/_, _^_, _≤_, _<_}
+use native.Mathlib.Nat.{zero-div, div-le-self, div-mul-le-self, div-lt-iff-lt-mul, le-div-iff-mul-le, mul-le-mul-right, add-mul}
+use native.Mathlib.Omega.{arith}
+use borrow.Author.Tests.{le-ltb, leb-true}
+use lib.IntN.{ℤ, pos, negsuc, negℤ, natAbs, _+ℤ_, _-ℤ_, _*ℤ_, +ℤ-idl, +ℤ-idr, negℤ-+ℤ}
+use lib.ListN.{length}
+use lib.Pow.{pow-pos, pow-add}
+use lib.Signed.{mag}
+use Rattle.fixed.specs.Fixed.{clampI16, floorShift, isNegative, isZero, signOf, addScaled, subScaled, withSign}
+use Rattle.fixed.proofs.Clamp.{clamp-same}
+use Rattle.fixed.proofs.Sign.{with-minus}
+use Rattle.bands.specs.Positions.{rowInDomain}
+use Rattle.bands.proofs.Every.{both-true}
+use Rattle.bands.proofs.Spread.{place-whole}
+use Rattle.bits.specs.Bits.{num, numbers}
+use Rattle.bits.specs.Written.{bitsOf, bitsOfAll, pack}
+use Rattle.bits.proofs.Holds.{Holds, holds-append, num-holds, pack-holds}
+use Rattle.bits.proofs.Puts.{length-bitsOf}
+use Rattle.srl.specs.Srl.{start, values}
+use Rattle.srl.specs.Encode.{valueZeros, valueFault, firstOf}
+use Rattle.srl.specs.Finish.{streamBits}
+use Rattle.srl.specs.Laws.{Legal, legal}
+use Rattle.srl.proofs.Back.{value-legal}
+use Rattle.srl.proofs.EncodedValues.{first-none}
+use Rattle.srl.proofs.Trip.{stream-values}
+use Rattle.progressive.specs.Upgrade.{Step, Source, skipped, srl, raw, source, sourceOf, steps, stepOf, srlWidth, srlWidths, rawWidth, rawWidths, srlCoefficient, srlSign, adds, rawCoefficient, signThen, signsAfter, coefficientThen, coefficientsAfter, srlValues, rawNumbers, longEnough, decodeCoefficients, decodeSigns}
+use Rattle.progressive.specs.Encode.{srlDifference, rawDifference, srlGiven, srlDifferences, rawGiven, rawDifferences, srlStream, srlBytes, rawBytes, valuesFault, passFault, noRoomFor, encodeRefusal}
+use Rattle.progressive.specs.Laws.{Small, small, Sent, downward, towardZero, cut, cuts, cutSign, cutSigns, Onward, Regained, Regains, regained, PassRoundTrip}
+
+-- ════ a place with an SRL value ════
+
+floor-small : (q : ℕ) (c : ℤ) → mag c < 32768 → mag (floorShift c q) < 32768
+floor-small q (pos n) h = omega (arith, div-le-self n (2 ^ q))
+floor-small q (negsuc n) h = omega (arith, div-le-self n (2 ^ q))
+
+-- over 0 the writer's value is the coefficient, shifted down
+over-zero : (q : ℕ) (c : ℤ) → mag c < 32768 → srlDifference q c (pos 0) ≡ floorShift c q
+over-zero q c h =
+    let z = floorShift c q in
+    ap (λ (k : ℕ). clampI16 (z +ℤ negℤ (pos k))) (zero-div (2 ^ q)) ∙ ap clampI16 (+ℤ-idr z) ∙ sym (clamp-same z (floor-small q c h))
+
+-- sums that stay within sixteen bits
+up : (n : ℕ) → n ≤ 32767 → clampI16 (pos n) ≡ pos n
+up n h = sym (clamp-same (pos n) (omega arith))
+
+down : (n : ℕ) → n ≤ 32768 → clampI16 (negℤ (pos n)) ≡ negℤ (pos n)
+down zero h = sym (clamp-same (pos 0) (omega arith))
+down (suc n) h = sym (clamp-same (negsuc n) (omega arith))
+
+up-from-zero : (q m : ℕ) → m * 2 ^ q ≤ 32767 → srlCoefficient q (pos m) (pos 0) ≡ pos (m * 2 ^ q)
+unfolding addScaled
+up-from-zero q zero h = ap pos {x = 0} {y = 0 * 2 ^ q} (omega arith)
+up-from-zero q (suc m) h = ap clampI16 (+ℤ-idl (pos (suc m * 2 ^ q))) ∙ up (suc m * 2 ^ q) h
+
+-- rounded down, no coefficient leaves the range
+floor-room : (q n : ℕ) → q ≤ 15 → n < 32768 → suc (n / 2 ^ q) * 2 ^ q ≤ 32768
+floor-room q n l h =
+    let y = 2 ^ (15 - q) in
+    let sum : 15 - q + q ≡ 15 = omega arith in
+    let whole : y * 2 ^ q ≡ 32768 = sym (pow-add 2 (15 - q) q) ∙ ap (λ (k : ℕ). 2 ^ k) sum in
+    let less : n / 2 ^ q < y = div-lt-iff-lt-mul {k = 2 ^ q} {x = n} {y = y} (pow-pos q) .1 (omega (arith, whole)) in
+    omega (arith, whole, mul-le-mul-right {m = suc (n / 2 ^ q)} {n = y} (2 ^ q) (omega (arith, less)))
+
+srl-cut : (q : ℕ) (c : ℤ) → q ≤ 15 → mag c < 32768 → srlCoefficient q (floorShift c q) (pos 0) ≡ downward q c
+unfolding subScaled
+srl-cut q (pos n) l h = up-from-zero q (n / 2 ^ q) (omega (arith, div-mul-le-self n (2 ^ q)))
+srl-cut q (negsuc n) l h = ap clampI16 (with-minus (suc (n / 2 ^ q) * 2 ^ q) true refl) ∙ down (suc (n / 2 ^ q) * 2 ^ q) (floor-room q n l h)
+
+-- ════ a place with raw bits ════
+
+neg-minus : (a b : ℕ) → negℤ (pos a) -ℤ pos b ≡ negℤ (pos (a + b))
+neg-minus a b = sym (negℤ-+ℤ (pos a) (pos b))
+
+-- what is added to the previous magnitude brings the target's
+gained : (q far near : ℕ) → near ≤ far → near / 2 ^ q * 2 ^ q ≡ near → near + (far / 2 ^ q - near / 2 ^ q) * 2 ^ q ≡ far / 2 ^ q * 2 ^ q
+gained q far near l e =
+    let a = near / 2 ^ q in
+    let b = far / 2 ^ q in
+    let more : a ≤ b = le-div-iff-mul-le {k = 2 ^ q} {x = a} {y = far} (pow-pos q) .1 (omega (arith, e)) in
+    let sum : b ≡ a + (b - a) = omega (arith, more) in
+    sym (ap (λ (k : ℕ). k * 2 ^ q) sum ∙ add-mul a (b - a) (2 ^ q) ∙ ap (λ (k : ℕ). k + (b - a) * 2 ^ q) e)
+
+abs-neg : (n : ℕ) → natAbs (negℤ (pos n)) ≡ n
+abs-neg zero = refl
+abs-neg (suc n) = refl
+
+toward-pos : (q n : ℕ) → towardZero q (pos n) ≡ pos (n / 2 ^ q * 2 ^ q)
+toward-pos q n = ap (λ (b : Bool). withSign b (n / 2 ^ q * 2 ^ q)) (le-ltb n 0 (omega arith))
+
+raw-up : (q far near : ℕ) → far < 32768 → near ≤ far → near / 2 ^ q * 2 ^ q ≡ near → addScaled (pos near) (far / 2 ^ q - near / 2 ^ q) q ≡ pos (far / 2 ^ q * 2 ^ q)
+unfolding addScaled
+raw-up q far near h l e =
+    ap (λ (n : ℕ). clampI16 (pos n)) (gained q far near l e)
+    ∙ up (far / 2 ^ q * 2 ^ q) (omega (arith, div-mul-le-self far (2 ^ q)))
+
+raw-down : (q far near : ℕ) → far ≤ 32768 → near ≤ far → near / 2 ^ q * 2 ^ q ≡ near → subScaled (negℤ (pos near)) (far / 2 ^ q - near / 2 ^ q) q ≡ negℤ (pos (far / 2 ^ q * 2 ^ q))
+unfolding subScaled
+raw-down q far near h l e =
+    ap clampI16 (neg-minus near ((far / 2 ^ q - near / 2 ^ q) * 2 ^ q) ∙ ap (λ (n : ℕ). negℤ (pos n)) (gained q far near l e))
+    ∙ down (far / 2 ^ q * 2 ^ q) (omega (arith, div-mul-le-self far (2 ^ q)))
+
+toward-neg : (q far : ℕ) → towardZero q (negℤ (pos far)) ≡ negℤ (pos (far / 2 ^ q * 2 ^ q))
+toward-neg q zero =
+    let none : 0 / 2 ^ q * 2 ^ q ≡ 0 = ap (λ (k : ℕ). k * 2 ^ q) (zero-div (2 ^ q)) ∙ omega arith in
+    ap pos none ∙ sym (ap (λ (n : ℕ). negℤ (pos n)) none)
+toward-neg q (suc n) = refl
+
+neg-range : (n : ℕ) → mag (negℤ (pos n)) < 32768 → n ≤ 32768
+neg-range zero h = omega arith
+neg-range (suc n) h = omega arith
+
+raw-cut : (b : Bool) (q : ℕ) (c p : ℤ) → Onward b q c p → rawCoefficient b q (rawDifference q c p) p ≡ towardZero q c
+raw-cut true q c p o =
+    ap₂ (λ (c p : ℤ). rawCoefficient true q (rawDifference q c p) p) (o .goal) (o .from)
+    ∙ raw-up q (o .far) (o .near) (subst (λ (c : ℤ). mag c < 32768) (o .goal) (o .range)) (o .further) (o .clean)
+    ∙ sym (ap (towardZero q) (o .goal) ∙ toward-pos q (o .far))
+raw-cut false q c p o =
+    ap₂ (λ (c p : ℤ). rawCoefficient false q (rawDifference q c p) p) (o .goal) (o .from)
+    ∙ ap₂ (λ (a b : ℕ). subScaled (negℤ (pos (o .near))) (a / 2 ^ q - b / 2 ^ q) q) (abs-neg (o .far)) (abs-neg (o .near))
+    ∙ raw-down q (o .far) (o .near) (neg-range (o .far) (subst (λ (c : ℤ). mag c < 32768) (o .goal) (o .range))) (o .further) (o .clean)
+    ∙ sym (ap (towardZero q) (o .goal) ∙ toward-neg q (o .far))
+
+-- ════ the values and numbers that were written are read back ════
+
+-- a value and a width for each other
+same-count : (ts : List Step) (cs ps ss : List ℤ) → length ts ≤ length cs → length ts ≤ length ps → length ts ≤ length ss
+    → length (srlDifferences ts cs ps ss) ≡ length (srlWidths ts ss)
+unfolding srlDifferences srlWidths
+same-count [] cs ps ss a b d = refl
+same-count (t ∷ ts) [] ps ss a b d = absurd (omega arith)
+same-count (t ∷ ts) (c ∷ cs) [] ss a b d = absurd (omega arith)
+same-count (t ∷ ts) (c ∷ cs) (p ∷ ps) [] a b d = absurd (omega arith)
+same-count (t ∷ ts) (c ∷ cs) (p ∷ ps) (s ∷ ss) a b d = by (source t s) (same-count ts cs ps ss (omega arith) (omega arith) (omega arith))
+  where
+    v : ℤ
+    v = srlDifference (t .position) c p
+
+    by : (o : Source) → length (srlDifferences ts cs ps ss) ≡ length (srlWidths ts ss)
+        → length (srlGiven o v (srlDifferences ts cs ps ss)) ≡ length (srlWidth o (t .width) (srlWidths ts ss))
+    by skipped e = e
+    by srl e = ap suc e
+    by raw e = e
+
+all-legal : (z : ℕ) (ws : List ℕ) (vs : List ℤ) → length vs ≡ length ws → valuesFault z ws vs ≡ 0 → Legal ws vs
+unfolding valuesFault
+all-legal z [] [] l e = Legal.none
+all-legal z [] (v ∷ vs) l e = absurd (omega (arith, l))
+all-legal z (w ∷ ws) [] l e = absurd (omega (arith, l))
+all-legal z (w ∷ ws) (v ∷ vs) l e =
+    let f = first-none (valueFault w z v) (valuesFault (valueZeros z v) ws vs) e in
+    legal (value-legal w z v (f .0)) (all-legal (valueZeros z v) ws vs (omega (arith, l)) (f .1))
+
+read-values : (ws : List ℕ) (vs : List ℤ) → Legal ws vs → values (srlStream ws vs) ws start ≡ vs
+unfolding values
+read-values [] [] l = refl
+read-values ws (v ∷ vs) l =
+    let bits = streamBits 8 0 ws (v ∷ vs) in
+    let s = pack 0 0 bits ++ (0 ∷ []) in
+    stream-values l s (pack-holds bits s 0 0 0 (0 ∷ []) (omega arith) refl)
+
+read-numbers : {ws ms : List ℕ} → Small ws ms → (s : List ℕ) (n : ℕ) → Holds s n (bitsOfAll ws ms) → numbers s ws n ≡ ms
+unfolding numbers bitsOfAll
+read-numbers Small.none s n h = refl
+read-numbers (small {w = w} {m = m} {ws = ws} {ms = ms} l ls) s n h =
+    let r = holds-append s n (bitsOf w m) (bitsOfAll ws ms) h in
+    ap₂ (λ (x : ℕ) (xs : List ℕ). x ∷ xs) (num-holds s n w m l (r .0))
+    (read-numbers ls s (n + w) (subst (λ (k : ℕ). Holds s (n + k) (bitsOfAll ws ms)) (length-bitsOf w m) (r .1)))
+
+values-back : (ts : List Step) (cs ps ss : List ℤ) → Sent ts cs ps ss → srlValues ts (srlBytes ts cs ps ss) ss ≡ srlDifferences ts cs ps ss
+values-back ts cs ps ss h =
+    let same = same-count ts cs ps ss (h .coefficients-long) (h .previous-long) (h .signs-long) in
+    read-values (srlWidths ts ss) (srlDifferences ts cs ps ss) (all-legal 0 (srlWidths ts ss) (srlDifferences ts cs ps ss) same (h .srl-fits))
+
+numbers-back : (ts : List Step) (cs ps ss : List ℤ) → Sent ts cs ps ss → rawNumbers ts (rawBytes ts cs ps ss) ss ≡ rawDifferences ts cs ps ss
+numbers-back ts cs ps ss h =
+    let bits = bitsOfAll (rawWidths ts ss) (rawDifferences ts cs ps ss) in
+    read-numbers (h .raw-fits) (pack 0 0 bits) 0 (pack-holds bits (pack 0 0 bits) 0 0 0 [] (omega arith) (sym (append-nil (pack 0 0 bits))))
+
+-- ════ all places ════
+
+place-cut : (o : Source) (t : Step) (c p s : ℤ) (vs : List ℤ) (ms : List ℕ) (rest : List ℤ → List ℕ → List ℤ) (l : List ℤ) → Regained o t c p s → rest vs ms ≡ l
+    → coefficientThen o t p s (srlGiven o (srlDifference (t .position) c p) vs) (rawGiven o (rawDifference (t .position) c p) ms) rest ≡ cut o (t .position) c p ∷ l
+place-cut skipped t c p s vs ms rest l r e = ap (λ (k : List ℤ). p ∷ k) e
+place-cut srl t c p s vs ms rest l r e =
+    let q = t .position in
+    let v : srlCoefficient q (srlDifference q c p) p ≡ downward q c =
+    ap (λ (p : ℤ). srlCoefficient q (srlDifference q c p) p) (r .0) ∙ ap (λ (v : ℤ). srlCoefficient q v (pos 0)) (over-zero q c (r .1)) ∙ srl-cut q c (r .2) (r .1) in
+    ap₂ (λ (x : ℤ) (k : List ℤ). x ∷ k) v e
+place-cut raw t c p s vs ms rest l r e = ap₂ (λ (x : ℤ) (k : List ℤ). x ∷ k) (raw-cut (adds t s) (t .position) c p r) e
+
+all-cut : {ts : List Step} {cs ps ss : List ℤ} → Regains ts cs ps ss → coefficientsAfter ts ps ss (srlDifferences ts cs ps ss) (rawDifferences ts cs ps ss) ≡ cuts ts cs ps ss
+unfolding coefficientsAfter srlDifferences rawDifferences cuts
+all-cut Regains.none = refl
+all-cut (regained {t = t} {c = c} {p = p} {s = s} {ts = ts} {cs = cs} {ps = ps} {ss = ss} r rs) =
+    place-cut (source t s) t c p s (srlDifferences ts cs ps ss) (rawDifferences ts cs ps ss) (coefficientsAfter ts ps ss) (cuts ts cs ps ss) r (all-cut rs)
+
+-- a place that has an SRL value has sign 0
+abbrev IsSrl : Source → Type 0
+IsSrl skipped = ⊥
+IsSrl srl = Unit {0}
+IsSrl raw = ⊥
+
+srl-zero : (b : Bool) (w : ℕ) (z : Bool) → IsSrl (sourceOf b w z) → z ≡ true
+srl-zero b zero z e = absurd e
+srl-zero true (suc w) z e = absurd e
+srl-zero false (suc w) true e = refl
+srl-zero false (suc w) false e = absurd e
+
+-- and a value that is not 0 sets it
+sign-cut : (v s : ℤ) → isZero s ≡ true → srlSign v s ≡ signOf v
+unfolding isZero signOf
+sign-cut v (pos (suc n)) e = absurd (true≢false (sym e))
+sign-cut v (negsuc n) e = absurd (true≢false (sym e))
+sign-cut (pos zero) (pos zero) e = refl
+sign-cut (pos (suc m)) (pos zero) e = refl
+sign-cut (negsuc m) (pos zero) e = refl
+
+place-sign : (o : Source) (t : Step) (c p s : ℤ) (vs : List ℤ) (rest : List ℤ → List ℤ) (l : List ℤ) → source t s ≡ o → Regained o t c p s → rest vs ≡ l
+    → signThen o s (srlGiven o (srlDifference (t .position) c p) vs) rest ≡ cutSign o (t .position) c s ∷ l
+place-sign skipped t c p s vs rest l h r e = ap (λ (k : List ℤ). s ∷ k) e
+place-sign srl t c p s vs rest l h r e =
+    let q = t .position in
+    let v : srlSign (srlDifference q c p) s ≡ signOf (floorShift c q) =
+    ap (λ (v : ℤ). srlSign v s) (ap (srlDifference q c) (r .0) ∙ over-zero q c (r .1)) ∙ sign-cut (floorShift c q) s (srl-zero (t .bottom) (t .width) (isZero s) (subst IsSrl (sym h) tt)) in
+    ap₂ (λ (x : ℤ) (k : List ℤ). x ∷ k) v e
+place-sign raw t c p s vs rest l h r e = ap (λ (k : List ℤ). s ∷ k) e
+
+all-signs : {ts : List Step} {cs ps ss : List ℤ} → Regains ts cs ps ss → signsAfter ts ss (srlDifferences ts cs ps ss) ≡ cutSigns ts cs ss
+unfolding signsAfter srlDifferences cutSigns
+all-signs Regains.none = refl
+all-signs (regained {t = t} {c = c} {p = p} {s = s} {ts = ts} {cs = cs} {ps = ps} {ss = ss} r rs) =
+    place-sign (source t s) t c p s (srlDifferences ts cs ps ss) (signsAfter ts ss) (cutSigns ts cs ss) refl r (all-signs rs)
+
+-- ════ the law ════
+
+module _ (ts : List Step) (cs ps ss : List ℤ) (h : Sent ts cs ps ss) (r : Regains ts cs ps ss) where
+  coefficients-back : coefficientsAfter ts ps ss (srlValues ts (srlBytes ts cs ps ss) ss) (rawNumbers ts (rawBytes ts cs ps ss) ss) ≡ cuts ts cs ps ss
+  coefficients-back = ap₂ (coefficientsAfter ts ps ss) (values-back ts cs ps ss h) (numbers-back ts cs ps ss h) ∙ all-cut r
+
+  signs-back : signsAfter ts ss (srlValues ts (srlBytes ts cs ps ss) ss) ≡ cutSigns ts cs ss
+  signs-back = ap (signsAfter ts ss) (values-back ts cs ps ss h) ∙ all-signs r
+
+-- what an accepted call of the writer says of its arguments
+record Taken (cs ps ss : List ℤ) (prev curr : List ℕ) (e : Bool) : Type 0 where
+  pub coefficients-long : longEnough cs ≡ true
+  pub previous-long : longEnough ps ≡ true
+  pub signs-long : longEnough ss ≡ true
+  pub rows : (rowInDomain prev && rowInDomain curr) ≡ true
+  pub no-fault : passFault (steps e prev curr) cs ps ss ≡ 0
+
+taken : (cs ps ss : List ℤ) (prev curr : List ℕ) (e : Bool) (srlOut rawOut : List ℕ) → encodeRefusal cs ps prev curr ss e srlOut rawOut ≡ 0 → Taken cs ps ss prev curr e
+taken cs ps ss prev curr e srlOut rawOut = by (longEnough cs && (longEnough ps && longEnough ss)) refl (rowInDomain prev && rowInDomain curr) refl
+  where
+    rest : ℕ
+    rest = noRoomFor (srlBytes (steps e prev curr) cs ps ss) srlOut (rawBytes (steps e prev curr) cs ps ss) rawOut
+
+    by : (a : Bool) → (longEnough cs && (longEnough ps && longEnough ss)) ≡ a → (b : Bool) → (rowInDomain prev && rowInDomain curr) ≡ b
+        → cond a (cond b (firstOf (passFault (steps e prev curr) cs ps ss) rest) 2) 1 ≡ 0 → Taken cs ps ss prev curr e
+    by true la true lb k =
+        let one = both-true (longEnough cs) (longEnough ps && longEnough ss) la in
+        let two = both-true (longEnough ps) (longEnough ss) (one .1) in
+        record { coefficients-long = one .0; previous-long = two .0; signs-long = two .1; rows = lb; no-fault = first-none (passFault (steps e prev curr) cs ps ss) rest k .0 }
+    by true la false lb k = absurd (omega (arith, k))
+    by false la b lb k = absurd (omega (arith, k))
+
+long : {A : Type 0} (e : Bool) (prev curr : List ℕ) (l : List A) → longEnough l ≡ true → length (steps e prev curr) ≤ length l
+long e prev curr l h = omega (arith, leb-true 4096 (length l) h, place-whole e (stepOf prev curr))
+
+calls-back : (cs ps ss : List ℤ) (prev curr : List ℕ) (e : Bool) (srlOut rawOut : List ℕ)
+    → encodeRefusal cs ps prev curr ss e srlOut rawOut ≡ 0
+    → Small (rawWidths (steps e prev curr) ss) (rawDifferences (steps e prev curr) cs ps ss)
+    → Regains (steps e prev curr) cs ps ss
+    → (decodeCoefficients (srlBytes (steps e prev curr) cs ps ss) (rawBytes (steps e prev curr) cs ps ss) prev curr e ps ss ≡ cuts (steps e prev curr) cs ps ss)
+    × (decodeSigns (srlBytes (steps e prev curr) cs ps ss) prev curr e ps ss ≡ cutSigns (steps e prev curr) cs ss)
+calls-back cs ps ss prev curr e srlOut rawOut k m r =
+    let t = taken cs ps ss prev curr e srlOut rawOut k in
+    let sent : Sent (steps e prev curr) cs ps ss =
+    record {
+      coefficients-long = long e prev curr cs (t .coefficients-long);
+      previous-long = long e prev curr ps (t .previous-long);
+      signs-long = long e prev curr ss (t .signs-long);
+      srl-fits = t .no-fault;
+      raw-fits = m;
+    } in
+    (simp (t .previous-long, t .signs-long, t .rows) (coefficients-back (steps e prev curr) cs ps ss sent r), simp (t .previous-long, t .signs-long, t .rows) (signs-back (steps e prev curr) cs ps ss sent r))
+
+pub pass-round-trip : PassRoundTrip
+pass-round-trip = record { values = values-back; numbers = numbers-back; coefficients = coefficients-back; signs = signs-back; calls = calls-back }

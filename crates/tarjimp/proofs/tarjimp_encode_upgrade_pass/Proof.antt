@@ -1,0 +1,15 @@
+-- `tarjimp::tarjimp_encode_upgrade_pass` meets its contract: that of `progressive::encode_upgrade_pass`, with the answer as numbers. Assumes nothing.
+use mathlib.Core.Path.{_∙_, ap, ap₂}
+use mathlib.Core.List.{_∷_, []}
+use borrow.Author.Needs.{needs}
+use Rattle.progressive.specs.Encode.{writtenNumber, srlCount, rawCount}
+use Rattle.tarjimp.proofs.tarjimp_encode_upgrade_pass.Statement.{statement}
+use Rattle.tarjimp.proofs.tarjimp_encode_upgrade_pass.Tie as tie
+
+returns : tie.Need-returns
+returns c =
+    let e = c .before .before .before .before .before .before .before .before .encode-upgrade-pass .ensures in
+    (c .written-number .ensures ∙ ap writtenNumber (e .0), ap₂ (λ n m. n ∷ m ∷ []) (c .before .before .before .srl-count .ensures ∙ ap srlCount (e .0)) (c .before .before .raw-count .ensures ∙ ap rawCount (e .0)), e .1, e .2)
+
+pub tarjimp-encode-upgrade-pass-spec : {M : Type 1} → statement M
+tarjimp-encode-upgrade-pass-spec = tie.close (tie.spec (λ c κs. search needs) (λ c κs. search needs) (λ c κs. search needs) (λ c κs. search needs) (λ c. search needs) (λ c. search needs) returns)

@@ -1,0 +1,105 @@
+//! What is timed: components of three sorts, and a pass over them. README.md has the rule.
+
+use oracle::codecs::rfx::progressive::ComponentCodecQuant;
+use oracle::progressive::{self, COEFFICIENTS_PER_COMPONENT};
+use oracle::random::Random;
+
+/// A number for each band, in band order.
+pub type Row = [u8; 10];
+
+/// The layout that viewers use.
+pub const USE_REDUCE_EXTRAPOLATE: bool = true;
+
+/// The positions before the pass and after it.
+pub const PREV: Row = [3; 10];
+pub const CURR: Row = [2; 10];
+
+/// Quantizers on both sides of 6.
+pub const QUANT: Row = [8, 8, 9, 7, 7, 8, 6, 6, 7, 5];
+
+/// Of 1000 coefficients, how many are known before the pass and how many it brings.
+#[derive(Clone, Copy)]
+pub struct Sort {
+    pub name: &'static str,
+    pub known: u64,
+    pub new: u64,
+}
+
+pub const SORTS: [Sort; 3] = [
+    Sort {
+        name: "sparse",
+        known: 20,
+        new: 10,
+    },
+    Sort {
+        name: "typical",
+        known: 200,
+        new: 50,
+    },
+    Sort {
+        name: "dense",
+        known: 700,
+        new: 150,
+    },
+];
+
+/// A component before the pass, what it is to become, and the pass as the text writes it.
+pub struct Input {
+    pub target: Vec<i16>,
+    pub before: Vec<i16>,
+    pub sign: Vec<i8>,
+    pub srl: Vec<u8>,
+    pub raw: Vec<u8>,
+}
+
+/// Several components of a sort, so that no side learns one by heart.
+pub fn inputs(sort: Sort) -> Vec<Input> {
+    let mut random = Random::new(1, sort.known as u8);
+    (0..16).map(|_| input(&mut random, sort)).collect()
+}
+
+fn input(random: &mut Random, sort: Sort) -> Input {
+    let target: Vec<i16> = (0..COEFFICIENTS_PER_COMPONENT)
+        .map(|_| coefficient(random, sort))
+        .collect();
+    let shift = PREV[0];
+    let before: Vec<i16> = target
+        .iter()
+        .map(|&target| target.signum() * (target.abs() >> shift << shift))
+        .collect();
+    let sign: Vec<i8> = before.iter().map(|before| before.signum() as i8).collect();
+    let (srl, raw) = progressive::encode_upgrade_pass(
+        &target,
+        &before,
+        &ComponentCodecQuant::of_bands(PREV),
+        &ComponentCodecQuant::of_bands(CURR),
+        &sign,
+        USE_REDUCE_EXTRAPOLATE,
+    )
+    .expect("every value has its width");
+    Input {
+        target,
+        before,
+        sign,
+        srl,
+        raw,
+    }
+}
+
+/// A multiple of 4: at least 8 if it is known before the pass, 4 if the pass brings it.
+fn coefficient(random: &mut Random, sort: Sort) -> i16 {
+    let choice = random.word() % 1000;
+    let magnitude = if choice < sort.known {
+        let bits = 3 + random.below(6);
+        (1i16 << bits) + (random.below(1 << (bits - 2).min(7)) as i16) * 4
+    } else if choice < sort.known + sort.new {
+        4
+    } else {
+        0
+    };
+    if random.one_in(2) {
+        magnitude
+    } else {
+        -magnitude
+    }
+}

@@ -1,0 +1,202 @@
+//! Components of a case: what a seed and a shape give. Whoever replays makes the same ones; README.md
+//! has the rule.
+
+use oracle::codecs::rfx::progressive::ComponentCodecQuant;
+use oracle::progressive::reach;
+
+use crate::kinds::short;
+
+/// A number for each band, in band order.
+pub type Row = [u8; 10];
+
+/// How many places are made: those of a component, and some behind them.
+pub const PLACES: usize = 4352;
+
+/// The coefficients before the pass.
+#[derive(Clone, Copy)]
+pub enum Before {
+    /// The target cut at the previous position, towards zero.
+    Cut,
+    /// The same with floor.
+    Floor,
+    /// Any of the same size, whatever the target is.
+    Any,
+    /// The least and the greatest.
+    Extreme,
+}
+
+/// The signs.
+#[derive(Clone, Copy)]
+pub enum Signs {
+    /// Those of the coefficients before the pass.
+    Before,
+    /// Any of the 256.
+    Any,
+    /// Zeros.
+    Zero,
+    /// Those of the target.
+    Later,
+}
+
+/// What the places of a component are like.
+#[derive(Clone, Copy)]
+pub struct Shape {
+    pub seed: u64,
+    /// Of 256 places, so many and one have a value.
+    pub density: u8,
+    /// Each magnitude of sixteen bits is shifted right so far,
+    pub drop: u8,
+    /// and that of a target then by a number of the bits that are set here.
+    pub spread: u8,
+    pub before: Before,
+    pub signs: Signs,
+    /// Whether the target is cut at the current position, towards zero.
+    pub cut: bool,
+}
+
+/// What a case of each of the three kinds begins with.
+#[derive(Clone, Copy)]
+pub struct Given {
+    pub shape: Shape,
+    pub use_reduce_extrapolate: bool,
+    pub prev: Row,
+    /// The current positions; of kind 38 the quantizers.
+    pub curr: Row,
+    /// How many elements of the target, the coefficients before the pass and the signs are lent.
+    pub lengths: [usize; 3],
+}
+
+/// The component that a writer writes, and that which a reader starts from.
+pub struct Made {
+    pub target: Vec<i16>,
+    pub before: Vec<i16>,
+    pub sign: Vec<i8>,
+}
+
+impl Given {
+    /// As fields of a case.
+    pub fn fields(&self) -> Vec<u8> {
+        let Shape {
+            seed,
+            density,
+            drop,
+            spread,
+            before,
+            signs,
+            cut,
+        } = self.shape;
+        let mode = before as u8 + 4 * signs as u8 + 16 * u8::from(cut);
+        let mut fields = seed.to_le_bytes().to_vec();
+        fields.extend([density, drop, spread, mode]);
+        fields.push(u8::from(self.use_reduce_extrapolate));
+        fields.extend(self.prev);
+        fields.extend(self.curr);
+        fields.extend(self.lengths.map(short).concat());
+        fields
+    }
+
+    /// The components, in their slices and behind them.
+    pub fn make(&self) -> Made {
+        let mut made = Made {
+            target: Vec::new(),
+            before: Vec::new(),
+            sign: Vec::new(),
+        };
+        let mut word = self.shape.seed;
+        for (prev, curr) in self.positions() {
+            word = next(word);
+            let target = self.shape.target(word, curr);
+            let before = self.shape.before(word, target, prev);
+            made.target.push(target);
+            made.before.push(before);
+            made.sign.push(self.shape.sign(word, target, before));
+        }
+        made
+    }
+
+    /// The positions of each place, those of its band; behind the last band, 0.
+    fn positions(&self) -> Vec<(u8, u8)> {
+        let mut positions = Vec::new();
+        let bands = reach::get_band_layout(self.use_reduce_extrapolate);
+        for (index, band) in bands.iter().enumerate() {
+            let pair = (self.prev[index], self.curr[index]);
+            positions.extend(vec![pair; band.count()]);
+        }
+        positions.resize(PLACES, (0, 0));
+        positions
+    }
+
+    pub fn prev_quant(&self) -> ComponentCodecQuant {
+        ComponentCodecQuant::of_bands(self.prev)
+    }
+
+    pub fn curr_quant(&self) -> ComponentCodecQuant {
+        ComponentCodecQuant::of_bands(self.curr)
+    }
+}
+
+impl Shape {
+    fn target(&self, word: u64, curr: u8) -> i16 {
+        if word as u8 > self.density {
+            return 0;
+        }
+        let shift = ((word >> 24) as u8 % 16) & self.spread;
+        let magnitude = shifted(shifted((word >> 8) as u16, self.drop), shift);
+        let magnitude = if self.cut {
+            cut(magnitude, curr)
+        } else {
+            magnitude
+        };
+        with_sign(magnitude, bit(word, 28))
+    }
+
+    fn before(&self, word: u64, target: i16, prev: u8) -> i16 {
+        match self.before {
+            Before::Cut => with_sign(cut(target.unsigned_abs(), prev), target < 0),
+            Before::Floor => {
+                let shift = prev.min(15);
+                target >> shift << shift
+            }
+            Before::Any => with_sign(shifted((word >> 32) as u16, self.drop), bit(word, 29)),
+            Before::Extreme => with_sign(u16::MAX, bit(word, 29)),
+        }
+    }
+
+    fn sign(&self, word: u64, target: i16, before: i16) -> i8 {
+        match self.signs {
+            Signs::Before => before.signum() as i8,
+            Signs::Any => (word >> 48) as i8,
+            Signs::Zero => 0,
+            Signs::Later => target.signum() as i8,
+        }
+    }
+}
+
+/// The next word: a step of xorshift64.
+fn next(mut word: u64) -> u64 {
+    word ^= word << 13;
+    word ^= word >> 7;
+    word ^ word << 17
+}
+
+fn bit(word: u64, place: u32) -> bool {
+    word >> place & 1 == 1
+}
+
+fn shifted(magnitude: u16, shift: u8) -> u16 {
+    magnitude.checked_shr(shift.into()).unwrap_or(0)
+}
+
+/// A magnitude without its lowest bits.
+fn cut(magnitude: u16, bits: u8) -> u16 {
+    if bits > 15 {
+        return 0;
+    }
+    magnitude >> bits << bits
+}
+
+/// A magnitude with a sign, clamped.
+fn with_sign(magnitude: u16, negative: bool) -> i16 {
+    let value = i32::from(magnitude);
+    reach::clamp_i16(if negative { -value } else { value })
+}
