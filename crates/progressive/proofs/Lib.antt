@@ -8,5 +8,5 @@ pub mod WrittenValues
 pub mod Steps
 pub mod Walks
 pub mod BothStreams
-pub mod Onward
+pub mod Placewise
 pub mod Surveyed

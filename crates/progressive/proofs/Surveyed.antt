@@ -2,7 +2,7 @@
 use mathlib.Core.Path.{_≡_, refl, ap, sym, _∙_, subst}
 use mathlib.Core.Bool.{Bool, true, false, _||_}
 use mathlib.Core.List.{List, [], _∷_, _++_, append-nil}
-use Prim.Native.Nat.{ℕ, zero, suc, _+_, _-_, _*_, _/_, _^_, _≤_, _<_, max}
+use Prim.Native.Nat.{ℕ, zero, suc, _+_, _-_, _*_, _/_, _^_, _≤_, max}
 use native.Mathlib.Nat.{suc-mul, mul-le-mul-left}
 use native.Mathlib.Omega.{arith}
 use borrow.Author.Tests.{lt-ltb, le-ltb, ltb-true, ltb-false}
@@ -20,7 +20,7 @@ use Rattle.progressive.specs.Walk.{fromSrl}
 use Rattle.progressive.specs.Writing.{Lists, placeLists, bandLists, Lent, oneIf, onlyIf, magnitudes, anyTooLarge, surveyOf, Counts, Surveys, noTotal, Few}
 use Rattle.progressive.specs.declared.writer.Survey.{Survey}
 use Rattle.progressive.specs.declared.writer.Total.{Total}
-use Rattle.progressive.proofs.Onward.{Onward, joined, given, chain, of-band, place-srl, place-raw}
+use Rattle.progressive.proofs.Placewise.{Placewise, given, chain, of-band, place-srl, place-raw}
 
 -- ════ a band's values ════
 
@@ -32,8 +32,8 @@ largest-append : (a b : List ℤ) → largest (a ++ b) ≡ max (largest a) (larg
 largest-append [] b = omega arith
 largest-append (v ∷ a) b = omega (arith, largest-append a b)
 
-pub counts-onward : Onward Counts
-counts-onward = record {
+pub counts-placewise : Placewise Counts
+counts-placewise = record {
   none = λ x. record { count = omega arith; sum = omega arith; most = omega arith };
   then = λ a b x y z p q. record {
     count = omega (arith, p .count, q .count, length-append (a .values) (b .values));
@@ -70,8 +70,8 @@ or-false : (a : Bool) → (a || false) ≡ a
 or-false true = refl
 or-false false = refl
 
-pub surveys-onward : Onward Surveys
-surveys-onward = record {
+pub surveys-placewise : Placewise Surveys
+surveys-placewise = record {
   none = λ x. record { count = omega arith; sum = omega arith; bits = λ ns ms. refl; bad = λ ws us. refl };
   then = λ a b x y z p q. record {
     count = omega (arith, p .count, q .count, length-append (a .values) (b .values));

@@ -1,4 +1,5 @@
--- Laws of the values of the SRL stream, each with its width: judged, measured and written one by one. Assumes nothing.
+-- Laws of what a pass writes: its values judged, how large their stream is, the ends of both streams, and places measured and stored one by one.
+-- Assumes nothing.
 use mathlib.Core.Path.{_≡_, refl, ap, sym, _∙_, subst}
 use mathlib.Core.Bool.{Bool, true, false, cond, _||_}
 use mathlib.Core.List.{List, [], _∷_, _++_, append-nil}
@@ -28,7 +29,7 @@ use Rattle.progressive.specs.Encode.{srlDifference, rawDifference, value
 use Rattle.progressive.specs.Walk.{fromSrl}
 use Rattle.progressive.specs.Writing.{Lists, placeLists, anyTooLarge, magnitudes, measuredOf, endCount, Measures, Measurable, freshSinks, streamAfter, streamWrite, endLength, endOut, Outputs, outputs, Stores, Writable}
 use Rattle.progressive.specs.declared.writer.Sinks.{Sinks}
-use Rattle.progressive.proofs.Onward.{Onward, chain, place-srl, place-raw}
+use Rattle.progressive.proofs.Placewise.{Placewise, chain, place-srl, place-raw}
 
 -- ════ judging ════
 
@@ -177,8 +178,8 @@ value-write w out c v ws us =
 
 -- ════ measuring, place by place ════
 
-pub measures-onward : Onward Measures
-measures-onward = record {
+pub measures-placewise : Placewise Measures
+measures-placewise = record {
   none = λ p. record { count = λ ws us. refl };
   then = λ a b x y z p q. record { count = chain endCount (a .widths) (b .widths) (a .values) (b .values) x y z (p .count) (q .count) };
 }
@@ -209,8 +210,8 @@ measurable-on p i j h m = record { good = m .good; early = omega (arith, m .earl
 
 -- ════ storing, place by place ════
 
-pub stores-onward : Onward Stores
-stores-onward = record {
+pub stores-placewise : Placewise Stores
+stores-placewise = record {
   none = λ x. record { srl-after = λ ws us. refl; srl-write = λ ws us. refl; raw-after = λ ns ms. refl; raw-write = λ ns ms. refl };
   then = λ a b x y z p q. record {
     srl-after = chain (λ (o : Outputs) (ws : List ℕ) (us : List ℤ). streamAfter (o .sinks .srl) ws us) (a .widths) (b .widths) (a .values) (b .values) x y z (p .srl-after) (q .srl-after);

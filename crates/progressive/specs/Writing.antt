@@ -1,6 +1,6 @@
 -- What the inner functions of the writer ask and promise. A pass is surveyed, measured and stored by three walks over its places. Each walk's
 -- promise is a relation of what stands before some places and what stands after them, whatever comes behind them; so places in a row are
--- relations in a row (proofs/Onward.antt).
+-- relations in a row (proofs/Placewise.antt).
 use mathlib.Core.Path.{_≡_}
 use mathlib.Core.Bool.{Bool, true, false, _||_}
 use mathlib.Core.List.{List, [], _∷_, _++_}

@@ -428,24 +428,15 @@ fn write_band(
     let r = start.raw;
     let mut at = k.at;
     let mut current = k.current;
-    let mut bit_count = k.bit_count;
+    let mut n = k.bit_count;
     let mut kp = a.kp;
     let mut zeros = a.zeros;
     let mut raw_at = r.at;
     let mut raw_current = r.current;
-    let mut raw_count = r.bit_count;
+    let mut raw_n = r.bit_count;
     let mut i = from;
     while i < to {
-        let cur = sinks_of(
-            at,
-            current,
-            bit_count,
-            kp,
-            zeros,
-            raw_at,
-            raw_current,
-            raw_count,
-        );
+        let cur = sinks_of(at, current, n, kp, zeros, raw_at, raw_current, raw_n);
         let c = coefficients[i];
         let p = prev_coefficients[i];
         let s = sign[i];
@@ -455,24 +446,15 @@ fn write_band(
         let q = next.raw;
         at = l.at;
         current = l.current;
-        bit_count = l.bit_count;
+        n = l.bit_count;
         kp = b.kp;
         zeros = b.zeros;
         raw_at = q.at;
         raw_current = q.current;
-        raw_count = q.bit_count;
+        raw_n = q.bit_count;
         i += 1;
     }
-    sinks_of(
-        at,
-        current,
-        bit_count,
-        kp,
-        zeros,
-        raw_at,
-        raw_current,
-        raw_count,
-    )
+    sinks_of(at, current, n, kp, zeros, raw_at, raw_current, raw_n)
 }
 
 // One band more: of width 0 it is skipped.

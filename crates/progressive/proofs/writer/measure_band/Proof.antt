@@ -10,8 +10,8 @@ use mir.ValLaws.{toZ-ofZ}
 use Rattle.srl.specs.declared.encoder.Measured.{Measured}
 use Rattle.progressive.specs.Walk.{bandStep}
 use Rattle.progressive.specs.Writing.{placeLists, bandLists, measuredOf, Measures, Measurable}
-use Rattle.progressive.proofs.Onward.{band-none, place-next}
-use Rattle.progressive.proofs.WrittenValues.{measures-onward}
+use Rattle.progressive.proofs.Placewise.{band-none, place-next}
+use Rattle.progressive.proofs.WrittenValues.{measures-placewise}
 use borrow.Author.Needs.{needs}
 use Rattle.progressive.proofs.writer.measure_band.Statement.{statement}
 use Rattle.progressive.proofs.writer.measure_band.Tie as tie
@@ -27,7 +27,7 @@ abbrev μ-loop : tie.MeasureT-loop
 loop-holds : tie.Need-loop-holds Inv-loop μ-loop
 loop-holds c =
     let a = c .args in
-    (omega arith, c .pre .0 .begins, c .pre .2, band-none Measures measures-onward (a .coefficients .now) (a .prev-coefficients .now) (a .sign .now) (bandStep (a .t)) (a .from) (a .start))
+    (omega arith, c .pre .0 .begins, c .pre .2, band-none Measures measures-placewise (a .coefficients .now) (a .prev-coefficients .now) (a .sign .now) (bandStep (a .t)) (a .from) (a .start))
 
 measure-place-requires : tie.Need-measure-place-requires Inv-loop μ-loop
 measure-place-requires c κs =
@@ -47,7 +47,7 @@ loop-again c =
       omega (arith, l .inv .0),
       omega arith,
       u .ensures .1,
-      place-next Measures measures-onward (a .coefficients .now) (a .prev-coefficients .now) (a .sign .now) t (a .from) (l .i) (a .to) (k .pre .0) (l .inv .0) (omega arith)
+      place-next Measures measures-placewise (a .coefficients .now) (a .prev-coefficients .now) (a .sign .now) t (a .from) (l .i) (a .to) (k .pre .0) (l .inv .0) (omega arith)
           (a .start) (measuredOf (l .at) (l .bit-count) (l .kp) (l .zeros)) (u .result) (l .inv .3)
           (toZ-ofZ w16 x (record { sfits = c .before .before .before .before .c .given })) (toZ-ofZ w16 y (record { sfits = c .before .before .before .p .given })) (toZ-ofZ w8 z (record { sfits = c .before .before .s .given }))
           (subst (λ (p : Measured). Measures (placeLists t (toZ w16 (ofZ w16 x)) (toZ w16 (ofZ w16 y)) (toZ w8 (ofZ w8 z))) p (u .result)) (c .before .measured-of .ensures) (u .ensures .0)),

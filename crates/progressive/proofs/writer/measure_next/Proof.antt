@@ -1,8 +1,8 @@
 -- `progressive::writer::measure_next` meets its contract: a skipped band has nothing to measure. Assumes nothing.
 use Rattle.progressive.specs.Walk.{bandStep}
 use Rattle.progressive.specs.Writing.{Measures}
-use Rattle.progressive.proofs.Onward.{band-skip}
-use Rattle.progressive.proofs.WrittenValues.{measures-onward, measurable-on}
+use Rattle.progressive.proofs.Placewise.{band-skip}
+use Rattle.progressive.proofs.WrittenValues.{measures-placewise, measurable-on}
 use borrow.Author.Needs.{needs}
 use Rattle.progressive.proofs.writer.measure_next.Statement.{statement}
 use Rattle.progressive.proofs.writer.measure_next.Tie as tie
@@ -11,7 +11,7 @@ returns : tie.Need-returns
 returns c =
     let k = c .before .before in
     let a = k .args in (
-      band-skip Measures measures-onward (a .coefficients .now) (a .prev-coefficients .now) (a .sign .now) (bandStep (a .t)) (a .from) (a .to) (k .pre .0) (c .if1 .taken) (a .start),
+      band-skip Measures measures-placewise (a .coefficients .now) (a .prev-coefficients .now) (a .sign .now) (bandStep (a .t)) (a .from) (a .to) (k .pre .0) (c .if1 .taken) (a .start),
       measurable-on (a .start) (a .from) (a .to) (k .pre .0 .begins) (k .pre .2),
     )
 

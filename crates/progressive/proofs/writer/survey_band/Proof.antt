@@ -1,19 +1,17 @@
 -- `progressive::writer::survey_band` meets its contract: after each turn the places so far are counted. Assumes nothing.
-use mathlib.Core.Path.{_≡_, refl, sym, ap, ap₂, _∙_}
-use mathlib.Core.Bool.{Bool}
-use Prim.Native.Nat.{ℕ, _+_, _-_, _*_, _≤_, max}
+use mathlib.Core.Path.{_≡_, refl, sym, ap, _∙_}
+use Prim.Native.Nat.{_+_, _-_, _*_, _≤_, max}
 use native.Mathlib.Omega.{arith}
 use lib.ListN.{getD}
 use lib.IntN.{ℤ, pos, natAbs}
-use mir.Val.{toZ, ofZ}
 use mir.Syntax.{w8, w16}
 use mir.ValLaws.{toZ-ofZ}
 use Rattle.fixed.proofs.Machine.{got}
 use Rattle.progressive.specs.Encode.{srlDifference}
 use Rattle.progressive.specs.Walk.{bandStep, fromSrl}
 use Rattle.progressive.specs.Writing.{bandLists, oneIf, onlyIf, surveyOf, Counts}
-use Rattle.progressive.proofs.Onward.{band-none, place-next}
-use Rattle.progressive.proofs.Surveyed.{counts-onward, place-counts, one-le, only-le}
+use Rattle.progressive.proofs.Placewise.{band-none, place-next}
+use Rattle.progressive.proofs.Surveyed.{counts-placewise, place-counts, one-le, only-le}
 use Rattle.progressive.proofs.WrittenValues.{difference-small}
 use borrow.Author.Needs.{needs}
 use Rattle.progressive.proofs.writer.survey_band.Statement.{statement}
@@ -30,7 +28,7 @@ abbrev μ-loop : tie.MeasureT-loop
 loop-holds : tie.Need-loop-holds Inv-loop μ-loop
 loop-holds c =
     let a = c .args in
-    (omega arith, c .pre .0 .begins, omega arith, omega arith, band-none Counts counts-onward (a .coefficients .now) (a .prev-coefficients .now) (a .sign .now) (bandStep (a .t)) (a .from) (surveyOf 0 0 0))
+    (omega arith, c .pre .0 .begins, omega arith, omega arith, band-none Counts counts-placewise (a .coefficients .now) (a .prev-coefficients .now) (a .sign .now) (bandStep (a .t)) (a .from) (surveyOf 0 0 0))
 
 -- the three elements of a place
 first : (c : tie.After-one-if Inv-loop μ-loop) → ℤ
@@ -88,7 +86,7 @@ loop-again c =
       omega arith,
       omega (arith, one-small d, l .inv .2, l .inv .0),
       omega (arith, only-small d, l .inv .3, l .inv .0),
-      place-next Counts counts-onward (a .coefficients .now) (a .prev-coefficients .now) (a .sign .now) t (a .from) (l .i) (a .to) (k .pre .0) (l .inv .0) (omega arith)
+      place-next Counts counts-placewise (a .coefficients .now) (a .prev-coefficients .now) (a .sign .now) t (a .from) (l .i) (a .to) (k .pre .0) (l .inv .0) (omega arith)
           (surveyOf 0 0 0) (surveyOf (l .count) (l .sum) (l .largest)) _ (l .inv .4) refl refl refl
           (place-counts t (first d) (second d) (third d) (k .pre .1) (surveyOf (l .count) (l .sum) (l .largest)) _ (ap (λ n. l .count + n) (one d)) (ap (λ n. l .sum + n) (only d)) (c .larger .ensures ∙ ap (max (l .largest)) (only d))),
     )

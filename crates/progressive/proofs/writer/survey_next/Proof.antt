@@ -1,13 +1,13 @@
 -- `progressive::writer::survey_next` meets its contract: a band adds what its values and its numbers are. Assumes nothing.
-use mathlib.Core.Path.{_≡_, refl, ap, _∙_}
+use mathlib.Core.Path.{refl, ap, _∙_}
 use mathlib.Core.Bool.{_||_}
 use Prim.Native.Nat.{_-_, _*_, _≤_}
 use native.Mathlib.Nat.{mul-le-mul-left}
 use native.Mathlib.Omega.{arith}
 use Rattle.progressive.specs.Walk.{bandStep}
 use Rattle.progressive.specs.Writing.{Surveys}
-use Rattle.progressive.proofs.Onward.{band-skip}
-use Rattle.progressive.proofs.Surveyed.{surveys-onward, band-surveys, band-few, few-on}
+use Rattle.progressive.proofs.Placewise.{band-skip}
+use Rattle.progressive.proofs.Surveyed.{surveys-placewise, band-surveys, band-few, few-on}
 use borrow.Author.Needs.{needs}
 use Rattle.progressive.proofs.writer.survey_next.Statement.{statement}
 use Rattle.progressive.proofs.writer.survey_next.Tie as tie
@@ -16,7 +16,7 @@ returns : tie.Need-returns
 returns c =
     let k = c .before .before in
     let a = k .args in (
-      band-skip Surveys surveys-onward (a .coefficients .now) (a .prev-coefficients .now) (a .sign .now) (bandStep (a .t)) (a .from) (a .to) (k .pre .0) (c .if1 .taken) (a .done),
+      band-skip Surveys surveys-placewise (a .coefficients .now) (a .prev-coefficients .now) (a .sign .now) (bandStep (a .t)) (a .from) (a .to) (k .pre .0) (c .if1 .taken) (a .done),
       few-on (a .done) (a .from) (a .to) (k .pre .0 .begins) (k .pre .2),
     )
 

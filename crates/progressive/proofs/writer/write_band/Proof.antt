@@ -10,25 +10,25 @@ use mir.ValLaws.{toZ-ofZ}
 use Rattle.progressive.specs.declared.writer.Sinks.{Sinks}
 use Rattle.progressive.specs.Walk.{bandStep}
 use Rattle.progressive.specs.Writing.{placeLists, bandLists, sinksOf, outputs, Stores, Writable}
-use Rattle.progressive.proofs.Onward.{band-none, place-next}
-use Rattle.progressive.proofs.WrittenValues.{stores-onward}
+use Rattle.progressive.proofs.Placewise.{band-none, place-next}
+use Rattle.progressive.proofs.WrittenValues.{stores-placewise}
 use borrow.Author.Needs.{needs}
 use Rattle.progressive.proofs.writer.write_band.Statement.{statement}
 use Rattle.progressive.proofs.writer.write_band.Tie as tie
 
 abbrev Inv-loop : tie.InvT-loop
-Inv-loop coefficients prev-coefficients sign t from to srl-out₀ raw-out₀ at₀ current₀ bit-count₀ kp₀ zeros₀ raw-at₀ raw-current₀ raw-count₀ i₀ srl-out raw-out at current bit-count kp zeros raw-at raw-current raw-count i =
-    (from ≤ i) × (i ≤ to) × (length srl-out ≡ length srl-out₀) × (length raw-out ≡ length raw-out₀) × Writable (sinksOf at current bit-count kp zeros raw-at raw-current raw-count) i
-    × Stores (bandLists (bandStep t) from i coefficients prev-coefficients sign) (outputs srl-out₀ raw-out₀ (sinksOf at₀ current₀ bit-count₀ kp₀ zeros₀ raw-at₀ raw-current₀ raw-count₀)) (outputs srl-out raw-out (sinksOf at current bit-count kp zeros raw-at raw-current raw-count))
+Inv-loop coefficients prev-coefficients sign t from to srl-out₀ raw-out₀ at₀ current₀ n₀ kp₀ zeros₀ raw-at₀ raw-current₀ raw-n₀ i₀ srl-out raw-out at current n kp zeros raw-at raw-current raw-n i =
+    (from ≤ i) × (i ≤ to) × (length srl-out ≡ length srl-out₀) × (length raw-out ≡ length raw-out₀) × Writable (sinksOf at current n kp zeros raw-at raw-current raw-n) i
+    × Stores (bandLists (bandStep t) from i coefficients prev-coefficients sign) (outputs srl-out₀ raw-out₀ (sinksOf at₀ current₀ n₀ kp₀ zeros₀ raw-at₀ raw-current₀ raw-n₀)) (outputs srl-out raw-out (sinksOf at current n kp zeros raw-at raw-current raw-n))
 
 abbrev μ-loop : tie.MeasureT-loop
-μ-loop coefficients prev-coefficients sign t from to srl-out₀ raw-out₀ at₀ current₀ bit-count₀ kp₀ zeros₀ raw-at₀ raw-current₀ raw-count₀ i₀ srl-out raw-out at current bit-count kp zeros raw-at raw-current raw-count i = to - i
+μ-loop coefficients prev-coefficients sign t from to srl-out₀ raw-out₀ at₀ current₀ n₀ kp₀ zeros₀ raw-at₀ raw-current₀ raw-n₀ i₀ srl-out raw-out at current n kp zeros raw-at raw-current raw-n i = to - i
 
 loop-holds : tie.Need-loop-holds Inv-loop μ-loop
 loop-holds c =
     let k = c .before .before .before .before .before in
     let a = k .args in
-    (omega arith, k .pre .0 .begins, refl, refl, k .pre .3, band-none Stores stores-onward (a .coefficients .now) (a .prev-coefficients .now) (a .sign .now) (bandStep (a .t)) (a .from) (outputs (a .srl-out .now) (a .raw-out .now) (a .start)))
+    (omega arith, k .pre .0 .begins, refl, refl, k .pre .3, band-none Stores stores-placewise (a .coefficients .now) (a .prev-coefficients .now) (a .sign .now) (bandStep (a .t)) (a .from) (outputs (a .srl-out .now) (a .raw-out .now) (a .start)))
 
 write-place-requires : tie.Need-write-place-requires Inv-loop μ-loop
 write-place-requires c κs =
@@ -52,8 +52,8 @@ loop-again c =
       u .kept .1 .1 .1 .1 .1 .1 .0 ∙ l .inv .2,
       u .kept .1 .1 .1 .1 .1 .1 .1 .0 ∙ l .inv .3,
       u .ensures .1,
-      place-next Stores stores-onward (a .coefficients .now) (a .prev-coefficients .now) (a .sign .now) t (a .from) (l .i) (a .to) (k .pre .0) (l .inv .0) (c .before .before .before .before .before .before .before .before .before .before .before .before .before .before .loop-test .taken)
-          (outputs (a .srl-out .now) (a .raw-out .now) (a .start)) (outputs (l .srl-out) (l .raw-out) (sinksOf (l .at) (l .current) (l .bit-count) (l .kp) (l .zeros) (l .raw-at) (l .raw-current) (l .raw-count))) then (l .inv .5)
+      place-next Stores stores-placewise (a .coefficients .now) (a .prev-coefficients .now) (a .sign .now) t (a .from) (l .i) (a .to) (k .pre .0) (l .inv .0) (c .before .before .before .before .before .before .before .before .before .before .before .before .before .before .loop-test .taken)
+          (outputs (a .srl-out .now) (a .raw-out .now) (a .start)) (outputs (l .srl-out) (l .raw-out) (sinksOf (l .at) (l .current) (l .n) (l .kp) (l .zeros) (l .raw-at) (l .raw-current) (l .raw-n))) then (l .inv .5)
           (toZ-ofZ w16 x (record { sfits = c .before .before .before .before .before .before .before .before .before .before .before .before .c .given })) (toZ-ofZ w16 y (record { sfits = c .before .before .before .before .before .before .before .before .before .before .before .p .given })) (toZ-ofZ w8 z (record { sfits = c .before .before .before .before .before .before .before .before .before .before .s .given }))
           (subst (λ (s : Sinks). Stores (placeLists t (toZ w16 (ofZ w16 x)) (toZ w16 (ofZ w16 y)) (toZ w8 (ofZ w8 z))) (outputs (l .srl-out) (l .raw-out) s) then) (c .before .before .before .before .before .before .before .before .before .before .before .before .before .sinks-of .ensures) (u .ensures .0)),
     )

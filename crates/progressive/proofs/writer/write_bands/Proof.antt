@@ -1,36 +1,37 @@
 -- `progressive::writer::write_bands` meets its contract: after b bands their places are stored. Assumes nothing.
-use mathlib.Core.Path.{_≡_, refl, sym, ap, _∙_, subst}
-use Prim.Native.Nat.{_+_, _-_, _≤_}
+use mathlib.Core.Path.{_≡_, refl, _∙_}
+use Prim.Native.Nat.{ℕ, _-_, _≤_}
 use native.Mathlib.Omega.{arith}
-use lib.ListN.{length}
-use Rattle.bands.proofs.Spread.{perPlaceTo}
-use Rattle.progressive.specs.Upgrade.{stepOf}
 use Rattle.progressive.specs.Walk.{bandStep}
-use Rattle.progressive.specs.declared.writer.Sinks.{Sinks}
-use Rattle.progressive.specs.Writing.{passLists, freshSinks, outputs, Stores, Writable}
-use Rattle.progressive.proofs.Onward.{Next, places-before, places-then, whole, lent, narrow, low-step, pass-none, band-next, pass-all}
-use Rattle.progressive.proofs.WrittenValues.{stores-onward}
+use lib.ListN.{length}
+use Rattle.progressive.specs.Writing.{freshSinks, Outputs, outputs, Stores, Writable}
+use Rattle.progressive.proofs.Placewise.{Next, lent, narrow, low-step, Reached, reached-none, bound-before, reached-next, reached-all}
+use Rattle.progressive.proofs.WrittenValues.{stores-placewise}
 use borrow.Author.Needs.{needs}
 use Rattle.progressive.proofs.writer.write_bands.Statement.{statement}
 use Rattle.progressive.proofs.writer.write_bands.Tie as tie
 
+-- the writers of both outputs can go on
+abbrev Ready : Outputs → ℕ → Type 0
+Ready o n = Writable (o .sinks) n
+
 abbrev Inv-loop : tie.InvT-loop
 Inv-loop coefficients prev-coefficients sign use-reduce-extrapolate srl-out₀ raw-out₀ prev curr cur₀ b₀ srl-out raw-out cur b =
-    (b ≤ 10) × (length srl-out ≡ length srl-out₀) × (length raw-out ≡ length raw-out₀) × Writable cur (length (perPlaceTo use-reduce-extrapolate (stepOf prev curr) b))
-    × Stores (passLists (perPlaceTo use-reduce-extrapolate (stepOf prev curr) b) coefficients prev-coefficients sign) (outputs srl-out₀ raw-out₀ freshSinks) (outputs srl-out raw-out cur)
+    (b ≤ 10) × (length srl-out ≡ length srl-out₀) × (length raw-out ≡ length raw-out₀)
+    × Reached Stores Ready coefficients prev-coefficients sign use-reduce-extrapolate prev curr b (outputs srl-out₀ raw-out₀ freshSinks) (outputs srl-out raw-out cur)
 
 abbrev μ-loop : tie.MeasureT-loop
 μ-loop coefficients prev-coefficients sign use-reduce-extrapolate srl-out₀ raw-out₀ prev curr cur₀ b₀ srl-out raw-out cur b = 10 - b
 
 loop-holds : tie.Need-loop-holds Inv-loop μ-loop
 loop-holds c =
-    let a = c .before .before .before .args in
-    let e = c .sinks-of .ensures in (
+    let a = c .before .before .before .args in (
       omega arith,
       refl,
       refl,
-      rw e (record { good = ((omega arith, omega arith), omega arith); early = omega arith; sound = (omega arith, omega arith); raw-early = omega arith }),
-      rw e (pass-none Stores stores-onward (a .coefficients .now) (a .prev-coefficients .now) (a .sign .now) (a .use-reduce-extrapolate) (stepOf (a .t3) (a .t4)) (outputs (a .srl-out .now) (a .raw-out .now) freshSinks)),
+      rw (c .sinks-of .ensures)
+          (reached-none Stores stores-placewise Ready (a .coefficients .now) (a .prev-coefficients .now) (a .sign .now) (a .use-reduce-extrapolate) (a .t3) (a .t4) (outputs (a .srl-out .now) (a .raw-out .now) freshSinks)
+          (record { good = ((omega arith, omega arith), omega arith); early = omega arith; sound = (omega arith, omega arith); raw-early = omega arith })),
     )
 
 -- the band that is next
@@ -42,14 +43,11 @@ write-next-requires c κs =
     let k = c .before .before .before .before .before .before .before .before .before in
     let a = k .args in
     let l = c .before .before .before .before .before .loop in
-    let s = c .before .before .band-span .result in
-    let e = a .use-reduce-extrapolate in
-    let t = bandStep (c .before .before .before .band-step .result) in
     let n = next (c .before .before) in (
-      lent e (a .t3) (a .t4) (l .b) (s .from) (s .to) t n (a .coefficients .now) (a .prev-coefficients .now) (a .sign .now) (k .pre .2) (k .pre .3) (k .pre .4),
-      narrow e (a .t3) (a .t4) (l .b) (s .from) (s .to) t n (k .pre .0),
-      low-step e (a .t3) (a .t4) (l .b) (s .from) (s .to) t n (k .pre .1),
-      subst (Writable (l .cur)) (places-before e (a .t3) (a .t4) (l .b) (s .from) (s .to) t n) (l .inv .3),
+      lent n (a .coefficients .now) (a .prev-coefficients .now) (a .sign .now) (k .pre .2) (k .pre .3) (k .pre .4),
+      narrow n (k .pre .0),
+      low-step n (k .pre .1),
+      bound-before Stores stores-placewise Ready (a .coefficients .now) (a .prev-coefficients .now) (a .sign .now) (a .use-reduce-extrapolate) (a .t3) (a .t4) (l .b) _ _ _ (outputs (a .srl-out .now) (a .raw-out .now) freshSinks) (outputs (l .srl-out) (l .raw-out) (l .cur)) n (l .inv .3),
     )
 
 loop-again : tie.Need-loop-again Inv-loop μ-loop
@@ -57,17 +55,13 @@ loop-again c =
     let k = c .before .before .before .before .before .before .before .before .before .before .before .before .before .before in
     let a = k .args in
     let l = c .before .before .before .before .before .before .before .before .before .before .loop in
-    let s = c .before .before .before .before .before .before .before .band-span .result in
     let u = c .before .before .before .before .write-next in
-    let e = a .use-reduce-extrapolate in
-    let t = bandStep (c .before .before .before .before .before .before .before .before .band-step .result) in
-    let n = next (c .before .before .before .before .before .before .before) in (
-      omega arith,
+    let o = u .last .1 .1 .1 .1 .1 .1 .1 in (
+      omega (arith, c .before .before .before .before .before .before .before .before .before .loop-test .taken),
       u .kept .1 .1 .1 .1 .1 .1 .1 .0 ∙ l .inv .1,
       u .kept .1 .1 .1 .1 .1 .1 .1 .1 .0 ∙ l .inv .2,
-      subst (Writable (u .result)) (places-then e (a .t3) (a .t4) (l .b) (s .from) (s .to) t n) (u .ensures .1),
-      band-next Stores stores-onward (a .coefficients .now) (a .prev-coefficients .now) (a .sign .now) e (a .t3) (a .t4) (l .b) (s .from) (s .to) t n (k .pre .2) (k .pre .3) (k .pre .4)
-          (outputs (a .srl-out .now) (a .raw-out .now) freshSinks) (outputs (l .srl-out) (l .raw-out) (l .cur)) (outputs (u .last .1 .1 .1 .1 .1 .1 .1 .0) (u .last .1 .1 .1 .1 .1 .1 .1 .1 .0) (u .result)) (l .inv .4) (u .ensures .0),
+      reached-next Stores stores-placewise Ready (a .coefficients .now) (a .prev-coefficients .now) (a .sign .now) (a .use-reduce-extrapolate) (a .t3) (a .t4) (l .b) _ _ _ (outputs (a .srl-out .now) (a .raw-out .now) freshSinks) (outputs (l .srl-out) (l .raw-out) (l .cur)) (outputs (o .0) (o .1 .0) (u .result))
+          (next (c .before .before .before .before .before .before .before)) (k .pre .2) (k .pre .3) (k .pre .4) (l .inv .3) (u .ensures),
     )
 
 same-length : tie.Need-same-length Inv-loop μ-loop
@@ -80,11 +74,7 @@ returns : tie.Need-returns Inv-loop μ-loop
 returns c =
     let a = c .before .before .before .before .before .args in
     let l = c .before .loop in
-    let e = a .use-reduce-extrapolate in
-    let ten : l .b ≡ 10 = omega (arith, l .inv .0) in (
-      pass-all Stores stores-onward (a .coefficients .now) (a .prev-coefficients .now) (a .sign .now) e (a .t3) (a .t4) (l .b) ten (outputs (a .srl-out .now) (a .raw-out .now) freshSinks) (outputs (l .srl-out) (l .raw-out) (l .cur)) (l .inv .4),
-      subst (Writable (l .cur)) (whole e (a .t3) (a .t4) (l .b) ten) (l .inv .3),
-    )
+    reached-all Stores stores-placewise Ready (a .coefficients .now) (a .prev-coefficients .now) (a .sign .now) (a .use-reduce-extrapolate) (a .t3) (a .t4) (l .b) (outputs (a .srl-out .now) (a .raw-out .now) freshSinks) (outputs (l .srl-out) (l .raw-out) (l .cur)) (omega (arith, l .inv .0)) (l .inv .3)
 
 pub write-bands-spec : {M : Type 1} → statement M
 write-bands-spec = tie.close (tie.spec Inv-loop μ-loop (λ c κs. search needs) loop-holds (λ c. search needs) (λ c. search needs) (λ c κs. search needs) (λ c κs. search needs) write-next-requires (λ c. search needs) (λ c. search needs) loop-again same-length same-length-2 returns)

@@ -1,8 +1,8 @@
 -- `progressive::writer::write_next` meets its contract: a skipped band has nothing to store. Assumes nothing.
 use Rattle.progressive.specs.Walk.{bandStep}
 use Rattle.progressive.specs.Writing.{outputs, Stores}
-use Rattle.progressive.proofs.Onward.{band-skip}
-use Rattle.progressive.proofs.WrittenValues.{stores-onward, writable-on}
+use Rattle.progressive.proofs.Placewise.{band-skip}
+use Rattle.progressive.proofs.WrittenValues.{stores-placewise, writable-on}
 use borrow.Author.Needs.{needs}
 use Rattle.progressive.proofs.writer.write_next.Statement.{statement}
 use Rattle.progressive.proofs.writer.write_next.Tie as tie
@@ -11,7 +11,7 @@ returns : tie.Need-returns
 returns c =
     let k = c .before .before .before .before in
     let a = k .args in (
-      band-skip Stores stores-onward (a .coefficients .now) (a .prev-coefficients .now) (a .sign .now) (bandStep (a .t)) (a .from) (a .to) (k .pre .0) (c .if1 .taken) (outputs (a .srl-out .now) (a .raw-out .now) (a .start)),
+      band-skip Stores stores-placewise (a .coefficients .now) (a .prev-coefficients .now) (a .sign .now) (bandStep (a .t)) (a .from) (a .to) (k .pre .0) (c .if1 .taken) (outputs (a .srl-out .now) (a .raw-out .now) (a .start)),
       writable-on (a .start) (a .from) (a .to) (k .pre .0 .begins) (k .pre .3),
     )
 

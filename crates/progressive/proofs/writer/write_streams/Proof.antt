@@ -1,13 +1,12 @@
 -- `progressive::writer::write_streams` meets its contract: what was stored place by place, and the ends, are both streams. Assumes nothing.
-use mathlib.Core.Path.{_≡_, ap, _∙_}
+use mathlib.Core.Path.{ap, _∙_}
 use mathlib.Core.List.{[]}
 use native.Mathlib.Omega.{arith}
-use lib.ListN.{length}
 use Rattle.bands.proofs.Spread.{place-whole}
 use Rattle.progressive.specs.declared.Written.the-variants.{Bytes}
 use Rattle.progressive.specs.Upgrade.{steps, stepOf}
 use Rattle.progressive.specs.Writing.{passLists, endLength, endOut}
-use Rattle.progressive.proofs.Onward.{same-length}
+use Rattle.progressive.proofs.Placewise.{same-length}
 use Rattle.progressive.proofs.WrittenValues.{stream-end, raw-end}
 use borrow.Author.Needs.{needs}
 use Rattle.progressive.proofs.writer.write_streams.Statement.{statement}

@@ -37,7 +37,7 @@ given x t c p l =
     lists (srlGiven x (srlDifference (t .position) c p) (l .values)) (srlWidth x (t .width) (l .widths))
     (rawGiven x (rawDifference (t .position) c p) (l .numbers)) (rawWidth x (t .width) (l .numberWidths))
 
-pub place-then : (t : Step) (ts : List Step) (c p s : ℤ) (cs ps ss : List ℤ) → passLists (t ∷ ts) (c ∷ cs) (p ∷ ps) (s ∷ ss) ≡ given (source t s) t c p (passLists ts cs ps ss)
+place-then : (t : Step) (ts : List Step) (c p s : ℤ) (cs ps ss : List ℤ) → passLists (t ∷ ts) (c ∷ cs) (p ∷ ps) (s ∷ ss) ≡ given (source t s) t c p (passLists ts cs ps ss)
 unfolding srlDifferences srlWidths rawDifferences rawWidths
 place-then t ts c p s cs ps ss = refl
 
@@ -59,7 +59,7 @@ place-raw t c p s h e = alone t c p s ∙ ap (λ (x : Source). given x t c p noL
 
 -- ════ places one after another ════
 
-pub no-places : (cs ps ss : List ℤ) → passLists [] cs ps ss ≡ noLists
+no-places : (cs ps ss : List ℤ) → passLists [] cs ps ss ≡ noLists
 unfolding srlDifferences srlWidths rawDifferences rawWidths
 no-places cs ps ss = refl
 
@@ -120,15 +120,8 @@ pub record Next (e : Bool) (prev curr : List ℕ) (b from to : ℕ) (t : Step) :
   pub lies : Lies e b from to
   pub step : t ≡ stepOf prev curr b
 
-pub places-before : (e : Bool) (prev curr : List ℕ) (b from to : ℕ) (t : Step) → Next e prev curr b from to t → length (perPlaceTo e (stepOf prev curr) b) ≡ from
-places-before e prev curr b from to t p = place-count e (stepOf prev curr) b (p .lies .number) ∙ sym (p .lies .begins)
-
-pub places-then : (e : Bool) (prev curr : List ℕ) (b from to : ℕ) (t : Step) → Next e prev curr b from to t → to ≡ length (perPlaceTo e (stepOf prev curr) (b + 1))
-places-then e prev curr b from to t p =
-    omega (arith, more-length e (stepOf prev curr) b from to (p .lies), places-before e prev curr b from to t p, p .lies .ends)
-
-pub lent : (e : Bool) (prev curr : List ℕ) (b from to : ℕ) (t : Step) → Next e prev curr b from to t → (cs ps ss : List ℤ) → Long cs → Long ps → Long ss → Lent cs ps ss from to
-lent e prev curr b from to t p cs ps ss h j k = record {
+pub lent : {e : Bool} {prev curr : List ℕ} {b from to : ℕ} {t : Step} → Next e prev curr b from to t → (cs ps ss : List ℤ) → Long cs → Long ps → Long ss → Lent cs ps ss from to
+lent {e = e} {b = b} p cs ps ss h j k = record {
   begins = omega (arith, p .lies .ends);
   ends = omega (arith, p .lies .begins, p .lies .ends, band-within e b);
   coefficients = h;
@@ -136,9 +129,13 @@ lent e prev curr b from to t p cs ps ss h j k = record {
   sign = k;
 }
 
--- after the tenth, all places
-pub whole : (e : Bool) (prev curr : List ℕ) (b : ℕ) → b ≡ 10 → length (perPlaceTo e (stepOf prev curr) b) ≡ 4096
-whole e prev curr b n = ap (λ k. length (perPlaceTo e (stepOf prev curr) k)) n ∙ ap length (place-all e (stepOf prev curr)) ∙ place-whole e (stepOf prev curr)
+-- how many places come before it, and with it
+before : {e : Bool} {prev curr : List ℕ} {b from to : ℕ} {t : Step} → Next e prev curr b from to t → length (perPlaceTo e (stepOf prev curr) b) ≡ from
+before {e = e} {prev = prev} {curr = curr} {b = b} p = place-count e (stepOf prev curr) b (p .lies .number) ∙ sym (p .lies .begins)
+
+with-it : {e : Bool} {prev curr : List ℕ} {b from to : ℕ} {t : Step} → Next e prev curr b from to t → to ≡ length (perPlaceTo e (stepOf prev curr) (b + 1))
+with-it {e = e} {prev = prev} {curr = curr} {b = b} {from = from} {to = to} p =
+    omega (arith, more-length e (stepOf prev curr) b from to (p .lies), before p, p .lies .ends)
 
 -- a row in the domain has low positions, and past its end they are 0
 low : (row : List ℕ) (b : ℕ) → rowInDomain row ≡ true → getD row b 0 ≤ 15
@@ -148,11 +145,11 @@ low row b e = by (ltb b (length row)) refl
     by true q = low-position row b e (ltb-true b (length row) q)
     by false q = rw (List·getD-eq-default row 0 (ltb-false b (length row) q)) (omega arith)
 
-pub narrow : (e : Bool) (prev curr : List ℕ) (b from to : ℕ) (t : Step) → Next e prev curr b from to t → rowInDomain prev ≡ true → t .width ≤ 15
-narrow e prev curr b from to t p h = omega (arith, ap (λ (u : Step). u .width) (p .step), low prev b h)
+pub narrow : {e : Bool} {prev curr : List ℕ} {b from to : ℕ} {t : Step} → Next e prev curr b from to t → rowInDomain prev ≡ true → t .width ≤ 15
+narrow {prev = prev} {b = b} p h = omega (arith, ap (λ (u : Step). u .width) (p .step), low prev b h)
 
-pub low-step : (e : Bool) (prev curr : List ℕ) (b from to : ℕ) (t : Step) → Next e prev curr b from to t → rowInDomain curr ≡ true → t .position ≤ 15
-low-step e prev curr b from to t p h = omega (arith, ap (λ (u : Step). u .position) (p .step), low curr b h)
+pub low-step : {e : Bool} {prev curr : List ℕ} {b from to : ℕ} {t : Step} → Next e prev curr b from to t → rowInDomain curr ≡ true → t .position ≤ 15
+low-step {curr = curr} {b = b} p h = omega (arith, ap (λ (u : Step). u .position) (p .step), low curr b h)
 
 -- ════ what goes on over places ════
 
@@ -164,19 +161,16 @@ chain F a b v u x y z p q ws us =
     ap (λ l. F x l ((v ++ u) ++ us)) (append-assoc a b ws) ∙ ap (F x (a ++ (b ++ ws))) (append-assoc v u us) ∙ p (b ++ ws) (u ++ us) ∙ q ws us
 
 -- it stays where there is none, and goes on behind what it went over
-pub record Onward {X : Type 0} (R : Lists → X → X → Type 0) : Type 0 where
+pub record Placewise {X : Type 0} (R : Lists → X → X → Type 0) : Type 0 where
   pub none : (x : X) → R noLists x x
   pub then : (a b : Lists) (x y z : X) → R a x y → R b y z → R (joined a b) x z
 
-module _ {X : Type 0} (R : Lists → X → X → Type 0) (o : Onward R) (cs ps ss : List ℤ) where
-  -- before the first place of a band, and of a pass
+module _ {X : Type 0} (R : Lists → X → X → Type 0) (o : Placewise R) (cs ps ss : List ℤ) where
+  -- before the first place of a band
   pub band-none : (t : Step) (from : ℕ) (x : X) → R (bandLists t from from cs ps ss) x x
   band-none t from x =
       let n : from - from ≡ 0 = omega arith in
       subst (λ (l : Lists). R l x x) (sym (ap (λ (k : ℕ). passLists (replicate k t) (drop from cs) (drop from ps) (drop from ss)) n ∙ no-places (drop from cs) (drop from ps) (drop from ss))) (o .none x)
-
-  pub pass-none : (e : Bool) (f : ℕ → Step) (x : X) → R (passLists (perPlaceTo e f 0) cs ps ss) x x
-  pass-none e f x = subst (λ (l : Lists). R l x x) (sym (ap (λ (ts : List Step). passLists ts cs ps ss) (place-none e f) ∙ no-places cs ps ss)) (o .none x)
 
   -- a skipped band
   pub band-skip : (t : Step) (from to : ℕ) → Lent cs ps ss from to → t .width ≡ 0 → (x : X) → R (bandLists t from to cs ps ss) x x
@@ -211,23 +205,46 @@ module _ {X : Type 0} (R : Lists → X → X → Type 0) (o : Onward R) (cs ps s
           ∙ pass-append (replicate (i - from) t) (t ∷ []) (drop from cs) (drop from ps) (drop from ss) (short cs (h .coefficients)) (short ps (h .previous)) (short ss (h .sign))
           ∙ ap (joined (bandLists t from i cs ps ss)) (one _ _ _ _ _ _ (here cs c (h .coefficients) u) (here ps p (h .previous) v) (here ss s (h .sign) w))
 
-  -- a band more
-  pub band-next : (e : Bool) (prev curr : List ℕ) (b from to : ℕ) (t : Step) → Next e prev curr b from to t → Long cs → Long ps → Long ss → (x y z : X)
-      → R (passLists (perPlaceTo e (stepOf prev curr) b) cs ps ss) x y → R (bandLists t from to cs ps ss) y z → R (passLists (perPlaceTo e (stepOf prev curr) (b + 1)) cs ps ss) x z
-  band-next e prev curr b from to t p h j k x y z before now =
+-- ════ band by band ════
+
+-- what went over the places of the first b bands, and a bound by their number
+pub record Reached {X : Type 0} (R : Lists → X → X → Type 0) (B : X → ℕ → Type 0) (cs ps ss : List ℤ) (e : Bool) (prev curr : List ℕ) (b : ℕ) (x y : X) : Type 0 where
+  pub over : R (passLists (perPlaceTo e (stepOf prev curr) b) cs ps ss) x y
+  pub bound : B y (length (perPlaceTo e (stepOf prev curr) b))
+
+module _ {X : Type 0} (R : Lists → X → X → Type 0) (o : Placewise R) (B : X → ℕ → Type 0) (cs ps ss : List ℤ) (e : Bool) (prev curr : List ℕ) where
+  pub reached-none : (x : X) → B x 0 → Reached R B cs ps ss e prev curr 0 x x
+  reached-none x h =
+      let n = place-none e (stepOf prev curr) in
+      record {
+        over = subst (λ (l : Lists). R l x x) (sym (ap (λ (ts : List Step). passLists ts cs ps ss) n ∙ no-places cs ps ss)) (o .none x);
+        bound = subst (B x) (sym (ap length n)) h;
+      }
+
+  pub bound-before : (b from to : ℕ) (t : Step) (x y : X) → Next e prev curr b from to t → Reached R B cs ps ss e prev curr b x y → B y from
+  bound-before b from to t x y p r = subst (B y) (before p) (r .bound)
+
+  pub reached-next : (b from to : ℕ) (t : Step) (x y z : X) → Next e prev curr b from to t → Long cs → Long ps → Long ss → Reached R B cs ps ss e prev curr b x y
+      → R (bandLists t from to cs ps ss) y z × B z to → Reached R B cs ps ss e prev curr (b + 1) x z
+  reached-next b from to t x y z p h j k r now =
       let f = stepOf prev curr in
       let ts = perPlaceTo e f b in
       let us = replicate (to - from) (f b) in
-      let n : length ts ≡ from = places-before e prev curr b from to t p in
+      let n : length ts ≡ from = before p in
       let m : length ts ≤ 4096 = omega (arith, n, p .lies .begins, band-within e b) in
-      subst (λ (l : Lists). R l x z)
-      (sym
-      (ap (λ (l : List Step). passLists l cs ps ss) (place-more e f b from to (p .lies))
-      ∙ pass-append ts us cs ps ss (omega arith) (omega arith) (omega arith)
-      ∙ ap (λ (i : ℕ). joined (passLists ts cs ps ss) (passLists us (drop i cs) (drop i ps) (drop i ss))) n
-      ∙ ap (λ (u : Step). joined (passLists ts cs ps ss) (bandLists u from to cs ps ss)) (sym (p .step))))
-      (o .then (passLists ts cs ps ss) (bandLists t from to cs ps ss) x y z before now)
+      record {
+        over = subst (λ (l : Lists). R l x z)
+            (sym
+            (ap (λ (l : List Step). passLists l cs ps ss) (place-more e f b from to (p .lies))
+            ∙ pass-append ts us cs ps ss (omega arith) (omega arith) (omega arith)
+            ∙ ap (λ (i : ℕ). joined (passLists ts cs ps ss) (passLists us (drop i cs) (drop i ps) (drop i ss))) n
+            ∙ ap (λ (u : Step). joined (passLists ts cs ps ss) (bandLists u from to cs ps ss)) (sym (p .step))))
+            (o .then (passLists ts cs ps ss) (bandLists t from to cs ps ss) x y z (r .over) (now .0));
+        bound = subst (B z) (with-it p) (now .1);
+      }
 
   -- all bands are the pass
-  pub pass-all : (e : Bool) (prev curr : List ℕ) (b : ℕ) → b ≡ 10 → (x y : X) → R (passLists (perPlaceTo e (stepOf prev curr) b) cs ps ss) x y → R (passLists (steps e prev curr) cs ps ss) x y
-  pass-all e prev curr b n x y = subst (λ (ts : List Step). R (passLists ts cs ps ss) x y) (ap (perPlaceTo e (stepOf prev curr)) n ∙ place-all e (stepOf prev curr))
+  pub reached-all : (b : ℕ) (x y : X) → b ≡ 10 → Reached R B cs ps ss e prev curr b x y → R (passLists (steps e prev curr) cs ps ss) x y × B y 4096
+  reached-all b x y n r =
+      let all = ap (perPlaceTo e (stepOf prev curr)) n ∙ place-all e (stepOf prev curr) in
+      (subst (λ (ts : List Step). R (passLists ts cs ps ss) x y) all (r .over), subst (B y) (ap length all ∙ place-whole e (stepOf prev curr)) (r .bound))
