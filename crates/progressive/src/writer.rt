@@ -192,7 +192,7 @@ fn measured_of(at: usize, bit_count: u8, kp: u8, zeros: usize) -> srl::encoder::
     }
 }
 
-// One place of a band that is not skipped.
+// One place of a band that is not skipped. Only a value that is not 0 is a branch: values are few where places are many.
 fn measure_place(
     start: srl::encoder::Measured,
     t: upgrade::BandStep,
@@ -204,11 +204,14 @@ fn measure_place(
     requires { ⌜ Width (t .width) × Measurable start i × (i < 4096) ⌝ }
     ensures { λ r. ⌜ Measures (placeLists (bandStep t) c p s) start r × Measurable r (i + 1) ⌝ }
 {
-    if upgrade::from_srl(t, s) {
-        let v = srl_difference(c, p, t.position);
-        return srl::encoder::measure_value(start, v, t.width);
+    let given = upgrade::from_srl(t, s);
+    let v = srl_difference(c, p, t.position);
+    let m = only_if(given, fixed::magnitude(v));
+    if m == 0 {
+        let zeros = start.zeros + (one_if(given) as usize);
+        return measured_of(start.at, start.bit_count, start.kp, zeros);
     }
-    start
+    srl::encoder::measure_value(start, v, t.width)
 }
 
 // All places of a band that is not skipped. The loop keeps the parts of what is measured, as `upgrade_band` does.
