@@ -4,6 +4,7 @@ ghost use mathlib.Core.Path.{_≡_};
 ghost use mathlib.Core.Bool.{true, false, _||_};
 ghost use Prim.Native.Nat.{_+_, _-_, _*_, _/_, _^_, _≤_, _<_, max};
 ghost use lib.Dec.{ltb};
+ghost use lib.IntN.{pos};
 ghost use lib.ListN.{length};
 ghost use lib.Seq.{sets};
 ghost use Rattle.bands.specs.Positions.{rowInDomain};
@@ -48,6 +49,13 @@ fn srl_difference(c: i16, p: i16, position: u8) -> i16
         fixed::shift_right_floor(c, position),
         fixed::shift_right_floor(p, position),
     )
+}
+
+// Whether two coefficients are alike at a position: then there is no difference.
+fn alike(c: i16, p: i16, position: u8) -> bool
+    ensures { λ r. ⌜ (r ≡ true → srlDifference position c p ≡ pos 0) ⌝ }
+{
+    fixed::shift_right_floor(c, position) == fixed::shift_right_floor(p, position)
 }
 
 // The number for the raw stream.
@@ -198,7 +206,7 @@ fn measured_of(at: usize, bit_count: u8, kp: u8, zeros: usize) -> srl::encoder::
     }
 }
 
-// One place of a band that is not skipped.
+// One place of a band that is not skipped. Most values are 0, so that is looked at first.
 fn measure_place(
     start: srl::encoder::Measured,
     t: upgrade::BandStep,
@@ -210,11 +218,14 @@ fn measure_place(
     requires { ⌜ Width (t .width) × Measurable start i × (i < 4096) ⌝ }
     ensures { λ r. ⌜ Measures (placeLists (bandStep t) c p s) start r × Measurable r (i + 1) ⌝ }
 {
-    if upgrade::from_srl(t, s) {
-        let v = srl_difference(c, p, t.position);
-        return srl::encoder::measure_value(start, v, t.width);
+    if !upgrade::from_srl(t, s) {
+        return start;
     }
-    start
+    if alike(c, p, t.position) {
+        return measured_of(start.at, start.bit_count, start.kp, start.zeros + 1);
+    }
+    let v = srl_difference(c, p, t.position);
+    srl::encoder::measure_value(start, v, t.width)
 }
 
 // All places of a band that is not skipped. The loop keeps the parts of what is measured, as `upgrade_band` does.
