@@ -395,7 +395,7 @@ fn sinks_of(
     }
 }
 
-// One place of a band that is not skipped.
+// One place of a band that is not skipped. Most values are 0, so that is looked at first.
 fn write_place(
     start: Sinks,
     t: upgrade::BandStep,
@@ -411,17 +411,28 @@ fn write_place(
 {
     let a = start.srl;
     let k = start.raw;
-    if upgrade::from_srl(t, s) {
-        let v = srl_difference(c, p, t.position);
+    if !upgrade::from_srl(t, s) {
+        let m = raw_difference(c, p, t.position);
         return Sinks {
-            srl: srl::encoder::put_value(srl_out, a, v, t.width),
+            srl: a,
+            raw: bits::writer::put_bits(raw_out, k, m as usize, t.width),
+        };
+    }
+    if alike(c, p, t.position) {
+        let sink = a.sink;
+        return Sinks {
+            srl: srl::encoder::CallState {
+                sink,
+                kp: a.kp,
+                zeros: a.zeros + 1,
+            },
             raw: k,
         };
     }
-    let m = raw_difference(c, p, t.position);
+    let v = srl_difference(c, p, t.position);
     Sinks {
-        srl: a,
-        raw: bits::writer::put_bits(raw_out, k, m as usize, t.width),
+        srl: srl::encoder::put_value(srl_out, a, v, t.width),
+        raw: k,
     }
 }
 
