@@ -8,12 +8,13 @@ use native.Mathlib.Nat.{zero-add, add-zero}
 use native.Mathlib.Omega.{arith}
 use borrow.Author.Tests.{lt-ltb, le-ltb, ltb-true, ltb-false}
 use lib.Dec.{ltb}
-use lib.IntN.{ℤ, pos, negsuc, natAbs, _-ℤ_}
+use lib.IntN.{ℤ, pos, negsuc, natAbs, _-ℤ_, +ℤ-invr}
 use lib.ListN.{length, set, length-append}
 use lib.Seq.{sets}
 use Rattle.fixed.specs.Fixed.{clampI16, floorShift}
 use Rattle.bits.specs.Written.{bitsOf, bitsOfAll, after, write, counted, pack, padCount, padOut}
 use Rattle.bits.specs.declared.writer.BitWriter.{BitWriter}
+use Rattle.bits.specs.declared.writer.BitCount.{BitCount}
 use Rattle.bits.proofs.Puts.{after-append, write-append, after-sound, after-at, wrote-sound, wrote-at, length-bitsOf}
 use Rattle.bits.proofs.Packed.{counted-none, counted-two, length-pack, sets-append, padded}
 use Rattle.srl.specs.Encode.{valueBits, valueKp, valueZeros, firstOf}
@@ -53,6 +54,11 @@ fault-by-size z (w ∷ ws) (pos (suc m) ∷ vs) h = judged w m (valuesFault 0 ws
 fault-by-size z (w ∷ ws) (negsuc m ∷ vs) h = judged w m (valuesFault 0 ws vs) (anyTooLarge ws vs) (fault-by-size 0 ws vs (omega arith))
 
 -- ════ how large ════
+
+-- where both coefficients are alike at the position, the value is 0
+pub no-difference : (q : ℕ) (c p : ℤ) → floorShift c q ≡ floorShift p q → srlDifference q c p ≡ pos 0
+unfolding clampI16
+no-difference q c p e = ap (λ (z : ℤ). clampI16 (z -ℤ floorShift p q)) e ∙ ap clampI16 (+ℤ-invr (floorShift p q))
 
 -- a value is one of sixteen bits
 pub difference-small : (q : ℕ) (c p : ℤ) → natAbs (srlDifference q c p) ≤ 32768
@@ -193,6 +199,10 @@ module _ (t : Step) (c p s : ℤ) (h : 1 ≤ t .width) where
 
   pub measures-raw : fromSrl t s ≡ false → (x : Measured) → Measures (placeLists t c p s) x x
   measures-raw q x = subst (λ (l : Lists). Measures l x x) (sym (place-raw t c p s h q)) (record { count = λ ws us. refl })
+
+-- a value 0 takes no bits, and one more zero is pending
+pub measured-zero : (w : ℕ) (p : Measured) → p .«bit_count» ≤ 7 → measuredOf (p .at) (p .«bit_count») (p .kp) (p .zeros + 1) ≡ valueMeasure w p (pos 0)
+measured-zero w p h = ap (λ (n : BitCount). measuredOf (n .at) (n .«bit_count») (p .kp) (p .zeros + 1)) (counted-none (placeOf p) h)
 
 -- what is measured can go on
 pub measurable-value : (w i : ℕ) (x y : Measured) (q : ℕ) (c p : ℤ) → y ≡ valueMeasure w x (srlDifference q c p) → Measurable x i → Measurable y (i + 1)

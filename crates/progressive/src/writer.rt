@@ -4,6 +4,7 @@ ghost use mathlib.Core.Path.{_≡_};
 ghost use mathlib.Core.Bool.{true, false, _||_};
 ghost use Prim.Native.Nat.{_+_, _-_, _*_, _/_, _^_, _≤_, _<_};
 ghost use lib.Dec.{ltb};
+ghost use lib.IntN.{pos};
 ghost use lib.ListN.{length};
 ghost use lib.Seq.{sets};
 ghost use Rattle.bands.specs.Positions.{rowInDomain};
@@ -48,6 +49,13 @@ fn srl_difference(c: i16, p: i16, position: u8) -> i16
         fixed::shift_right_floor(c, position),
         fixed::shift_right_floor(p, position),
     )
+}
+
+// Whether two coefficients are alike at a position: then there is no difference.
+fn alike(c: i16, p: i16, position: u8) -> bool
+    ensures { λ r. ⌜ (r ≡ true → srlDifference position c p ≡ pos 0) ⌝ }
+{
+    fixed::shift_right_floor(c, position) == fixed::shift_right_floor(p, position)
 }
 
 // The number for the raw stream.
@@ -192,7 +200,7 @@ fn measured_of(at: usize, bit_count: u8, kp: u8, zeros: usize) -> srl::encoder::
     }
 }
 
-// One place of a band that is not skipped. Only a value that is not 0 is a branch: values are few where places are many.
+// One place of a band that is not skipped. Most values are 0, so that is looked at first.
 fn measure_place(
     start: srl::encoder::Measured,
     t: upgrade::BandStep,
@@ -204,13 +212,13 @@ fn measure_place(
     requires { ⌜ Width (t .width) × Measurable start i × (i < 4096) ⌝ }
     ensures { λ r. ⌜ Measures (placeLists (bandStep t) c p s) start r × Measurable r (i + 1) ⌝ }
 {
-    let given = upgrade::from_srl(t, s);
-    let v = srl_difference(c, p, t.position);
-    let m = only_if(given, fixed::magnitude(v));
-    if m == 0 {
-        let zeros = start.zeros + (one_if(given) as usize);
-        return measured_of(start.at, start.bit_count, start.kp, zeros);
+    if !upgrade::from_srl(t, s) {
+        return start;
     }
+    if alike(c, p, t.position) {
+        return measured_of(start.at, start.bit_count, start.kp, start.zeros + 1);
+    }
+    let v = srl_difference(c, p, t.position);
     srl::encoder::measure_value(start, v, t.width)
 }
 
@@ -381,7 +389,7 @@ fn sinks_of(
     }
 }
 
-// One place of a band that is not skipped.
+// One place of a band that is not skipped. Most values are 0, so that is looked at first.
 fn write_place(
     start: Sinks,
     t: upgrade::BandStep,
@@ -397,17 +405,28 @@ fn write_place(
 {
     let a = start.srl;
     let k = start.raw;
-    if upgrade::from_srl(t, s) {
-        let v = srl_difference(c, p, t.position);
+    if !upgrade::from_srl(t, s) {
+        let m = raw_difference(c, p, t.position);
         return Sinks {
-            srl: srl::encoder::put_value(srl_out, a, v, t.width),
+            srl: a,
+            raw: bits::writer::put_bits(raw_out, k, m as usize, t.width),
+        };
+    }
+    if alike(c, p, t.position) {
+        let sink = a.sink;
+        return Sinks {
+            srl: srl::encoder::CallState {
+                sink,
+                kp: a.kp,
+                zeros: a.zeros + 1,
+            },
             raw: k,
         };
     }
-    let m = raw_difference(c, p, t.position);
+    let v = srl_difference(c, p, t.position);
     Sinks {
-        srl: a,
-        raw: bits::writer::put_bits(raw_out, k, m as usize, t.width),
+        srl: srl::encoder::put_value(srl_out, a, v, t.width),
+        raw: k,
     }
 }
 
