@@ -6,17 +6,17 @@ use Prim.Native.Nat.{ℕ, zero, suc, _+_, _-_, _*_, _/_, _^_, _≤_, _<_}
 use native.Mathlib.Nat.{zero-div, div-le-self, div-mul-le-self, div-lt-iff-lt-mul, le-div-iff-mul-le, mul-le-mul-right, add-mul}
 use native.Mathlib.Omega.{arith}
 use borrow.Author.Tests.{le-ltb, leb-true}
-use lib.IntN.{ℤ, pos, negsuc, negℤ, natAbs, _+ℤ_, _-ℤ_, _*ℤ_, +ℤ-idl, +ℤ-idr, negℤ-+ℤ}
+use lib.IntN.{ℤ, pos, negsuc, negℤ, natAbs, _+ℤ_, _-ℤ_, +ℤ-idl, +ℤ-idr, negℤ-+ℤ}
 use lib.ListN.{length}
 use lib.Pow.{pow-pos, pow-add}
 use lib.Signed.{mag}
-use Rattle.fixed.specs.Fixed.{clampI16, floorShift, isNegative, isZero, signOf, addScaled, subScaled, withSign}
+use Rattle.fixed.specs.Fixed.{clampI16, floorShift, isZero, signOf, addScaled, subScaled, withSign}
 use Rattle.fixed.proofs.Clamp.{clamp-same}
 use Rattle.fixed.proofs.Sign.{with-minus}
 use Rattle.bands.specs.Positions.{rowInDomain}
 use Rattle.bands.proofs.Every.{both-true}
 use Rattle.bands.proofs.Spread.{place-whole}
-use Rattle.bits.specs.Bits.{num, numbers}
+use Rattle.bits.specs.Bits.{numbers}
 use Rattle.bits.specs.Written.{bitsOf, bitsOfAll, pack}
 use Rattle.bits.proofs.Holds.{Holds, holds-append, num-holds, pack-holds}
 use Rattle.bits.proofs.Puts.{length-bitsOf}
@@ -27,7 +27,7 @@ use Rattle.srl.specs.Laws.{Legal, legal}
 use Rattle.srl.proofs.Back.{value-legal}
 use Rattle.srl.proofs.EncodedValues.{first-none}
 use Rattle.srl.proofs.Trip.{stream-values}
-use Rattle.progressive.specs.Upgrade.{Step, Source, skipped, srl, raw, source, sourceOf, steps, stepOf, srlWidth, srlWidths, rawWidth, rawWidths, srlCoefficient, srlSign, adds, rawCoefficient, signThen, signsAfter, coefficientThen, coefficientsAfter, srlValues, rawNumbers, longEnough, decodeCoefficients, decodeSigns}
+use Rattle.progressive.specs.Upgrade.{Step, Source, skipped, srl, raw, source, sourceOf, steps, stepOf, srlWidth, srlWidths, rawWidths, srlCoefficient, srlSign, adds, rawCoefficient, signThen, signsAfter, coefficientThen, coefficientsAfter, srlValues, rawNumbers, longEnough, decodeCoefficients, decodeSigns}
 use Rattle.progressive.specs.Encode.{srlDifference, rawDifference, srlGiven, srlDifferences, rawGiven, rawDifferences, srlStream, srlBytes, rawBytes, valuesFault, passFault, noRoomFor, encodeRefusal}
 use Rattle.progressive.specs.Laws.{Small, small, Sent, downward, towardZero, cut, cuts, cutSign, cutSigns, Onward, Regained, Regains, regained, PassRoundTrip}
 

@@ -2,11 +2,10 @@
 use mathlib.Core.Path.{_≡_, refl}
 use mathlib.Core.Bool.{Bool, true, false}
 use mathlib.Core.List.{List, [], _∷_}
-use Prim.Native.Nat.{ℕ}
 use lib.IntN.{ℤ, pos, negsuc}
 use Rattle.bits.specs.Bits.{num, numbers}
 use Rattle.bits.specs.Written.{bitsOfAll}
-use Rattle.fixed.specs.Fixed.{clampI16, addScaled, subScaled, isZero, isOne, signOf, roundShift, shiftLeftClamp}
+use Rattle.fixed.specs.Fixed.{clampI16, addScaled, subScaled, isZero, isOne, roundShift, shiftLeftClamp}
 use Rattle.bits.specs.Bits.{zeros}
 use Rattle.srl.specs.Srl.{values}
 use Rattle.srl.specs.Finish.{streamBits}

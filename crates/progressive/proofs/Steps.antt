@@ -1,12 +1,12 @@
 -- One place of a pass: what an SRL value and raw bits do there, as the code tells the cases apart.
-use mathlib.Core.Path.{_≡_, refl, sym, ap}
+use mathlib.Core.Path.{_≡_, refl, sym}
 use mathlib.Core.Bool.{Bool, true, false, cond, true≢false}
 use Prim.Native.Nat.{ℕ, zero, suc, _≤_}
 use native.Mathlib.Omega.{arith}
-use borrow.Author.Tests.{ltb-true, ltb-false}
+use borrow.Author.Tests.{ltb-true}
 use lib.IntN.{ℤ, pos, negsuc, natAbs}
 use Rattle.fixed.specs.Fixed.{addScaled, subScaled, isNegative, isZero, signOf}
-use Rattle.progressive.specs.Upgrade.{Step, Source, skipped, srl, raw, sourceOf, source, srlCoefficient, srlSign}
+use Rattle.progressive.specs.Upgrade.{Step, skipped, srl, raw, sourceOf, source, srlCoefficient, srlSign}
 use Rattle.progressive.specs.Walk.{fromSrl}
 
 -- ════ an SRL value ════

@@ -4,7 +4,7 @@ use mathlib.Core.Path.{_≡_, refl, ap, sym, _∙_, subst}
 use mathlib.Core.Bool.{Bool, true, false, cond, _||_}
 use mathlib.Core.List.{List, [], _∷_, _++_, append-nil}
 use Prim.Native.Nat.{ℕ, zero, suc, _+_, _-_, _*_, _/_, _^_, _≤_, _<_}
-use native.Mathlib.Nat.{zero-add, add-zero}
+use native.Mathlib.Nat.{zero-add}
 use native.Mathlib.Omega.{arith}
 use borrow.Author.Tests.{lt-ltb, le-ltb, ltb-true, ltb-false}
 use lib.Dec.{ltb}
@@ -22,13 +22,13 @@ use Rattle.srl.specs.Finish.{flush, streamBits}
 use Rattle.srl.specs.EncodeInner.{valueState, valueWrite, valueMeasure, placeOf}
 use Rattle.srl.specs.declared.encoder.CallState.{CallState}
 use Rattle.srl.specs.declared.encoder.Measured.{Measured}
-use Rattle.srl.proofs.EncodedValues.{value-kp, value-zeros, zero-value}
+use Rattle.srl.proofs.EncodedValues.{value-kp, value-zeros}
 use Rattle.srl.proofs.Runs.{length-flush}
 use Rattle.srl.proofs.Sizes.{value-length}
 use Rattle.progressive.specs.Upgrade.{Step}
 use Rattle.progressive.specs.Encode.{srlDifference, rawDifference, valuesFault, srlStream, rawStream}
 use Rattle.progressive.specs.Walk.{fromSrl}
-use Rattle.progressive.specs.Writing.{Lists, placeLists, oneIf, onlyIf, anyTooLarge, magnitudes, measuredOf, endCount, Measures, Measurable, freshSinks, streamAfter, streamWrite, endLength, endOut, Outputs, outputs, Stores, Writable}
+use Rattle.progressive.specs.Writing.{Lists, placeLists, anyTooLarge, magnitudes, measuredOf, endCount, Measures, Measurable, freshSinks, streamAfter, streamWrite, endLength, endOut, Outputs, outputs, Stores, Writable}
 use Rattle.progressive.specs.declared.writer.Sinks.{Sinks}
 use Rattle.progressive.proofs.Placewise.{Placewise, chain, place-srl, place-raw}
 
@@ -217,25 +217,6 @@ measurable-value w i x y q c p e m =
 
 pub measurable-on : (p : Measured) (i j : ℕ) → i ≤ j → Measurable p i → Measurable p j
 measurable-on p i j h m = record { good = m .good; early = omega (arith, m .early); few = omega (arith, m .few) }
-
--- a place that has nothing to measure: its number goes to the raw stream, or its value is 0
-module _ (t : Step) (c p s : ℤ) (i : ℕ) (x y : Measured) (h : 1 ≤ t .width) (m : Measurable x i) where
-  pub measures-nothing : (g : Bool) → fromSrl t s ≡ g → onlyIf g (natAbs (srlDifference (t .position) c p)) ≡ 0
-      → y ≡ measuredOf (x .at) (x .«bit_count») (x .kp) (x .zeros + oneIf g) → Measures (placeLists t c p s) x y × Measurable y (i + 1)
-  measures-nothing true q k e =
-      let v = srlDifference (t .position) c p in
-      let n = counted-none (placeOf x) (m .good .0) in
-      let d : y ≡ valueMeasure (t .width) x v =
-      e ∙ (λ j. record { at = n j .at; «bit_count» = n j .«bit_count»; kp = x .kp; zeros = x .zeros + 1 }) ∙ ap (valueMeasure (t .width) x) (sym (zero-value v k)) in
-      (measures-srl t c p s h q x y d, measurable-value (t .width) i x y (t .position) c p d m)
-  measures-nothing false q k e =
-      let d : y ≡ x = e ∙ ap (measuredOf (x .at) (x .«bit_count») (x .kp)) (add-zero (x .zeros)) in
-      (subst (Measures (placeLists t c p s) x) (sym d) (measures-raw t c p s h q x), subst (λ (z : Measured). Measurable z (i + 1)) (sym d) (measurable-on x i (i + 1) (omega arith) m))
-
--- and one that has
-pub only-some : (g : Bool) (m : ℕ) → (onlyIf g m ≡ 0 → ⊥) → g ≡ true
-only-some true m h = refl
-only-some false m h = absurd (h refl)
 
 -- ════ storing, place by place ════
 

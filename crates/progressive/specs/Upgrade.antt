@@ -6,7 +6,7 @@ use Prim.Native.Nat.{ℕ, zero, suc, _-_}
 use lib.Dec.{eqb, leb}
 use lib.IntN.{ℤ, pos, negsuc}
 use lib.ListN.{length, getD}
-use Rattle.fixed.specs.Fixed.{addScaled, subScaled, isZero, isOne, signOf}
+use Rattle.fixed.specs.Fixed.{addScaled, subScaled, isZero, isOne}
 use Rattle.bands.specs.Bands.{perPlace}
 use Rattle.bands.specs.Positions.{rowInDomain}
 use Rattle.bits.specs.Bits.{numbers}

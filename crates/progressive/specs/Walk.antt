@@ -9,7 +9,6 @@ use Rattle.fixed.specs.Fixed.{isZero}
 use Rattle.bits.specs.Bits.{num, bitsRead}
 use Rattle.srl.specs.Srl.{Reader, nextValue, nextReader}
 use Rattle.srl.specs.Decode.{opened}
-use Rattle.srl.specs.declared.SrlState.{SrlState}
 use Rattle.progressive.specs.Upgrade.{Step, Source, skipped, srl, raw, source, srlCoefficient, srlSign, adds, rawCoefficient}
 use Rattle.progressive.specs.declared.upgrade.Readers.{Readers}
 use Rattle.progressive.specs.declared.upgrade.BandStep.{BandStep}

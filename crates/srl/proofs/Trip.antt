@@ -17,7 +17,7 @@ use Rattle.bits.specs.Written.{bitsOf}
 use Rattle.bits.proofs.Holds.{Holds, holds-append, zeros-one, zeros-all, num-holds}
 use Rattle.bits.proofs.Puts.{length-bitsOf}
 use Rattle.srl.specs.Srl.{reader, start, mostZeros, nonzero, behind, codeWord, values}
-use Rattle.srl.specs.Encode.{stop, nonzeroBits, runBits, runKp, valueBits, valueKp, valueZeros}
+use Rattle.srl.specs.Encode.{stop, nonzeroBits, runBits, runKp}
 use Rattle.srl.specs.Finish.{flush, streamBits}
 use Rattle.srl.specs.Laws.{Legal, legal}
 use Rattle.srl.proofs.Codes.{code-zero, code-one}

@@ -99,7 +99,7 @@ pub fn writer_of(c: CallState) -> SrlWriter
 // ---- the values' refusals
 
 // The refusal that a value causes, or 0.
-pub fn value_fault(zeros: usize, v: i16, num_bits: u8) -> u8
+fn value_fault(zeros: usize, v: i16, num_bits: u8) -> u8
     requires { ⌜ Width «num_bits» ⌝ }
     ensures { λ r. ⌜ r ≡ valueFault «num_bits» zeros v ⌝ }
 {

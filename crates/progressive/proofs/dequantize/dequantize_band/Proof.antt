@@ -1,6 +1,6 @@
 -- `progressive::dequantize::dequantize_band` meets its contract: after i turns the first i are dequantized. Assumes nothing.
 use mathlib.Core.Path.{_≡_, refl, sym, ap, _∙_}
-use Prim.Native.Nat.{ℕ, _-_, _≤_}
+use Prim.Native.Nat.{_-_, _≤_}
 use native.Mathlib.Omega.{arith}
 use lib.IntN.{pos}
 use lib.ListN.{length, getD, set, replicate, length-set}

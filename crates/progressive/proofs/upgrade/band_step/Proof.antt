@@ -3,7 +3,6 @@ use mathlib.Core.Path.{ap}
 use Prim.Native.Nat.{ℕ}
 use lib.Dec.{eqb}
 use borrow.Author.Needs.{needs}
-use Rattle.progressive.specs.Upgrade.{Step}
 use Rattle.progressive.proofs.upgrade.band_step.Statement.{statement}
 use Rattle.progressive.proofs.upgrade.band_step.Tie as tie
 

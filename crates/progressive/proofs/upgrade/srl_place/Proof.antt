@@ -1,6 +1,5 @@
 -- `progressive::upgrade::srl_place` meets its contract: a value 0 leaves both as they are. Assumes nothing.
 use mathlib.Core.Path.{_≡_, sym, ap, ap₂, _∙_}
-use mathlib.Core.Bool.{false}
 use lib.IntN.{pos}
 use lib.ListN.{getD, set}
 use mir.Syntax.{w8, w16}
