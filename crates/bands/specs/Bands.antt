@@ -11,6 +11,7 @@ infix 70 _by_
 pub data Size : Type 0 where
   _by_ : ℕ → ℕ → Size
 
+-- a band by its three parts
 abbrev pub band : ℕ → ℕ → ℕ → BandInfo
 band width height offset = record { width = width; height = height; offset = offset }
 

@@ -27,8 +27,9 @@ use Rattle.srl.specs.Laws.{Legal, legal}
 use Rattle.srl.proofs.Back.{value-legal}
 use Rattle.srl.proofs.EncodedValues.{first-none}
 use Rattle.srl.proofs.Trip.{stream-values}
-use Rattle.progressive.specs.Upgrade.{Step, Source, skipped, srl, raw, source, sourceOf, steps, stepOf, srlWidth, srlWidths, rawWidths, srlCoefficient, srlSign, adds, rawCoefficient, signThen, signsAfter, coefficientThen, coefficientsAfter, srlValues, rawNumbers, longEnough, decodeCoefficients, decodeSigns}
+use Rattle.progressive.specs.Upgrade.{Step, Source, skipped, srl, raw, source, sourceOf, steps, stepOf, srlWidths, rawWidths, srlCoefficient, srlSign, adds, rawCoefficient, signThen, signsAfter, coefficientThen, coefficientsAfter, srlValues, rawNumbers, longEnough, decodeCoefficients, decodeSigns}
 use Rattle.progressive.specs.Encode.{srlDifference, rawDifference, srlGiven, srlDifferences, rawGiven, rawDifferences, srlStream, srlBytes, rawBytes, valuesFault, passFault, noRoomFor, encodeRefusal}
+use Rattle.progressive.proofs.Placewise.{same-length}
 use Rattle.progressive.specs.Laws.{Small, small, Sent, downward, towardZero, cut, cuts, cutSign, cutSigns, Onward, Regained, Regains, regained, PassRoundTrip}
 
 -- ════ a place with an SRL value ════
@@ -126,25 +127,6 @@ raw-cut false q c p o =
 
 -- ════ the values and numbers that were written are read back ════
 
--- a value and a width for each other
-same-count : (ts : List Step) (cs ps ss : List ℤ) → length ts ≤ length cs → length ts ≤ length ps → length ts ≤ length ss
-    → length (srlDifferences ts cs ps ss) ≡ length (srlWidths ts ss)
-unfolding srlDifferences srlWidths
-same-count [] cs ps ss a b d = refl
-same-count (t ∷ ts) [] ps ss a b d = absurd (omega arith)
-same-count (t ∷ ts) (c ∷ cs) [] ss a b d = absurd (omega arith)
-same-count (t ∷ ts) (c ∷ cs) (p ∷ ps) [] a b d = absurd (omega arith)
-same-count (t ∷ ts) (c ∷ cs) (p ∷ ps) (s ∷ ss) a b d = by (source t s) (same-count ts cs ps ss (omega arith) (omega arith) (omega arith))
-  where
-    v : ℤ
-    v = srlDifference (t .position) c p
-
-    by : (o : Source) → length (srlDifferences ts cs ps ss) ≡ length (srlWidths ts ss)
-        → length (srlGiven o v (srlDifferences ts cs ps ss)) ≡ length (srlWidth o (t .width) (srlWidths ts ss))
-    by skipped e = e
-    by srl e = ap suc e
-    by raw e = e
-
 all-legal : (z : ℕ) (ws : List ℕ) (vs : List ℤ) → length vs ≡ length ws → valuesFault z ws vs ≡ 0 → Legal ws vs
 unfolding valuesFault
 all-legal z [] [] l e = Legal.none
@@ -172,7 +154,7 @@ read-numbers (small {w = w} {m = m} {ws = ws} {ms = ms} l ls) s n h =
 
 values-back : (ts : List Step) (cs ps ss : List ℤ) → Sent ts cs ps ss → srlValues ts (srlBytes ts cs ps ss) ss ≡ srlDifferences ts cs ps ss
 values-back ts cs ps ss h =
-    let same = same-count ts cs ps ss (h .coefficients-long) (h .previous-long) (h .signs-long) in
+    let same = sym (same-length ts cs ps ss (h .coefficients-long) (h .previous-long) (h .signs-long)) in
     read-values (srlWidths ts ss) (srlDifferences ts cs ps ss) (all-legal 0 (srlWidths ts ss) (srlDifferences ts cs ps ss) same (h .srl-fits))
 
 numbers-back : (ts : List Step) (cs ps ss : List ℤ) → Sent ts cs ps ss → rawNumbers ts (rawBytes ts cs ps ss) ss ≡ rawDifferences ts cs ps ss

@@ -33,5 +33,6 @@ dequantizeRefusal quant cs = cond (longEnough cs) (cond (rowInDomain quant) 0 2)
 abbrev pub dequantizeAnswer : List ℕ → List ℤ → Answer
 dequantizeAnswer quant cs = answered (dequantizeRefusal quant cs)
 
+-- the coefficients then
 abbrev pub dequantizeOut : Bool → List ℕ → List ℤ → List ℤ
 dequantizeOut e quant cs = unlessRefused (dequantizeRefusal quant cs) (dequantizedAll (quantizers e quant) cs) cs

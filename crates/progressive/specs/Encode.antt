@@ -34,6 +34,7 @@ srlGiven skipped v vs = vs
 srlGiven srl v vs = v ∷ vs
 srlGiven raw v vs = vs
 
+-- of all places, where all three lists have one
 unfoldable pub srlDifferences : List Step → List ℤ → List ℤ → List ℤ → List ℤ
 srlDifferences [] cs ps ss = []
 srlDifferences (t ∷ ts) [] ps ss = []
@@ -48,6 +49,7 @@ rawGiven skipped m ms = ms
 rawGiven srl m ms = ms
 rawGiven raw m ms = m ∷ ms
 
+-- of all places, where all three lists have one
 unfoldable pub rawDifferences : List Step → List ℤ → List ℤ → List ℤ → List ℕ
 rawDifferences [] cs ps ss = []
 rawDifferences (t ∷ ts) [] ps ss = []
@@ -71,6 +73,7 @@ rawStream ws ms = pack 0 0 (bitsOfAll ws ms)
 abbrev pub srlBytes : List Step → List ℤ → List ℤ → List ℤ → List ℕ
 srlBytes ts cs ps ss = srlStream (srlWidths ts ss) (srlDifferences ts cs ps ss)
 
+-- and its raw stream
 abbrev pub rawBytes : List Step → List ℤ → List ℤ → List ℤ → List ℕ
 rawBytes ts cs ps ss = rawStream (rawWidths ts ss) (rawDifferences ts cs ps ss)
 
@@ -82,6 +85,7 @@ valuesFault z [] vs = 0
 valuesFault z (w ∷ ws) [] = 0
 valuesFault z (w ∷ ws) (v ∷ vs) = firstOf (valueFault w z v) (valuesFault (valueZeros z v) ws vs)
 
+-- of a pass, from none pending on
 abbrev pub passFault : List Step → List ℤ → List ℤ → List ℤ → ℕ
 passFault ts cs ps ss = valuesFault 0 (srlWidths ts ss) (srlDifferences ts cs ps ss)
 
@@ -107,16 +111,19 @@ abbrev pub written : ℕ → ℕ → ℕ → Written
 written zero n m = Bytes n m
 written (suc k) n m = Refused (suc k)
 
+-- the answer: how many bytes of each stream, or a refusal
 abbrev pub encodeAnswer : List ℤ → List ℤ → List ℕ → List ℕ → List ℤ → Bool → List ℕ → List ℕ → Written
 encodeAnswer cs ps prev curr ss e srlOut rawOut =
     written (encodeRefusal cs ps prev curr ss e srlOut rawOut)
     (length (srlBytes (steps e prev curr) cs ps ss))
     (length (rawBytes (steps e prev curr) cs ps ss))
 
+-- the SRL output then; "on acceptance, elements past the answer are untouched"
 abbrev pub encodeSrlOut : List ℤ → List ℤ → List ℕ → List ℕ → List ℤ → Bool → List ℕ → List ℕ → List ℕ
 encodeSrlOut cs ps prev curr ss e srlOut rawOut =
     stored (encodeRefusal cs ps prev curr ss e srlOut rawOut) (srlBytes (steps e prev curr) cs ps ss) srlOut
 
+-- the raw output then
 abbrev pub encodeRawOut : List ℤ → List ℤ → List ℕ → List ℕ → List ℤ → Bool → List ℕ → List ℕ → List ℕ
 encodeRawOut cs ps prev curr ss e srlOut rawOut =
     stored (encodeRefusal cs ps prev curr ss e srlOut rawOut) (rawBytes (steps e prev curr) cs ps ss) rawOut
@@ -126,10 +133,12 @@ abbrev pub writtenNumber : Written → ℕ
 writtenNumber (Bytes n m) = 0
 writtenNumber (Refused k) = k
 
+-- the bytes of the SRL stream; "zero lengths" with a refusal
 abbrev pub srlCount : Written → ℕ
 srlCount (Bytes n m) = n
 srlCount (Refused k) = 0
 
+-- the bytes of the raw stream
 abbrev pub rawCount : Written → ℕ
 rawCount (Bytes n m) = m
 rawCount (Refused k) = 0

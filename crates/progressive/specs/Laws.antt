@@ -42,6 +42,7 @@ cut skipped q c p = p
 cut srl q c p = downward q c
 cut raw q c p = towardZero q c
 
+-- of all places; what stands past the steps stays
 unfoldable pub cuts : List Step → List ℤ → List ℤ → List ℤ → List ℤ
 cuts [] cs ps ss = ps
 cuts (t ∷ ts) [] ps ss = ps
@@ -55,6 +56,7 @@ cutSign skipped q c s = s
 cutSign srl q c s = signOf (floorShift c q)
 cutSign raw q c s = s
 
+-- of all places
 unfoldable pub cutSigns : List Step → List ℤ → List ℤ → List ℤ
 cutSigns [] cs ss = ss
 cutSigns (t ∷ ts) [] ss = ss
@@ -81,12 +83,14 @@ Regained skipped t c p s = Unit {0}
 Regained srl t c p s = (p ≡ pos 0) × (mag c < 32768) × (t .position ≤ 15)
 Regained raw t c p s = Onward (adds t s) (t .position) c p
 
+-- at every place of a list of steps
 pub data Regains : List Step → List ℤ → List ℤ → List ℤ → Type 0 where
   none : {cs ps ss : List ℤ} → Regains [] cs ps ss
   regained : {t : Step} {c p s : ℤ} {ts : List Step} {cs ps ss : List ℤ} → Regained (source t s) t c p s → Regains ts cs ps ss → Regains (t ∷ ts) (c ∷ cs) (p ∷ ps) (s ∷ ss)
 
 -- ════ the law ════
 
+-- what was written is read back, and what that makes of a component
 pub record PassRoundTrip : Type 0 where
   -- the reader gets every value that the writer sent
   pub values : (ts : List Step) (cs ps ss : List ℤ) → Sent ts cs ps ss → srlValues ts (srlBytes ts cs ps ss) ss ≡ srlDifferences ts cs ps ss

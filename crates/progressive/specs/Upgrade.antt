@@ -26,6 +26,7 @@ pub record Step : Type 0 where
 abbrev pub stepAt : ℕ → ℕ → ℕ → Step
 stepAt b p q = record { bottom = eqb b 9; width = p - q; position = q }
 
+-- of the band b of two rows, "a row is ten positions, in band order"
 abbrev pub stepOf : List ℕ → List ℕ → ℕ → Step
 stepOf prev curr b = stepAt b (getD prev b 0) (getD curr b 0)
 
@@ -49,6 +50,7 @@ sourceOf true (suc w) unknown = raw
 sourceOf false (suc w) true = srl
 sourceOf false (suc w) false = raw
 
+-- of a place with this step and this sign
 abbrev pub source : Step → ℤ → Source
 source t s = sourceOf (t .bottom) (t .width) (isZero s)
 
@@ -58,6 +60,7 @@ srlWidth skipped w ws = ws
 srlWidth srl w ws = w ∷ ws
 srlWidth raw w ws = ws
 
+-- of all places: "band by band, one for each zero sign outside the bottom"
 unfoldable pub srlWidths : List Step → List ℤ → List ℕ
 srlWidths [] ss = []
 srlWidths (t ∷ ts) [] = []
@@ -69,6 +72,7 @@ rawWidth skipped w ws = ws
 rawWidth srl w ws = ws
 rawWidth raw w ws = w ∷ ws
 
+-- of all places
 unfoldable pub rawWidths : List Step → List ℤ → List ℕ
 rawWidths [] ss = []
 rawWidths (t ∷ ts) [] = []
@@ -92,6 +96,7 @@ srlSign (negsuc m) s = negsuc 0
 abbrev pub adds : Step → ℤ → Bool
 adds t s = t .bottom || isOne s
 
+-- the coefficient after raw bits that form the number m; "sums clamp to -32768..32767"
 abbrev pub rawCoefficient : Bool → ℕ → ℕ → ℤ → ℤ
 rawCoefficient true q m c = addScaled c m q
 rawCoefficient false q m c = subScaled c m q
@@ -105,6 +110,7 @@ signThen raw s vs rest = s ∷ rest vs
 signThen srl s [] rest = s ∷ rest []
 signThen srl s (v ∷ vs) rest = srlSign v s ∷ rest vs
 
+-- all signs, by the SRL values; those past the steps stay
 unfoldable pub signsAfter : List Step → List ℤ → List ℤ → List ℤ
 signsAfter [] ss vs = ss
 signsAfter (t ∷ ts) [] vs = []
@@ -118,6 +124,7 @@ coefficientThen srl t c s (v ∷ vs) ms rest = srlCoefficient (t .position) v c 
 coefficientThen raw t c s vs [] rest = c ∷ rest vs []
 coefficientThen raw t c s vs (m ∷ ms) rest = rawCoefficient (adds t s) (t .position) m c ∷ rest vs ms
 
+-- all coefficients, by the SRL values and the raw numbers; those past the steps stay
 unfoldable pub coefficientsAfter : List Step → List ℤ → List ℤ → List ℤ → List ℕ → List ℤ
 coefficientsAfter [] cs ss vs ms = cs
 coefficientsAfter (t ∷ ts) [] ss vs ms = []
@@ -134,9 +141,11 @@ srlValues ts srlData ss = values srlData (srlWidths ts ss) start
 abbrev pub rawNumbers : List Step → List ℕ → List ℤ → List ℕ
 rawNumbers ts rawData ss = numbers rawData (rawWidths ts ss) 0
 
+-- the signs after a pass
 abbrev pub upgradedSigns : List Step → List ℕ → List ℤ → List ℤ
 upgradedSigns ts srlData ss = signsAfter ts ss (srlValues ts srlData ss)
 
+-- the coefficients after it
 abbrev pub upgradedCoefficients : List Step → List ℕ → List ℕ → List ℤ → List ℤ → List ℤ
 upgradedCoefficients ts srlData rawData cs ss =
     coefficientsAfter ts cs ss (srlValues ts srlData ss) (rawNumbers ts rawData ss)
@@ -169,13 +178,16 @@ numberOf (Refused k) = k
 
 -- ════ what `decode_upgrade_pass` answers, and what it leaves in the two slices ════
 
+-- the answer: "stream bytes never cause [a refusal]", so they are not among its arguments
 abbrev pub decodeAnswer : List ℕ → List ℕ → List ℤ → List ℤ → Answer
 decodeAnswer prev curr cs ss = answered (passRefusal prev curr cs ss)
 
+-- the coefficients then
 abbrev pub decodeCoefficients : List ℕ → List ℕ → List ℕ → List ℕ → Bool → List ℤ → List ℤ → List ℤ
 decodeCoefficients srlData rawData prev curr e cs ss =
     unlessRefused (passRefusal prev curr cs ss) (upgradedCoefficients (steps e prev curr) srlData rawData cs ss) cs
 
+-- the signs then
 abbrev pub decodeSigns : List ℕ → List ℕ → List ℕ → Bool → List ℤ → List ℤ → List ℤ
 decodeSigns srlData prev curr e cs ss =
     unlessRefused (passRefusal prev curr cs ss) (upgradedSigns (steps e prev curr) srlData ss) ss

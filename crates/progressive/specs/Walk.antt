@@ -20,27 +20,32 @@ pub record Walked : Type 0 where
   pub srl : Reader
   pub raw : ℕ
 
+-- by its four parts
 abbrev pub walked : List ℤ → List ℤ → Reader → ℕ → Walked
 walked cs ss r n = record { coefficients = cs; sign = ss; srl = r; raw = n }
 
 -- ════ one place ════
 
 module _ (srlData rawData : List ℕ) (t : Step) where
+  -- the coefficient after the step, by where its value comes from
   abbrev pub coefficientAt : Source → ℤ → ℤ → Reader → ℕ → ℤ
   coefficientAt skipped c s r n = c
   coefficientAt srl c s r n = srlCoefficient (t .position) (nextValue srlData (t .width) r) c
   coefficientAt raw c s r n = rawCoefficient (adds t s) (t .position) (num rawData n (t .width)) c
 
+  -- the sign
   abbrev pub signAt : Source → ℤ → Reader → ℤ
   signAt skipped s r = s
   signAt srl s r = srlSign (nextValue srlData (t .width) r) s
   signAt raw s r = s
 
+  -- the SRL reader
   abbrev pub readerAt : Source → Reader → Reader
   readerAt skipped r = r
   readerAt srl r = nextReader srlData (t .width) r
   readerAt raw r = r
 
+  -- the count of raw bits read
   abbrev pub countAt : Source → ℕ → ℕ
   countAt skipped n = n
   countAt srl n = n
@@ -52,6 +57,7 @@ module _ (srlData rawData : List ℕ) (t : Step) where
 abbrev pub onto : ℤ → ℤ → Walked → Walked
 onto c s w = walked (c ∷ w .coefficients) (s ∷ w .sign) (w .srl) (w .raw)
 
+-- one step after another; what a list has past the steps stays
 unfoldable pub walk : List ℕ → List ℕ → List Step → List ℤ → List ℤ → Reader → ℕ → Walked
 walk srlData rawData [] cs ss r n = walked cs ss r n
 walk srlData rawData (t ∷ ts) [] ss r n = walked [] ss r n
@@ -71,6 +77,7 @@ steppedFrom o srlData rawData t i w =
     (readerAt srlData rawData t o (w .srl))
     (countAt srlData rawData t o (w .raw))
 
+-- the same, where the sign says where the value comes from
 abbrev pub stepped : List ℕ → List ℕ → Step → ℕ → Walked → Walked
 stepped srlData rawData t i w = steppedFrom (source t (getD (w .sign) i (pos 0))) srlData rawData t i w
 

@@ -33,6 +33,7 @@ pub record Lists : Type 0 where
   pub numbers : List ℕ
   pub numberWidths : List ℕ
 
+-- by its four parts
 abbrev pub lists : List ℤ → List ℕ → List ℕ → List ℕ → Lists
 lists vs ws ms ns = record { values = vs; widths = ws; numbers = ms; numberWidths = ns }
 
@@ -83,6 +84,7 @@ anyTooLarge [] vs = false
 anyTooLarge (w ∷ ws) [] = false
 anyTooLarge (w ∷ ws) (v ∷ vs) = ltb (2 ^ w - 1) (natAbs v) || anyTooLarge ws vs
 
+-- a survey by its three parts
 abbrev pub surveyOf : ℕ → ℕ → ℕ → Survey
 surveyOf n m k = record { count = n; sum = m; largest = k }
 
@@ -99,6 +101,7 @@ pub record Surveys (l : Lists) (x y : Total) : Type 0 where
   pub bits : (ns ms : List ℕ) → x .«raw_bits» + length (bitsOfAll (l .numberWidths ++ ns) (l .numbers ++ ms)) ≡ y .«raw_bits» + length (bitsOfAll ns ms)
   pub bad : (ws : List ℕ) (us : List ℤ) → (x .bad || anyTooLarge (l .widths ++ ws) (l .values ++ us)) ≡ (y .bad || anyTooLarge ws us)
 
+-- before the first place
 abbrev pub noTotal : Total
 noTotal = record { count = 0; sum = 0; «raw_bits» = 0; bad = false }
 
@@ -143,6 +146,7 @@ freshSinks = sinksOf 0 0 0 8 0 0 0 0
 abbrev pub streamAfter : CallState → List ℕ → List ℤ → BitWriter
 streamAfter c ws vs = after (c .sink) (streamBits (c .kp) (c .zeros) ws vs)
 
+-- the output then
 abbrev pub streamWrite : List ℕ → CallState → List ℕ → List ℤ → List ℕ
 streamWrite out c ws vs = write out (c .sink) (streamBits (c .kp) (c .zeros) ws vs)
 
@@ -152,6 +156,7 @@ pub record Outputs : Type 0 where
   pub rawOut : List ℕ
   pub sinks : Sinks
 
+-- by its three parts
 abbrev pub outputs : List ℕ → List ℕ → Sinks → Outputs
 outputs o p k = record { srlOut = o; rawOut = p; sinks = k }
 
@@ -174,6 +179,7 @@ abbrev pub endLength : ℕ → CallState → ℕ
 endLength zero c = 0
 endLength (suc n) c = padCount (after (c .sink) (flush (c .kp) (c .zeros))) + 1
 
+-- the output then: the pending zeros, the padding and a byte 0, unless there is no value
 abbrev pub endOut : ℕ → List ℕ → CallState → List ℕ
 endOut zero out c = out
 endOut (suc n) out c =
@@ -184,17 +190,21 @@ endOut (suc n) out c =
 
 -- ════ both streams: the answer, and what the two outputs hold then ════
 
+-- what is refused of what places give, or 0
 abbrev pub listsRefusal : Lists → List ℕ → List ℕ → ℕ
 listsRefusal l srlOut rawOut =
     firstOf (valuesFault 0 (l .widths) (l .values))
     (noRoomFor (srlStream (l .widths) (l .values)) srlOut (rawStream (l .numberWidths) (l .numbers)) rawOut)
 
+-- the answer
 abbrev pub listsAnswer : Lists → List ℕ → List ℕ → Written
 listsAnswer l srlOut rawOut =
     written (listsRefusal l srlOut rawOut) (length (srlStream (l .widths) (l .values))) (length (rawStream (l .numberWidths) (l .numbers)))
 
+-- the SRL output then
 abbrev pub listsSrlOut : Lists → List ℕ → List ℕ → List ℕ
 listsSrlOut l srlOut rawOut = stored (listsRefusal l srlOut rawOut) (srlStream (l .widths) (l .values)) srlOut
 
+-- the raw output then
 abbrev pub listsRawOut : Lists → List ℕ → List ℕ → List ℕ
 listsRawOut l srlOut rawOut = stored (listsRefusal l srlOut rawOut) (rawStream (l .numberWidths) (l .numbers)) rawOut

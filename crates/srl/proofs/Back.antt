@@ -47,7 +47,7 @@ calls-legal st (c ∷ cs) a =
 
 -- ════ the bits of calls are those of their values ════
 
-pub call-stream : (w kp z : ℕ) (vs : List ℤ) (ws : List ℕ) (us : List ℤ)
+call-stream : (w kp z : ℕ) (vs : List ℤ) (ws : List ℕ) (us : List ℤ)
     → streamBits kp z (replicate (length vs) w ++ ws) (vs ++ us) ≡ callBits w kp z vs ++ streamBits (callKp kp z vs) (callZeros z vs) ws us
 unfolding streamBits
 call-stream w kp z [] ws us = refl

@@ -19,16 +19,22 @@ use Rattle.srl.proofs.Nonzeros.{nonzero-le}
 use Rattle.srl.proofs.Runs.{length-run}
 use Rattle.srl.proofs.Widths.{pow-high}
 
--- a nonzero value of magnitude m + 1, and the run before it
-nonzero-small : (w kp z m : ℕ) (b : Bool) → kp ≤ 80 → _≡_ {A = ℕ} (cond (ltb m (2 ^ w - 1)) 0 5) 0 → length (runBits (suc z) kp z ++ nonzeroBits w b m) ≤ z + (2 ^ w + 11)
-nonzero-small w kp z m b h e =
+-- a value takes at most its magnitude and 12 bits, and a bit for each zero that was pending, whatever its width
+nonzero-length : (w kp z m : ℕ) (b : Bool) → kp ≤ 80 → length (runBits (suc z) kp z ++ nonzeroBits w b m) ≤ z + m + 13
+nonzero-length w kp z m b h =
     let n : m + 1 - 1 ≡ m = omega arith in
-    omega (arith, passes m (2 ^ w - 1) 4 e, length-append (runBits (suc z) kp z) (nonzeroBits w b m), length-run (suc z) kp z h, rw n at (nonzero-le w (m + 1) b (omega arith)))
+    omega (arith, length-append (runBits (suc z) kp z) (nonzeroBits w b m), length-run (suc z) kp z h, rw n at (nonzero-le w (m + 1) b (omega arith)))
 
+pub value-length : (w kp z : ℕ) (v : ℤ) → kp ≤ 80 → length (valueBits w kp z v) + valueZeros z v ≤ z + natAbs v + 12
+value-length w kp z (pos zero) h = omega arith
+value-length w kp z (pos (suc m)) h = omega (arith, nonzero-length w kp z m false h)
+value-length w kp z (negsuc m) h = omega (arith, nonzero-length w kp z m true h)
+
+-- at a width that admits it
 value-small : (w kp z : ℕ) (v : ℤ) → kp ≤ 80 → valueFault w z v ≡ 0 → length (valueBits w kp z v) + valueZeros z v ≤ z + (2 ^ w + 11)
 value-small w kp z (pos zero) h e = omega arith
-value-small w kp z (pos (suc m)) h e = omega (arith, nonzero-small w kp z m false h e)
-value-small w kp z (negsuc m) h e = omega (arith, nonzero-small w kp z m true h e)
+value-small w kp z (pos (suc m)) h e = omega (arith, value-length w kp z (pos (suc m)) h, passes m (2 ^ w - 1) 4 e)
+value-small w kp z (negsuc m) h e = omega (arith, value-length w kp z (negsuc m) h, passes m (2 ^ w - 1) 4 e)
 
 call-small : (w kp z : ℕ) (vs : List ℤ) → kp ≤ 80 → fault w z vs ≡ 0 → length (callBits w kp z vs) ≤ z + length vs * (2 ^ w + 11)
 call-small w kp z [] h e = omega arith
@@ -40,17 +46,6 @@ call-small w kp z (v ∷ vs) h e =
       value-small w kp z v h (f .0),
       call-small w (valueKp kp z v) (valueZeros z v) vs (value-kp kp z v h) (f .1),
     )
-
--- a value takes at most its magnitude and 12 bits, and a bit for each zero that was pending, whatever its width
-nonzero-length : (w kp z m : ℕ) (b : Bool) → kp ≤ 80 → length (runBits (suc z) kp z ++ nonzeroBits w b m) ≤ z + m + 13
-nonzero-length w kp z m b h =
-    let n : m + 1 - 1 ≡ m = omega arith in
-    omega (arith, length-append (runBits (suc z) kp z) (nonzeroBits w b m), length-run (suc z) kp z h, rw n at (nonzero-le w (m + 1) b (omega arith)))
-
-pub value-length : (w kp z : ℕ) (v : ℤ) → kp ≤ 80 → length (valueBits w kp z v) + valueZeros z v ≤ z + natAbs v + 12
-value-length w kp z (pos zero) h = omega arith
-value-length w kp z (pos (suc m)) h = omega (arith, nonzero-length w kp z m false h)
-value-length w kp z (negsuc m) h = omega (arith, nonzero-length w kp z m true h)
 
 -- where the room is more than that, the bytes fit
 pub surely : (w : ℕ) (st : SrlWriter) (vs : List ℤ) (room : ℕ) → GoodWriter st → fault w (st .«pending_zeros») vs ≡ 0
