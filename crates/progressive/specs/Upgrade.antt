@@ -166,8 +166,8 @@ abbrev pub answered : ℕ → Answer
 answered zero = Accepted
 answered (suc k) = Refused (suc k)
 
--- what a lent slice holds then: "a refusal .. alters no lent element"
-abbrev pub unlessRefused : ℕ → List ℤ → List ℤ → List ℤ
+-- what a lent slice holds then, or a tile: "a refusal gives .. the state handed in, and alters no lent element"
+abbrev pub unlessRefused : {A : Type 0} → ℕ → A → A → A
 unlessRefused zero new old = new
 unlessRefused (suc k) new old = old
 

@@ -1,0 +1,274 @@
+// A tile of three components, by value: made fresh, loaded, and upgraded pass by pass. A port of progressive.rs's `TileState`.
+// A refusal has a number (docs/SCOPE.md, "Refusals") and gives back the tile handed in.
+
+ghost use mathlib.Core.Path.{_≡_};
+ghost use mathlib.Core.Bool.{true, _&&_};
+ghost use Prim.Native.Nat.{_≤_, _<_};
+ghost use lib.Dec.{leb};
+ghost use lib.ListN.{length};
+ghost use Rattle.bands.specs.Positions.{rowInDomain, rowsInDomain};
+ghost use Rattle.tile.specs.Tile.{three, fresh, loaded, loadedBy, load, nextPass, upgraded, decodeUpgrade};
+
+mod flat;
+
+// A tile: 64 x 64 pixels, with what has arrived of them. Arrays are flat: three components (Y, Cb, Cr) of 4,096, three rows of ten.
+#[repr(C)]
+pub struct TileState {
+    pub coefficients: [i16; 12288],
+    pub sign: [i8; 12288],
+    pub prog_quant: [u8; 30],
+    pub quant_idx: [u8; 3],
+    pub base_quant: [u8; 30],
+    pub pass: u16,
+    pub is_difference: bool,
+    pub quality: u8,
+    pub use_reduce_extrapolate: bool,
+}
+
+// What `load` answers, and the tile: a fresh one where it refuses.
+pub struct Loaded {
+    pub answer: progressive::Answer,
+    pub tile: TileState,
+}
+
+// What `decode_upgrade` answers, and the tile then.
+pub struct Upgraded {
+    pub answer: progressive::Answer,
+    pub tile: TileState,
+}
+
+// The number of a tile's next pass.
+fn next_pass(pass: u16) -> u16
+    ensures { λ r. ⌜ r ≡ nextPass pass ⌝ }
+{
+    if pass < 65535 {
+        return pass + 1;
+    }
+    pass
+}
+
+// Whether no position or quantizer, given or in the tile, is above 15.
+fn in_domain(rows: [[u8; 10]; 3], positions: [u8; 30], quants: [u8; 30]) -> bool
+    ensures { λ r. ⌜ r ≡ (rowsInDomain rows && (rowInDomain positions && rowInDomain quants)) ⌝ }
+{
+    if !bands::rows_in_domain(rows) {
+        return false;
+    }
+    if !bands::positions_in_domain(&positions) {
+        return false;
+    }
+    bands::positions_in_domain(&quants)
+}
+
+// Whether three slices of these lengths have a component each.
+fn long_enough(y: usize, cb: usize, cr: usize) -> bool
+    ensures { λ r. ⌜ r ≡ (leb 4096 y && (leb 4096 cb && leb 4096 cr)) ⌝ }
+{
+    if y < 4096 {
+        return false;
+    }
+    if cb < 4096 {
+        return false;
+    }
+    cr >= 4096
+}
+
+// A load that is refused.
+fn not_loaded(refusal: u8) -> Loaded
+    requires { ⌜ 0 < refusal ⌝ }
+    ensures { λ r. ⌜ r ≡ loadedBy refusal fresh fresh ⌝ }
+{
+    Loaded {
+        answer: progressive::Answer::Refused(refusal),
+        tile: TileState::new(),
+    }
+}
+
+impl TileState {
+    // All bits of every band have arrived.
+    pub const LOSSLESS: [u8; 10] = [0; 10];
+
+    // The fresh tile.
+    pub fn new() -> TileState
+        ensures { λ r. ⌜ r ≡ fresh ⌝ }
+    {
+        let row = Self::LOSSLESS;
+        let rows = [row; 3];
+        let prog_quant = flat::flat_rows(rows);
+        Self {
+            coefficients: [0; 12288],
+            sign: [0; 12288],
+            prog_quant: prog_quant,
+            quant_idx: [0; 3],
+            base_quant: [6; 30],
+            pass: 0,
+            is_difference: false,
+            quality: 0,
+            use_reduce_extrapolate: false,
+        }
+    }
+
+    // A tile with the first 4,096 of each slice.
+    fn loaded(
+        y: &[i16],
+        y_sign: &[i8],
+        cb: &[i16],
+        cb_sign: &[i8],
+        cr: &[i16],
+        cr_sign: &[i8],
+        prog_quants: [[u8; 10]; 3],
+        base_quants: [[u8; 10]; 3],
+        use_reduce_extrapolate: bool,
+    ) -> TileState
+        requires { ⌜ (4096 ≤ length (now y)) × (4096 ≤ length (now cb)) × (4096 ≤ length (now cr)) × (4096 ≤ length (now «y_sign»)) × (4096 ≤ length (now «cb_sign»)) × (4096 ≤ length (now «cr_sign»)) ⌝ }
+        ensures { λ r. ⌜ r ≡ loaded (three (now (y .entry)) (now (cb .entry)) (now (cr .entry))) (three (now («y_sign» .entry)) (now («cb_sign» .entry)) (now («cr_sign» .entry))) «prog_quants» «base_quants» «use_reduce_extrapolate» ⌝ }
+    {
+        let mut coefficients: [i16; 12288] = [0; 12288];
+        let mut sign: [i8; 12288] = [0; 12288];
+        flat::load_coefficients(y, cb, cr, &mut coefficients);
+        flat::load_signs(y_sign, cb_sign, cr_sign, &mut sign);
+        let prog_quant = flat::flat_rows(prog_quants);
+        let base_quant = flat::flat_rows(base_quants);
+        Self {
+            coefficients: coefficients,
+            sign: sign,
+            prog_quant: prog_quant,
+            quant_idx: [0; 3],
+            base_quant: base_quant,
+            pass: 1,
+            is_difference: false,
+            quality: 0,
+            use_reduce_extrapolate: use_reduce_extrapolate,
+        }
+    }
+
+    // A tile after its first pass: the first 4,096 of each slice, with rows of positions and of base quantizers.
+    pub fn load(
+        y: &[i16],
+        y_sign: &[i8],
+        cb: &[i16],
+        cb_sign: &[i8],
+        cr: &[i16],
+        cr_sign: &[i8],
+        prog_quants: [[u8; 10]; 3],
+        base_quants: [[u8; 10]; 3],
+        use_reduce_extrapolate: bool,
+    ) -> Loaded
+        ensures { λ r. ⌜ r ≡ load (three (now (y .entry)) (now (cb .entry)) (now (cr .entry))) (three (now («y_sign» .entry)) (now («cb_sign» .entry)) (now («cr_sign» .entry))) «prog_quants» «base_quants» «use_reduce_extrapolate» ⌝ }
+    {
+        if !long_enough(y.len(), cb.len(), cr.len()) {
+            return not_loaded(1);
+        }
+        if !long_enough(y_sign.len(), cb_sign.len(), cr_sign.len()) {
+            return not_loaded(1);
+        }
+        if !bands::rows_in_domain(prog_quants) {
+            return not_loaded(2);
+        }
+        if !bands::rows_in_domain(base_quants) {
+            return not_loaded(2);
+        }
+        let e = use_reduce_extrapolate;
+        let tile = Self::loaded(
+            y,
+            y_sign,
+            cb,
+            cb_sign,
+            cr,
+            cr_sign,
+            prog_quants,
+            base_quants,
+            e,
+        );
+        Loaded {
+            answer: progressive::Answer::Accepted,
+            tile: tile,
+        }
+    }
+
+    // The tile after a pass.
+    fn upgraded(
+        self,
+        y_srl: &[u8],
+        y_raw: &[u8],
+        cb_srl: &[u8],
+        cb_raw: &[u8],
+        cr_srl: &[u8],
+        cr_raw: &[u8],
+        prog_quants: [[u8; 10]; 3],
+        quality: u8,
+    ) -> TileState
+        requires { ⌜ (rowInDomain (self .«prog_quant») ≡ true) × (rowsInDomain «prog_quants» ≡ true) ⌝ }
+        ensures { λ r. ⌜ r ≡ upgraded self (three (now («y_srl» .entry)) (now («cb_srl» .entry)) (now («cr_srl» .entry))) (three (now («y_raw» .entry)) (now («cb_raw» .entry)) (now («cr_raw» .entry))) «prog_quants» quality ⌝ }
+    {
+        let mut coefficients = self.coefficients;
+        let mut sign = self.sign;
+        let positions = self.prog_quant;
+        flat::upgrade_components(
+            y_srl,
+            y_raw,
+            cb_srl,
+            cb_raw,
+            cr_srl,
+            cr_raw,
+            positions,
+            prog_quants,
+            self.use_reduce_extrapolate,
+            &mut coefficients,
+            &mut sign,
+        );
+        let prog_quant = flat::flat_rows(prog_quants);
+        let quant_idx = self.quant_idx;
+        let base_quant = self.base_quant;
+        let pass = next_pass(self.pass);
+        Self {
+            coefficients: coefficients,
+            sign: sign,
+            prog_quant: prog_quant,
+            quant_idx: quant_idx,
+            base_quant: base_quant,
+            pass: pass,
+            is_difference: self.is_difference,
+            quality: quality,
+            use_reduce_extrapolate: self.use_reduce_extrapolate,
+        }
+    }
+
+    // One pass over the three components, from the tile's positions to those given, with two streams for each.
+    pub fn decode_upgrade(
+        self,
+        y_srl: &[u8],
+        y_raw: &[u8],
+        cb_srl: &[u8],
+        cb_raw: &[u8],
+        cr_srl: &[u8],
+        cr_raw: &[u8],
+        prog_quants: [[u8; 10]; 3],
+        quality: u8,
+    ) -> Upgraded
+        ensures { λ r. ⌜ r ≡ decodeUpgrade self (three (now («y_srl» .entry)) (now («cb_srl» .entry)) (now («cr_srl» .entry))) (three (now («y_raw» .entry)) (now («cb_raw» .entry)) (now («cr_raw» .entry))) «prog_quants» quality ⌝ }
+    {
+        let positions = self.prog_quant;
+        let quants = self.base_quant;
+        if !in_domain(prog_quants, positions, quants) {
+            return Upgraded {
+                answer: progressive::Answer::Refused(2),
+                tile: self,
+            };
+        }
+        let tile = self.upgraded(
+            y_srl,
+            y_raw,
+            cb_srl,
+            cb_raw,
+            cr_srl,
+            cr_raw,
+            prog_quants,
+            quality,
+        );
+        Upgraded {
+            answer: progressive::Answer::Accepted,
+            tile: tile,
+        }
+    }
+}
