@@ -136,7 +136,7 @@ all-legal z (w ∷ ws) (v ∷ vs) l e =
     let f = first-none (valueFault w z v) (valuesFault (valueZeros z v) ws vs) e in
     legal (value-legal w z v (f .0)) (all-legal (valueZeros z v) ws vs (omega (arith, l)) (f .1))
 
-read-values : (ws : List ℕ) (vs : List ℤ) → Legal ws vs → values (srlStream ws vs) ws start ≡ vs
+pub read-values : (ws : List ℕ) (vs : List ℤ) → Legal ws vs → values (srlStream ws vs) ws start ≡ vs
 unfolding values
 read-values [] [] l = refl
 read-values ws (v ∷ vs) l =
@@ -144,7 +144,7 @@ read-values ws (v ∷ vs) l =
     let s = pack 0 0 bits ++ (0 ∷ []) in
     stream-values l s (pack-holds bits s 0 0 0 (0 ∷ []) (omega arith) refl)
 
-read-numbers : {ws ms : List ℕ} → Small ws ms → (s : List ℕ) (n : ℕ) → Holds s n (bitsOfAll ws ms) → numbers s ws n ≡ ms
+pub read-numbers : {ws ms : List ℕ} → Small ws ms → (s : List ℕ) (n : ℕ) → Holds s n (bitsOfAll ws ms) → numbers s ws n ≡ ms
 unfolding numbers bitsOfAll
 read-numbers Small.none s n h = refl
 read-numbers (small {w = w} {m = m} {ws = ws} {ms = ms} l ls) s n h =

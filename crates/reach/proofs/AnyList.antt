@@ -1,0 +1,143 @@
+-- The theorem, by induction over the list of passes: whatever the streams hold (`always`), and all of it (`whole`).
+use mathlib.Core.Path.{_≡_, refl, sym, ap, subst}
+use mathlib.Core.Bool.{Bool, true, false, cond, _&&_}
+use mathlib.Core.List.{List, [], _∷_}
+use Prim.Native.Nat.{ℕ, zero, suc, _^_, _<_}
+use native.Mathlib.Omega.{arith}
+use lib.ListN.{length, getD}
+use Rattle.bands.specs.Positions.{rowInDomain, rowsInDomain}
+use Rattle.bands.proofs.Every.{both-true}
+use Rattle.progressive.specs.Upgrade.{unlessRefused}
+use Rattle.tile.specs.Tile.{component, rowOf, joined, of, three, upgraded, upgradeRefusal}
+use Rattle.tile.specs.declared.TileState.{TileState}
+use Rattle.reach.specs.Component.{bandsOf, ComponentGains}
+use Rattle.reach.specs.Reach.{TileFits, Pass, Call, after, passesOf, ThreeRows, AllRows, lastRows, Lower, NoRaise, lastOf, Picture, picture, TileGains, ThreeStreams, AllStreams, Reached, Exact, ReachablePictures}
+use Rattle.reach.proofs.Tiles.{tile-refl, tile-same, step-sound, step-fits, step-trans, step-whole, StreamsTo, Halfway, halfway}
+
+-- an accepted pass has its rows in the domain
+accepted-rows : (a b : Bool) → cond {A = ℕ} (a && b) 0 2 ≡ 0 → a ≡ true
+accepted-rows true b e = refl
+accepted-rows false b e = absurd (omega (arith, e))
+
+-- the tile that a call gives by its refusal, and its positions
+abbrev given : ℕ → TileState → Call → TileState
+given n t k = unlessRefused n (upgraded t (k .srlData) (k .rawData) (k .pass .rows) (k .pass .quality)) t
+
+abbrev positionsBy : ℕ → TileState → Pass → List ℕ
+positionsBy n t o = unlessRefused n (joined (of (o .rows))) (t .«prog_quant»)
+
+-- ════ whatever the streams hold ════
+
+-- the result is of the kind, and it fits
+pub record Holds (t : TileState) (last : List ℕ) (u : TileState) : Type 0 where
+  pub kind : TileGains t last (picture u)
+  pub positions : u .«prog_quant» ≡ last
+  pub fits : TileFits u
+
+module _ (k : Call) (ks : List Call) {t : TileState} (f : TileFits t) (w : ThreeRows (k .pass))
+    (ih : (u : TileState) → TileFits u → NoRaise (u .«base_quant») (u .«prog_quant») (passesOf ks) → Holds u (lastOf u (passesOf ks)) (after u ks)) where
+  always-step : (n : ℕ) → (n ≡ 0 → rowsInDomain (k .pass .rows) ≡ true) → (n ≡ 0 → Lower (t .«prog_quant») (joined (of (k .pass .rows))))
+      → NoRaise (t .«base_quant») (positionsBy n t (k .pass)) (passesOf ks)
+      → Holds t (lastRows (t .«base_quant») (positionsBy n t (k .pass)) (passesOf ks)) (after (given n t k) ks)
+  unfolding upgraded
+  always-step zero d l r =
+      let u = given zero t k in
+      let h = ih u (step-fits f (k .pass) w (l refl) (d refl) (k .srlData) (k .rawData)) r in
+      record { kind = step-trans f (k .pass) w (l refl) (k .srlData) (k .rawData) (lastOf u (passesOf ks)) (picture (after u ks)) (h .kind); positions = h .positions; fits = h .fits }
+  always-step (suc n) d l r = ih t f r
+
+refusal-rows : (positions quants : List ℕ) (o : Pass) → upgradeRefusal positions quants (o .rows) ≡ 0 → rowsInDomain (o .rows) ≡ true
+refusal-rows positions quants o e = accepted-rows (rowsInDomain (o .rows)) (rowInDomain positions && rowInDomain quants) e
+
+always : (ks : List Call) (t : TileState) → TileFits t → AllRows (passesOf ks) → NoRaise (t .«base_quant») (t .«prog_quant») (passesOf ks) → Holds t (lastOf t (passesOf ks)) (after t ks)
+unfolding lastRows NoRaise after
+always [] t f w n = record { kind = tile-refl f; positions = refl; fits = f }
+always (k ∷ ks) t f (AllRows.one w ws) n =
+    always-step k ks f w (λ u g r. always ks u g ws r) (upgradeRefusal (t .«prog_quant») (t .«base_quant») (k .pass .rows))
+    (refusal-rows (t .«prog_quant») (t .«base_quant») (k .pass)) (n .0) (n .1)
+
+-- ════ and all of it ════
+
+-- streams for a refused pass: none
+no-streams : List (List ℕ)
+no-streams = three [] [] []
+
+nothing : (k : ℕ) → of no-streams k ≡ []
+unfolding no-streams
+nothing zero = refl
+nothing (suc zero) = refl
+nothing (suc (suc zero)) = refl
+nothing (suc (suc (suc k))) = refl
+
+three-empty : ThreeStreams no-streams
+unfolding no-streams
+three-empty = record { three = refl; bytes = λ k h i. rw (nothing k) (omega arith); short = λ k h. rw (nothing k) (omega arith) }
+
+-- a first pass, and the rest
+record First (n : ℕ) (t : TileState) (o : Pass) (os : List Pass) (x : Picture) : Type 0 where
+  srlData : List (List ℕ)
+  rawData : List (List ℕ)
+  srl : ThreeStreams srlData
+  raw : ThreeStreams rawData
+  rest : Reached (given n t (record { pass = o; srlData = srlData; rawData = rawData })) os x
+
+module _ (o : Pass) (os : List Pass) {t : TileState} (f : TileFits t) (w : ThreeRows o) (x : Picture)
+    (ih : (u : TileState) → TileFits u → NoRaise (u .«base_quant») (u .«prog_quant») os → TileGains u (lastOf u os) x → Reached u os x) where
+  whole-step : (n : ℕ) → (n ≡ 0 → rowsInDomain (o .rows) ≡ true) → (n ≡ 0 → Lower (t .«prog_quant») (joined (of (o .rows))))
+      → NoRaise (t .«base_quant») (positionsBy n t o) os → TileGains t (lastRows (t .«base_quant») (positionsBy n t o) os) x → First n t o os x
+  unfolding upgraded
+  whole-step (suc n) d l r g = record { srlData = no-streams; rawData = no-streams; srl = three-empty; raw = three-empty; rest = ih t f r g }
+  whole-step zero d l r g = record { srlData = s .srlData; rawData = s .rawData; srl = s .srl; raw = s .raw; rest = ih u (step-fits f o w (l refl) (d refl) (s .srlData) (s .rawData)) r here }
+    where
+      last : List ℕ
+      last = lastRows (t .«base_quant») (joined (of (o .rows))) os
+
+      m : Halfway f o w (l refl) last x
+      m = halfway f o w (l refl) last x g
+
+      s : StreamsTo f o w (l refl) (m .mid)
+      s = step-whole f o w (l refl) (m .mid) (m .before)
+
+      u : TileState
+      u = upgraded t (s .srlData) (s .rawData) (o .rows) (o .quality)
+
+      here : TileGains u last x
+      here = record {
+        coefficients = g .coefficients;
+        sign = g .sign;
+        each = λ k h. subst
+            (λ (y : Picture). ComponentGains (bandsOf (t .«use_reduce_extrapolate»)) (rowOf k (joined (of (o .rows)))) (rowOf k last) (component k (y .coefficients)) (component k (y .sign)) (component k (x .coefficients)) (component k (x .sign)))
+            (sym (s .gives)) (m .behind k h);
+      }
+
+whole : (os : List Pass) (t : TileState) → TileFits t → AllRows os → (x : Picture) → NoRaise (t .«base_quant») (t .«prog_quant») os → TileGains t (lastOf t os) x → Reached t os x
+unfolding lastRows NoRaise after
+whole [] t f w x n g = record { calls = []; streams = AllStreams.none; same = refl; gives = tile-same f x g }
+whole (o ∷ os) t f (AllRows.one w ws) x n g =
+    join (whole-step o os f w x (λ u h r k. whole os u h ws x r k) (upgradeRefusal (t .«prog_quant») (t .«base_quant») (o .rows))
+    (refusal-rows (t .«prog_quant») (t .«base_quant») o) (n .0) (n .1) g)
+  where
+    join : First (upgradeRefusal (t .«prog_quant») (t .«base_quant») (o .rows)) t o os x → Reached t (o ∷ os) x
+    join r = record {
+      calls = record { pass = o; srlData = r .srlData; rawData = r .rawData } ∷ r .rest .calls;
+      streams = AllStreams.one (r .srl) (r .raw) (r .rest .streams);
+      same = ap (λ (os : List Pass). o ∷ os) (r .rest .same);
+      gives = r .rest .gives;
+    }
+
+-- ════ the theorem ════
+
+module _ {t : TileState} (f : TileFits t) {os : List Pass} (w : AllRows os) (n : NoRaise (t .«base_quant») (t .«prog_quant») os) where
+  pub along : (ks : List Call) → passesOf ks ≡ os → Holds t (lastOf t os) (after t ks)
+  along ks e = subst (λ (os : List Pass). Holds t (lastOf t os) (after t ks)) e
+      (always ks t f (subst AllRows (sym e) w) (subst (λ (os : List Pass). NoRaise (t .«base_quant») (t .«prog_quant») os) (sym e) n))
+
+  exact : Exact t os
+  exact = record {
+    always = λ ks e. along ks e .kind;
+    positions = λ ks e. along ks e .positions;
+    reached = λ x. (λ r. subst (λ (y : Picture). TileGains t (lastOf t os) y) (r .gives) (along (r .calls) (r .same) .kind), whole os t f w x n);
+  }
+
+pub reachable-pictures : ReachablePictures
+reachable-pictures = record { exact = λ t f os w n. exact f w n }

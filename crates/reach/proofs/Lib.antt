@@ -1,0 +1,8 @@
+-- Laws of what a list of passes can reach.
+pub mod Level
+pub mod Places
+pub mod Streams
+pub mod Passes
+pub mod Components
+pub mod Tiles
+pub mod AnyList

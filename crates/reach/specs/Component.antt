@@ -1,0 +1,39 @@
+-- A component, place by place. `bands` gives the band of each place; all of it holds for every list of bands.
+use mathlib.Core.Path.{_≡_}
+use mathlib.Core.Bool.{Bool}
+use mathlib.Core.List.{List}
+use Prim.Native.Nat.{ℕ, _<_}
+use lib.Dec.{eqb}
+use lib.IntN.{ℤ, pos}
+use lib.ListN.{getD, length}
+use Rattle.bands.specs.Bands.{perPlace}
+use Rattle.reach.specs.Place.{Place, Fits, Gains}
+
+-- the band of each place of a component in a layout
+abbrev pub bandsOf : Bool → List ℕ
+bandsOf e = perPlace e (λ b. b)
+
+-- "the bottom band is LL3, the last"
+abbrev pub isBottom : ℕ → Bool
+isBottom b = eqb b 9
+
+-- the position of a band in a row
+abbrev pub positionOf : List ℕ → ℕ → ℕ
+positionOf row b = getD row b 0
+
+-- the place with index i
+abbrev pub placeAt : List ℤ → List ℤ → ℕ → Place
+placeAt cs ss i = record { coefficient = getD cs i (pos 0); sign = getD ss i (pos 0) }
+
+-- "a component fits its positions if .." each place does
+pub record ComponentFits (bands row : List ℕ) (cs ss : List ℤ) : Type 0 where
+  pub coefficients : length cs ≡ length bands
+  pub signs : length ss ≡ length bands
+  pub each : (i : ℕ) → i < length bands → Fits (isBottom (getD bands i 0)) (positionOf row (getD bands i 0)) (placeAt cs ss i)
+
+-- from the starting row to the last one a component may become cs′ and ss′
+pub record ComponentGains (bands start last : List ℕ) (cs ss cs′ ss′ : List ℤ) : Type 0 where
+  pub coefficients : length cs′ ≡ length bands
+  pub signs : length ss′ ≡ length bands
+  pub each : (i : ℕ) → i < length bands
+      → Gains (isBottom (getD bands i 0)) (positionOf start (getD bands i 0)) (positionOf last (getD bands i 0)) (placeAt cs ss i) (placeAt cs′ ss′ i)

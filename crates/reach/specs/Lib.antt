@@ -1,0 +1,4 @@
+-- What the contracts of `reach` cite: the theorem's statement, and its terms.
+pub mod Place
+pub mod Component
+pub mod Reach

@@ -1,0 +1,4 @@
+// What any list of passes can reach.
+pub fn one() -> u8 {
+    1
+}
