@@ -1,5 +1,5 @@
 -- The theorem, by induction over the list of passes: whatever the streams hold (`always`), and all of it (`whole`).
-use mathlib.Core.Path.{_≡_, refl, sym, ap, subst}
+use mathlib.Core.Path.{_≡_, refl, sym, ap, _∙_, subst}
 use mathlib.Core.Bool.{Bool, true, false, cond, _&&_}
 use mathlib.Core.List.{List, [], _∷_}
 use Prim.Native.Nat.{ℕ, zero, suc, _^_, _<_}
@@ -7,11 +7,12 @@ use native.Mathlib.Omega.{arith}
 use lib.ListN.{length, getD}
 use Rattle.bands.specs.Positions.{rowInDomain, rowsInDomain}
 use Rattle.bands.proofs.Every.{both-true}
-use Rattle.progressive.specs.Upgrade.{unlessRefused}
+use Rattle.progressive.specs.Upgrade.{answered, unlessRefused}
+use Rattle.progressive.specs.declared.Answer.{Answer}
 use Rattle.tile.specs.Tile.{component, rowOf, joined, of, three, upgraded, upgradeRefusal}
 use Rattle.tile.specs.declared.TileState.{TileState}
 use Rattle.reach.specs.Component.{bandsOf, ComponentGains}
-use Rattle.reach.specs.Reach.{TileFits, Pass, Call, after, passesOf, ThreeRows, AllRows, lastRows, Lower, NoRaise, lastOf, Picture, picture, TileGains, ThreeStreams, AllStreams, Reached, Exact, ReachablePictures}
+use Rattle.reach.specs.Reach.{TileFits, Pass, Call, after, answersTo, answersBy, passesOf, ThreeRows, AllRows, lastRows, Lower, NoRaise, lastOf, Picture, picture, TileGains, ThreeStreams, AllStreams, Reached, Exact, ReachablePictures}
 use Rattle.reach.proofs.Tiles.{tile-refl, tile-same, step-sound, step-fits, step-trans, step-whole, StreamsTo, Halfway, halfway}
 
 -- an accepted pass has its rows in the domain
@@ -34,7 +35,7 @@ pub record Holds (t : TileState) (last : List ℕ) (u : TileState) : Type 0 wher
   pub positions : u .«prog_quant» ≡ last
   pub fits : TileFits u
 
-module _ (k : Call) (ks : List Call) {t : TileState} (f : TileFits t) (w : ThreeRows (k .pass))
+module _ (k : Call) (ks : List Call) {t : TileState} (f : TileFits t) (w : ThreeRows (k .pass .rows))
     (ih : (u : TileState) → TileFits u → NoRaise (u .«base_quant») (u .«prog_quant») (passesOf ks) → Holds u (lastOf u (passesOf ks)) (after u ks)) where
   always-step : (n : ℕ) → (n ≡ 0 → rowsInDomain (k .pass .rows) ≡ true) → (n ≡ 0 → Lower (t .«prog_quant») (joined (of (k .pass .rows))))
       → NoRaise (t .«base_quant») (positionsBy n t (k .pass)) (passesOf ks)
@@ -81,7 +82,7 @@ record First (n : ℕ) (t : TileState) (o : Pass) (os : List Pass) (x : Picture)
   raw : ThreeStreams rawData
   rest : Reached (given n t (record { pass = o; srlData = srlData; rawData = rawData })) os x
 
-module _ (o : Pass) (os : List Pass) {t : TileState} (f : TileFits t) (w : ThreeRows o) (x : Picture)
+module _ (o : Pass) (os : List Pass) {t : TileState} (f : TileFits t) (w : ThreeRows (o .rows)) (x : Picture)
     (ih : (u : TileState) → TileFits u → NoRaise (u .«base_quant») (u .«prog_quant») os → TileGains u (lastOf u os) x → Reached u os x) where
   whole-step : (n : ℕ) → (n ≡ 0 → rowsInDomain (o .rows) ≡ true) → (n ≡ 0 → Lower (t .«prog_quant») (joined (of (o .rows))))
       → NoRaise (t .«base_quant») (positionsBy n t o) os → TileGains t (lastRows (t .«base_quant») (positionsBy n t o) os) x → First n t o os x
@@ -125,6 +126,21 @@ whole (o ∷ os) t f (AllRows.one w ws) x n g =
       gives = r .rest .gives;
     }
 
+-- ════ answers, by the rows alone ════
+
+answers-step : (n : ℕ) (k : Call) (ks : List Call) (t : TileState) → ((u : TileState) → answersTo u ks ≡ answersBy (u .«base_quant») (u .«prog_quant») (passesOf ks))
+    → answersTo (given n t k) ks ≡ answersBy (t .«base_quant») (positionsBy n t (k .pass)) (passesOf ks)
+unfolding upgraded
+answers-step zero k ks t ih = ih (given zero t k)
+answers-step (suc n) k ks t ih = ih t
+
+answers : (ks : List Call) (t : TileState) → answersTo t ks ≡ answersBy (t .«base_quant») (t .«prog_quant») (passesOf ks)
+unfolding answersTo answersBy
+answers [] t = refl
+answers (k ∷ ks) t =
+    let n = upgradeRefusal (t .«prog_quant») (t .«base_quant») (k .pass .rows) in
+    ap (λ (l : List Answer). answered n ∷ l) (answers-step n k ks t (answers ks))
+
 -- ════ the theorem ════
 
 module _ {t : TileState} (f : TileFits t) {os : List Pass} (w : AllRows os) (n : NoRaise (t .«base_quant») (t .«prog_quant») os) where
@@ -135,6 +151,7 @@ module _ {t : TileState} (f : TileFits t) {os : List Pass} (w : AllRows os) (n :
   exact : Exact t os
   exact = record {
     always = λ ks e. along ks e .kind;
+    answers = λ ks e. answers ks t ∙ ap (answersBy (t .«base_quant») (t .«prog_quant»)) e;
     positions = λ ks e. along ks e .positions;
     reached = λ x. (λ r. subst (λ (y : Picture). TileGains t (lastOf t os) y) (r .gives) (along (r .calls) (r .same) .kind), whole os t f w x n);
   }

@@ -6,3 +6,5 @@ pub mod Passes
 pub mod Components
 pub mod Tiles
 pub mod AnyList
+pub mod Signs
+pub mod Instances

@@ -34,7 +34,7 @@ map-replicate : {A B : Type 0} (f : A → B) (n : ℕ) (x : A) → map f (replic
 map-replicate f zero x = refl
 map-replicate {A} {B} f (suc n) x = ap (λ (l : List B). f x ∷ l) (map-replicate f n x)
 
-spread-map : {A B : Type 0} (g : A → B) (f : ℕ → A) (b : ℕ) (l : List BandInfo) → spread (λ b. g (f b)) b l ≡ map g (spread f b l)
+pub spread-map : {A B : Type 0} (g : A → B) (f : ℕ → A) (b : ℕ) (l : List BandInfo) → spread (λ b. g (f b)) b l ≡ map g (spread f b l)
 unfolding spread
 spread-map g f b [] = refl
 spread-map g f b (i ∷ is) =
@@ -59,17 +59,17 @@ lower-row p q l k h b = by (decLt b 10)
     by (no t) = omega (arith, row-past k b q (omega arith))
 
 -- a given row is in its place among the tile's positions
-given-row : (o : Pass) → ThreeRows o → (k : ℕ) → k < 3 → rowOf k (joined (of (o .rows))) ≡ of (o .rows) k
-given-row o h = row-joined (of (o .rows)) (h .ten)
+pub given-row : (rows : List (List ℕ)) → ThreeRows rows → (k : ℕ) → k < 3 → rowOf k (joined (of rows)) ≡ of rows k
+given-row rows h = row-joined (of rows) (h .ten)
 
 every-append : {A : Type 0} (f : A → Bool) (a b : List A) → every f a ≡ true → every f b ≡ true → every f (a ++ b) ≡ true
 every-append f [] b h k = k
 every-append f (x ∷ a) b h k = let r = both-true (f x) (every f a) h in ap₂ (λ (x y : Bool). x && y) (r .0) (every-append f a b (r .1) k)
 
-rows-in-domain : (o : Pass) → ThreeRows o → rowsInDomain (o .rows) ≡ true → rowInDomain (joined (of (o .rows))) ≡ true
-rows-in-domain o h d =
-    let r : (k : ℕ) → k < 3 → rowInDomain (of (o .rows) k) ≡ true = λ k l. at rowInDomain (o .rows) k [] d (omega (arith, h .three)) in
-    every-append _ (of (o .rows) 0) (of (o .rows) 1 ++ of (o .rows) 2) (r 0 (omega arith)) (every-append _ (of (o .rows) 1) (of (o .rows) 2) (r 1 (omega arith)) (r 2 (omega arith)))
+pub rows-in-domain : (rows : List (List ℕ)) → ThreeRows rows → rowsInDomain rows ≡ true → rowInDomain (joined (of rows)) ≡ true
+rows-in-domain rows h d =
+    let r : (k : ℕ) → k < 3 → rowInDomain (of rows k) ≡ true = λ k l. at rowInDomain rows k [] d (omega (arith, h .three)) in
+    every-append _ (of rows 0) (of rows 1 ++ of rows 2) (r 0 (omega arith)) (every-append _ (of rows 1) (of rows 2) (r 1 (omega arith)) (r 2 (omega arith)))
 
 -- ════ a tile from its positions to the same ones, and by positions between ════
 
@@ -105,7 +105,7 @@ lot-of a (suc (suc (suc k))) h = absurd (omega arith)
 
 -- ════ one accepted pass ════
 
-module _ {t : TileState} (f : TileFits t) (o : Pass) (w : ThreeRows o) (l : Lower (t .«prog_quant») (joined (of (o .rows)))) where
+module _ {t : TileState} (f : TileFits t) (o : Pass) (w : ThreeRows (o .rows)) (l : Lower (t .«prog_quant») (joined (of (o .rows)))) where
   e : Bool
   e = t .«use_reduce_extrapolate»
 
@@ -139,7 +139,7 @@ module _ {t : TileState} (f : TileFits t) (o : Pass) (w : ThreeRows o) (l : Lowe
           (upgradedSigns (stepsOf e (t .«prog_quant») (o .rows) k) (of srlData k) (component k (t .sign)))
       by k h = subst
           (λ (ts : List Step). ComponentGains (bandsOf e) (rowOf k (t .«prog_quant»)) (rowOf k (joined (of (o .rows)))) (component k (t .coefficients)) (component k (t .sign)) (upgradedCoefficients ts (of srlData k) (of rawData k) (component k (t .coefficients)) (component k (t .sign))) (upgradedSigns ts (of srlData k) (component k (t .sign))))
-          (steps-map e (rowOf k (t .«prog_quant»)) (rowOf k (joined (of (o .rows)))) ∙ ap (steps e (rowOf k (t .«prog_quant»))) (given-row o w k h))
+          (steps-map e (rowOf k (t .«prog_quant»)) (rowOf k (joined (of (o .rows)))) ∙ ap (steps e (rowOf k (t .«prog_quant»))) (given-row (o .rows) w k h))
           (component-sound (f .each k h) (below k h) (of srlData k) (of rawData k))
 
   -- the tile then fits
@@ -151,7 +151,7 @@ module _ {t : TileState} (f : TileFits t) (o : Pass) (w : ThreeRows o) (l : Lowe
         coefficients = g .coefficients;
         sign = g .sign;
         rows = joined-long 10 (of (o .rows)) (w .ten);
-        positions = rows-in-domain o w d;
+        positions = rows-in-domain (o .rows) w d;
         quantizers = f .quantizers;
         each = λ k h. component-fits (g .each k h);
       }
@@ -201,7 +201,7 @@ module _ {t : TileState} (f : TileFits t) (o : Pass) (w : ThreeRows o) (l : Lowe
       }
 
       ts : (k : ℕ) → k < 3 → map (stepOf (rowOf k (t .«prog_quant»)) (rowOf k (joined (of (o .rows))))) (bandsOf e) ≡ stepsOf e (t .«prog_quant») (o .rows) k
-      ts k h = steps-map e (rowOf k (t .«prog_quant»)) (rowOf k (joined (of (o .rows)))) ∙ ap (steps e (rowOf k (t .«prog_quant»))) (given-row o w k h)
+      ts k h = steps-map e (rowOf k (t .«prog_quant»)) (rowOf k (joined (of (o .rows)))) ∙ ap (steps e (rowOf k (t .«prog_quant»))) (given-row (o .rows) w k h)
 
       coefficients : (k : ℕ) → k < 3
           → upgradedCoefficients (stepsOf e (t .«prog_quant») (o .rows) k) (of srlData k) (of rawData k) (component k (t .coefficients)) (component k (t .sign)) ≡ component k (x .coefficients)

@@ -2,3 +2,4 @@
 pub mod Place
 pub mod Component
 pub mod Reach
+pub mod Corollaries

@@ -8,7 +8,8 @@ use Prim.Native.Nat.{ℕ, _^_, _≤_, _<_}
 use lib.IntN.{ℤ}
 use lib.ListN.{getD, length}
 use Rattle.bands.specs.Positions.{rowInDomain}
-use Rattle.progressive.specs.Upgrade.{unlessRefused}
+use Rattle.progressive.specs.Upgrade.{answered, unlessRefused}
+use Rattle.progressive.specs.declared.Answer.{Answer}
 use Rattle.tile.specs.Tile.{component, rowOf, joined, of, upgradeRefusal, decodeUpgrade}
 use Rattle.tile.specs.declared.TileState.{TileState}
 use Rattle.reach.specs.Component.{bandsOf, ComponentFits, ComponentGains}
@@ -49,19 +50,24 @@ unfoldable pub after : TileState → List Call → TileState
 after t [] = t
 after t (k ∷ ks) = after (afterCall t k) ks
 
+-- what each call answers
+unfoldable pub answersTo : TileState → List Call → List Answer
+answersTo t [] = []
+answersTo t (k ∷ ks) = decodeUpgrade t (k .srlData) (k .rawData) (k .pass .rows) (k .pass .quality) .answer ∷ answersTo (afterCall t k) ks
+
 -- the passes of some calls
 abbrev pub passesOf : List Call → List Pass
 passesOf ks = map (λ k. k .pass) ks
 
 -- "three rows of ten positions, one row a component": what the type of `prog_quants` says
-pub record ThreeRows (o : Pass) : Type 0 where
-  pub three : length (o .rows) ≡ 3
-  pub ten : (k : ℕ) → k < 3 → length (of (o .rows) k) ≡ 10
+pub record ThreeRows (rows : List (List ℕ)) : Type 0 where
+  pub three : length rows ≡ 3
+  pub ten : (k : ℕ) → k < 3 → length (of rows k) ≡ 10
 
 -- of each pass of a list
 pub data AllRows : List Pass → Type 0 where
   none : AllRows []
-  one : {o : Pass} {os : List Pass} → ThreeRows o → AllRows os → AllRows (o ∷ os)
+  one : {o : Pass} {os : List Pass} → ThreeRows (o .rows) → AllRows os → AllRows (o ∷ os)
 
 -- ════ positions along the list: "streams cause no refusal, so the same passes are refused whatever they hold" ════
 
@@ -73,6 +79,11 @@ rowsThen quants positions o = unlessRefused (upgradeRefusal positions quants (o 
 unfoldable pub lastRows : List ℕ → List ℕ → List Pass → List ℕ
 lastRows quants positions [] = positions
 lastRows quants positions (o ∷ os) = lastRows quants (rowsThen quants positions o) os
+
+-- what each pass answers, by the rows alone
+unfoldable pub answersBy : List ℕ → List ℕ → List Pass → List Answer
+answersBy quants positions [] = []
+answersBy quants positions (o ∷ os) = answered (upgradeRefusal positions quants (o .rows)) ∷ answersBy quants (rowsThen quants positions o) os
 
 -- no position of q is above that of p, "for the same band and component"
 abbrev pub Lower : List ℕ → List ℕ → Type 0
@@ -132,7 +143,9 @@ pub record Reached (t : TileState) (os : List Pass) (x : Picture) : Type 0 where
 pub record Exact (t : TileState) (os : List Pass) : Type 0 where
   -- whatever the streams hold, the result is of the kind
   pub always : (ks : List Call) → passesOf ks ≡ os → TileGains t (lastOf t os) (picture (after t ks))
-  -- and its positions are the last ones
+  -- the same passes are refused
+  pub answers : (ks : List Call) → passesOf ks ≡ os → answersTo t ks ≡ answersBy (t .«base_quant») (t .«prog_quant») os
+  -- and the tile's positions are the last ones
   pub positions : (ks : List Call) → passesOf ks ≡ os → after t ks .«prog_quant» ≡ lastOf t os
   -- what is reached is exactly what is of the kind
   pub reached : (x : Picture) → Reached t os x ↔ TileGains t (lastOf t os) x

@@ -1,0 +1,9 @@
+use Rattle.reach.proofs.Instances.{hypotheses-met}
+use Rattle.reach.proofs.hypotheses_met.Statement.{statement}
+use Rattle.reach.proofs.hypotheses_met.Tie as tie
+
+returns : tie.Need-returns
+returns c = hypotheses-met
+
+pub hypotheses-met-spec : {M : Type 1} → statement M
+hypotheses-met-spec = tie.close (tie.spec returns)
