@@ -25,7 +25,7 @@ positionOf row b = getD row b 0
 abbrev pub placeAt : List ℤ → List ℤ → ℕ → Place
 placeAt cs ss i = record { coefficient = getD cs i (pos 0); sign = getD ss i (pos 0) }
 
--- "a component fits its positions if .." each place does
+-- "a component fits its positions if" each place does: a coefficient and a sign for each
 pub record ComponentFits (bands row : List ℕ) (cs ss : List ℤ) : Type 0 where
   pub coefficients : length cs ≡ length bands
   pub signs : length ss ≡ length bands

@@ -23,13 +23,15 @@ pub record FittingPreserved : Type 0 where
 
 -- ════ no sign is lost ════
 
--- the sign, and the coefficient, of place i of component k
+-- the sign of place i of component k
 abbrev pub signAt : TileState → ℕ → ℕ → ℤ
 signAt t k i = getD (component k (t .sign)) i (pos 0)
 
+-- and its coefficient
 abbrev pub coefficientAt : TileState → ℕ → ℕ → ℤ
 coefficientAt t k i = getD (component k (t .coefficients)) i (pos 0)
 
+-- no pass loses a sign
 pub record NonzeroSignsKept : Type 0 where
   -- passes keep every nonzero sign, of any tile, with any rows and any streams
   pub signs : (t : TileState) → length (t .sign) ≡ 12288 → (ks : List Call) (k i : ℕ) → k < 3 → signAt t k i ≢ pos 0 → signAt (after t ks) k i ≡ signAt t k i
@@ -65,13 +67,14 @@ dark e =
 abbrev pub sharpening : List Pass
 sharpening = record { rows = rowsAt 2; quality = 50 } ∷ record { rows = rowsAt 16; quality = 60 } ∷ record { rows = rowsAt 1; quality = 70 } ∷ []
 
--- "positions 3 to 1, raw bits 11: -8 with sign -1 gives -14; in the bottom, -2"
+-- what they can bring it to, with all raw bits 1: -14 at each place, and -2 in the bottom, where raw bits are added
 abbrev pub darker : Bool → Picture
 darker e = record {
   coefficients = joined (λ k. perPlace e (λ b. cond (isBottom b) (negsuc 1) (negsuc 13)));
   sign = joined (λ k. replicate 4096 (negsuc 0));
 }
 
+-- tiles and a list of passes that the theorem is about
 pub record HypothesesMet : Type 0 where
   -- the fresh tile fits
   pub fresh-fits : TileFits fresh

@@ -16,15 +16,14 @@ use Rattle.reach.specs.Component.{bandsOf, ComponentFits, ComponentGains
 
 -- ════ a tile that fits ════
 
+-- "a tile fits if its three components do and no position or quantizer in it is above 15"
 pub record TileFits (t : TileState) : Type 0 where
   -- the arrays are as long as their types say
   pub coefficients : length (t .coefficients) ≡ 12288
   pub sign : length (t .sign) ≡ 12288
   pub rows : length (t .«prog_quant») ≡ 30
-  -- "no position or quantizer in it is above 15"
   pub positions : rowInDomain (t .«prog_quant») ≡ true
   pub quantizers : rowInDomain (t .«base_quant») ≡ true
-  -- "its three components do"
   pub each : (k : ℕ) → k < 3
       → ComponentFits (bandsOf (t .«use_reduce_extrapolate»)) (rowOf k (t .«prog_quant»)) (component k (t .coefficients)) (component k (t .sign))
 
@@ -41,11 +40,11 @@ pub record Call : Type 0 where
   pub srlData : List (List ℕ)
   pub rawData : List (List ℕ)
 
--- the tile after a call: "an accepted pass gives the tile of [the] definition, a refused one the tile handed in"
+-- the tile after a call: "an accepted pass gives the tile that the definition says, a refused one the tile handed in"
 abbrev pub afterCall : TileState → Call → TileState
 afterCall t k = decodeUpgrade t (k .srlData) (k .rawData) (k .pass .rows) (k .pass .quality) .tile
 
--- "the next pass gets that tile"
+-- after some calls: "the next pass gets that tile"
 unfoldable pub after : TileState → List Call → TileState
 after t [] = t
 after t (k ∷ ks) = after (afterCall t k) ks
@@ -59,7 +58,7 @@ answersTo t (k ∷ ks) = decodeUpgrade t (k .srlData) (k .rawData) (k .pass .row
 abbrev pub passesOf : List Call → List Pass
 passesOf ks = map (λ k. k .pass) ks
 
--- "three rows of ten positions, one row a component": what the type of `prog_quants` says
+-- "three rows of ten, one row a component": what the type `[[u8; 10]; 3]` says
 pub record ThreeRows (rows : List (List ℕ)) : Type 0 where
   pub three : length rows ≡ 3
   pub ten : (k : ℕ) → k < 3 → length (of rows k) ≡ 10
@@ -89,7 +88,7 @@ answersBy quants positions (o ∷ os) = answered (upgradeRefusal positions quant
 abbrev pub Lower : List ℕ → List ℕ → Type 0
 Lower p q = (j : ℕ) → j < 30 → getD q j 0 ≤ getD p j 0
 
--- "no accepted pass has a position above that of the tile handed to it .. a refused pass raises nothing"
+-- "no accepted pass of the list may have a position above that of the tile handed to it .. a refused pass raises nothing"
 unfoldable pub NoRaise : List ℕ → List ℕ → List Pass → Type 0
 NoRaise quants positions [] = Unit {0}
 NoRaise quants positions (o ∷ os) =
@@ -101,7 +100,7 @@ lastOf t os = lastRows (t .«base_quant») (t .«prog_quant») os
 
 -- ════ what a tile may become ════
 
--- "coefficients and signs of all three components"
+-- "a picture is the coefficients and signs of all three components"
 pub record Picture : Type 0 where
   pub coefficients : List ℤ
   pub sign : List ℤ
@@ -110,7 +109,7 @@ pub record Picture : Type 0 where
 abbrev pub picture : TileState → Picture
 picture t = record { coefficients = t .coefficients; sign = t .sign }
 
--- from t, at its own positions, x is of the kind at the last ones: each component gains "by the starting position of the coefficient's band and component"
+-- x is of the kind, from t at its own positions to the last ones: each component has gained; "it counts from the first tile"
 pub record TileGains (t : TileState) (last : List ℕ) (x : Picture) : Type 0 where
   pub coefficients : length (x .coefficients) ≡ 12288
   pub sign : length (x .sign) ≡ 12288
@@ -119,7 +118,7 @@ pub record TileGains (t : TileState) (last : List ℕ) (x : Picture) : Type 0 wh
 
 -- ════ reached ════
 
--- three streams of bytes, of lengths that a slice can have
+-- three streams of bytes, each shorter than 2^25 of them
 pub record ThreeStreams (l : List (List ℕ)) : Type 0 where
   pub three : length l ≡ 3
   pub bytes : (k : ℕ) → k < 3 → (i : ℕ) → getD (of l k) i 0 < 256
@@ -130,7 +129,7 @@ pub data AllStreams : List Call → Type 0 where
   none : AllStreams []
   one : {k : Call} {ks : List Call} → ThreeStreams (k .srlData) → ThreeStreams (k .rawData) → AllStreams ks → AllStreams (k ∷ ks)
 
--- "the rows and qualities of the list stay fixed, and streams of some lengths, chosen for each pass, end at exactly these coefficients and signs"
+-- "the rows and qualities of the list stay fixed, and .. streams of some lengths, chosen for each pass, end at exactly these coefficients and signs"
 pub record Reached (t : TileState) (os : List Pass) (x : Picture) : Type 0 where
   pub calls : List Call
   pub streams : AllStreams calls
@@ -139,15 +138,15 @@ pub record Reached (t : TileState) (os : List Pass) (x : Picture) : Type 0 where
 
 -- ════ the theorem ════
 
--- of one tile and one list: "both halves together are a single claim about the whole list, the empty list too"
+-- of one tile and one list: "one claim about the whole list, the empty list too"
 pub record Exact (t : TileState) (os : List Pass) : Type 0 where
-  -- whatever the streams hold, the result is of the kind
+  -- "whatever the streams hold, the result is of the kind"
   pub always : (ks : List Call) → passesOf ks ≡ os → TileGains t (lastOf t os) (picture (after t ks))
-  -- the same passes are refused
+  -- "the same passes are refused whatever they hold"
   pub answers : (ks : List Call) → passesOf ks ≡ os → answersTo t ks ≡ answersBy (t .«base_quant») (t .«prog_quant») os
   -- and the tile's positions are the last ones
   pub positions : (ks : List Call) → passesOf ks ≡ os → after t ks .«prog_quant» ≡ lastOf t os
-  -- what is reached is exactly what is of the kind
+  -- "such a list reaches exactly the pictures of one kind"
   pub reached : (x : Picture) → Reached t os x ↔ TileGains t (lastOf t os) x
 
 -- for every tile that fits and every list of passes of which none raises a position

@@ -38,7 +38,7 @@ of l k = getD l k []
 abbrev pub lossless : List ℕ
 lossless = replicate 10 0
 
--- "coefficients and signs 0, positions `LOSSLESS`, base quantizers 6, standard layout"
+-- "coefficients and signs 0, positions `LOSSLESS` .. base quantizers 6, standard layout, pass number 0"
 unfoldable pub fresh : TileState
 fresh = record {
   coefficients = replicate 12288 (pos 0);
@@ -58,7 +58,7 @@ fresh = record {
 abbrev pub taken : {A : Type 0} → List (List A) → List A
 taken l = joined (λ k. take 4096 (of l k))
 
--- "a loading call puts in coefficients, signs, rows and layout, with pass number 1"; the other fields are those of the fresh tile
+-- "a loading call puts in coefficients, signs, rows and layout, with pass number 1; the other fields are the fresh tile's"
 unfoldable pub loaded : List (List ℤ) → List (List ℤ) → List (List ℕ) → List (List ℕ) → Bool → TileState
 loaded cs ss rows quants e = record {
   coefficients = taken cs;
@@ -72,7 +72,7 @@ loaded cs ss rows quants e = record {
   «use_reduce_extrapolate» = e;
 }
 
--- "1: a coefficient [or] sign .. slice under 4,096 elements", "2: a position or quantizer above 15"; 0 is none
+-- 1: "a coefficient, sign .. slice under 4,096 elements"; 2: "a position or quantizer above 15"; 0 is none
 abbrev pub loadRefusal : List (List ℤ) → List (List ℤ) → List (List ℕ) → List (List ℕ) → ℕ
 loadRefusal cs ss rows quants =
     cond (every longEnough cs && every longEnough ss) (cond (rowsInDomain rows && rowsInDomain quants) 0 2) 1
@@ -105,7 +105,7 @@ passSigns e positions rows srlData ss =
 abbrev pub nextPass : ℕ → ℕ
 nextPass n = min (n + 1) 65535
 
--- "`decode_upgrade` does three components, then stores rows and quality and adds 1 to the pass number"; every other field is kept
+-- "`decode_upgrade` does three components, then stores rows and quality and adds 1 to the pass number .. every other field is kept"
 unfoldable pub upgraded : TileState → List (List ℕ) → List (List ℕ) → List (List ℕ) → ℕ → TileState
 upgraded t srlData rawData rows q = record {
   coefficients = passCoefficients (t .«use_reduce_extrapolate») (t .«prog_quant») rows srlData rawData (t .coefficients) (t .sign);
@@ -119,7 +119,7 @@ upgraded t srlData rawData rows q = record {
   «use_reduce_extrapolate» = t .«use_reduce_extrapolate»;
 }
 
--- "2: a position or quantizer above 15, given or anywhere in the tile handed in"; the tile's arrays are never too short
+-- 2: "a position or quantizer above 15, given or anywhere in the tile handed in"; the tile's arrays are never too short
 abbrev pub upgradeRefusal : List ℕ → List ℕ → List (List ℕ) → ℕ
 upgradeRefusal positions quants rows = cond (rowsInDomain rows && (rowInDomain positions && rowInDomain quants)) 0 2
 

@@ -1,3 +1,4 @@
+-- `reach::fitting_preserved` meets its contract: the law is proved in `Signs`. Assumes nothing.
 use Rattle.reach.proofs.Signs.{fitting-preserved}
 use Rattle.reach.proofs.fitting_preserved.Statement.{statement}
 use Rattle.reach.proofs.fitting_preserved.Tie as tie

@@ -1,3 +1,4 @@
+-- `reach::reachable_pictures` meets its contract: the law is proved in `AnyList`. Assumes nothing.
 use Rattle.reach.proofs.AnyList.{reachable-pictures}
 use Rattle.reach.proofs.reachable_pictures.Statement.{statement}
 use Rattle.reach.proofs.reachable_pictures.Tie as tie
