@@ -1,6 +1,6 @@
 -- Lists copied: the first elements of one into another by a loop, and three of them one after another. For every type of element.
 use mathlib.Core.Path.{_≡_, refl, sym, ap, ap₂, _∙_}
-use mathlib.Core.List.{List, [], _++_, append-nil}
+use mathlib.Core.List.{List, _++_, append-nil}
 use Prim.Native.Nat.{ℕ, zero, suc, _+_, _<_, _≤_}
 use native.Mathlib.Numerals.{add-one}
 use native.Mathlib.Omega.{arith}
@@ -26,12 +26,14 @@ module _ {A : Type 0} (from into₀ : List A) (enough : 4096 ≤ length from) (r
 
   -- x is the element of place i
   pub copy-next : (into : List A) (i : ℕ) (x d : A) → Copying from into₀ into i → i < 4096 → x ≡ getD from i d → Copying from into₀ (set into i x) (i + 1)
-  copy-next into i x d c h e =
-      (omega arith, length-set into i x ∙ c .1,
-       ap₂ (λ (l : List A) (y : A). set l i y) (c .2) e ∙ ap (λ (l : List A). set (take i from ++ l) i (getD from i d)) (drop-cons into₀ i d (omega arith))
-       ∙ set-at (take i from) (getD into₀ i d) (drop (suc i) into₀) (getD from i d) i (length-take-le i from (omega arith))
-       ∙ sym (append-snoc (take i from) (getD from i d) (drop (suc i) into₀)) ∙ ap (λ (l : List A). l ++ drop (suc i) into₀) (sym (take-suc from i d (omega arith)))
-       ∙ sym (ap (copied from into₀) (add-one i)))
+  copy-next into i x d c h e = (
+    omega arith,
+    length-set into i x ∙ c .1,
+    ap₂ (λ (l : List A) (y : A). set l i y) (c .2) e ∙ ap (λ (l : List A). set (take i from ++ l) i (getD from i d)) (drop-cons into₀ i d (omega arith))
+        ∙ set-at (take i from) (getD into₀ i d) (drop (suc i) into₀) (getD from i d) i (length-take-le i from (omega arith))
+        ∙ sym (append-snoc (take i from) (getD from i d) (drop (suc i) into₀)) ∙ ap (λ (l : List A). l ++ drop (suc i) into₀) (sym (take-suc from i d (omega arith)))
+        ∙ sym (ap (copied from into₀) (add-one i)),
+  )
 
   pub copy-ends : (into : List A) (i : ℕ) → Copying from into₀ into i → 4096 ≤ i → into ≡ take 4096 from
   copy-ends into i c h =

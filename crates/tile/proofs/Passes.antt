@@ -1,8 +1,8 @@
 -- A pass over three components in flat arrays: it keeps lengths, each component is upgraded where it lies, and all three one after another.
 use mathlib.Core.Path.{_≡_, refl, sym, ap, ap₂, _∙_}
-use mathlib.Core.Bool.{Bool, true, cond, _&&_}
+use mathlib.Core.Bool.{Bool, true}
 use mathlib.Core.List.{List, [], _∷_}
-use Prim.Native.Nat.{ℕ, zero, suc, _+_, _*_, _<_, _≤_}
+use Prim.Native.Nat.{ℕ, suc, _+_, _*_, _<_, _≤_}
 use native.Mathlib.Omega.{arith}
 use borrow.Author.Tests.{le-leb}
 use borrow.Rule.Slice.PartMut.{putMid, midOf}
@@ -93,7 +93,7 @@ module _ (e : Bool) (positions : List ℕ) (rows srlData rawData : List (List �
       let hereS : component k s ≡ component k ss = here 4096 signsOf (λ j. component j ss) long-signs (parts-long 4096 ss longS) k h s (r .1) in
       let step : steps e prev (of rows k) ≡ stepsOf e positions rows k = ap (λ (row : List ℕ). steps e row (of rows k)) q in (
         d .0 ∙ next 4096 coefficientsOf (λ j. component j cs) long-coefficients (parts-long 4096 cs longC) k h c _ (r .0)
-          (ap (λ ts. upgradedCoefficients ts (of srlData k) (of rawData k) (component k c) (component k s)) step ∙ ap₂ (upgradedCoefficients (stepsOf e positions rows k) (of srlData k) (of rawData k)) hereC hereS),
+            (ap (λ ts. upgradedCoefficients ts (of srlData k) (of rawData k) (component k c) (component k s)) step ∙ ap₂ (upgradedCoefficients (stepsOf e positions rows k) (of srlData k) (of rawData k)) hereC hereS),
         d .1 ∙ next 4096 signsOf (λ j. component j ss) long-signs (parts-long 4096 ss longS) k h s _ (r .1) (ap₂ (λ ts. upgradedSigns ts (of srlData k)) step hereS),
       )
 

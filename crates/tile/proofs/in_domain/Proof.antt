@@ -10,13 +10,17 @@ returns c = rw (sym (c .before .rows-in-domain .ensures) ∙ not-true _ (c .if1 
 
 returns-2 : tie.Need-returns-2
 returns-2 c =
-    rw (sym (c .before .before .before .before .rows-in-domain .ensures) ∙ not-false _ (c .before .before .before .if1 .left),
-        sym (c .before .positions-in-domain .ensures) ∙ not-true _ (c .if2 .taken))
+    rw (
+      sym (c .before .before .before .before .rows-in-domain .ensures) ∙ not-false _ (c .before .before .before .if1 .left),
+      sym (c .before .positions-in-domain .ensures) ∙ not-true _ (c .if2 .taken),
+    )
 
 returns-3 : tie.Need-returns-3
 returns-3 c =
-    rw (sym (c .before .before .before .before .before .before .rows-in-domain .ensures) ∙ not-false _ (c .before .before .before .before .before .if1 .left),
-        sym (c .before .before .before .positions-in-domain .ensures) ∙ not-false _ (c .before .before .if2 .left))
+    rw (
+      sym (c .before .before .before .before .before .before .rows-in-domain .ensures) ∙ not-false _ (c .before .before .before .before .before .if1 .left),
+      sym (c .before .before .before .positions-in-domain .ensures) ∙ not-false _ (c .before .before .if2 .left),
+    )
     (c .positions-in-domain2 .ensures)
 
 pub in-domain-spec : {M : Type 1} → statement M

@@ -1,10 +1,5 @@
 -- `tile::TileState::new` meets its contract. Assumes nothing.
-use mathlib.Core.List.{List}
-use mathlib.Core.Path.{ap}
-use Prim.Native.Nat.{ℕ}
-use lib.ListN.{replicate}
 use borrow.Author.Needs.{needs}
-use Rattle.tile.specs.declared.TileState.{TileState}
 use Rattle.tile.specs.Tile.{fresh}
 use Rattle.tile.proofs.TileState.new.Statement.{statement}
 use Rattle.tile.proofs.TileState.new.Tie as tie

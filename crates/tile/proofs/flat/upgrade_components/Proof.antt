@@ -13,10 +13,6 @@ use Rattle.tile.proofs.Rows.{part-passes}
 use Rattle.tile.proofs.Passes.{starts, turns, ends}
 use Rattle.tile.proofs.flat.upgrade_components.Statement.{statement}
 use Rattle.tile.proofs.flat.upgrade_components.Tie as tie
-use Rattle.tile.proofs.flat.upgrade_components.Reads as reads
-use Rattle.tile.proofs.flat.upgrade_components.Lts as lts
-use Rattle.tile.proofs.flat.row_at.Reads as row-at-reads
-use Rattle.tile.proofs.flat.upgrade_at.Reads as upgrade-at-reads
 
 -- a row that was cut out of positions in the domain
 low : (positions row : List ℕ) (at : ℕ) → rowInDomain positions ≡ true → row ≡ take 10 (drop at positions) → rowInDomain row ≡ true
