@@ -13,7 +13,7 @@ use Rattle.bands.specs.Positions.{rowInDomain}
 use Rattle.progressive.specs.Upgrade.{Step, Source, skipped, srl, raw, source, steps, signThen, signsAfter, coefficientThen, coefficientsAfter, upgradedCoefficients, upgradedSigns, longEnough, passRefusal, unlessRefused}
 use Rattle.tile.specs.Tile.{component, rowOf, joined, of, stepsOf, passCoefficients, passSigns}
 use Rattle.tile.specs.Flat.{part, withPart, upgradedFrom, signsFrom}
-use Rattle.tile.proofs.Joined.{Long, upTo, joined-components, parts-long, here, next}
+use Rattle.tile.proofs.Joined.{Long, upTo, component-joined, joined-components, parts-long, here, next}
 
 -- ════ lengths ════
 
@@ -65,16 +65,16 @@ module _ (prev curr : List ℕ) (at k : ℕ) (cs ss : List ℤ) (whole : k ≡ 4
 
 module _ (e : Bool) (positions : List ℕ) (rows srlData rawData : List (List ℕ)) (cs ss : List ℤ) (longC : length cs ≡ 12288) (longS : length ss ≡ 12288) where
   -- component k after the pass
-  abbrev coefficientsOf : ℕ → List ℤ
+  abbrev pub coefficientsOf : ℕ → List ℤ
   coefficientsOf k = upgradedCoefficients (stepsOf e positions rows k) (of srlData k) (of rawData k) (component k cs) (component k ss)
 
-  abbrev signsOf : ℕ → List ℤ
+  abbrev pub signsOf : ℕ → List ℤ
   signsOf k = upgradedSigns (stepsOf e positions rows k) (of srlData k) (component k ss)
 
-  long-coefficients : Long 4096 coefficientsOf
+  pub long-coefficients : Long 4096 coefficientsOf
   long-coefficients k h = coefficients-long (stepsOf e positions rows k) (component k cs) (component k ss) _ _ ∙ parts-long 4096 cs longC k h
 
-  long-signs : Long 4096 signsOf
+  pub long-signs : Long 4096 signsOf
   long-signs k h = signs-long (stepsOf e positions rows k) (component k ss) _ ∙ parts-long 4096 ss longS k h
 
   -- the first k components are done
@@ -100,3 +100,12 @@ module _ (e : Bool) (positions : List ℕ) (rows srlData rawData : List (List �
   pub ends : (c s : List ℤ) → Reached 3 c s → (c ≡ passCoefficients e positions rows srlData rawData cs ss) × (s ≡ passSigns e positions rows srlData ss)
   unfolding passCoefficients passSigns
   ends c s r = r
+
+  -- a component of the tile after a pass is the component upgraded
+  pub pass-coefficients : (k : ℕ) → k < 3 → component k (passCoefficients e positions rows srlData rawData cs ss) ≡ coefficientsOf k
+  unfolding passCoefficients
+  pass-coefficients = component-joined coefficientsOf long-coefficients
+
+  pub pass-signs : (k : ℕ) → k < 3 → component k (passSigns e positions rows srlData ss) ≡ signsOf k
+  unfolding passSigns
+  pass-signs = component-joined signsOf long-signs
