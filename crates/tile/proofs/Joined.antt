@@ -3,13 +3,13 @@
 use mathlib.Core.Path.{_≡_, sym, ap, ap₂, _∙_}
 use mathlib.Core.Bool.{Bool, true, false, cond}
 use mathlib.Core.List.{List, [], _++_, append-assoc, append-nil}
-use Prim.Native.Nat.{ℕ, zero, suc, _+_, _*_, _<_}
+use Prim.Native.Nat.{ℕ, zero, suc, _+_, _*_, _<_, _≤_}
 use native.Mathlib.Omega.{arith}
 use borrow.Author.Tests.{le-ltb}
 use borrow.Rule.Slice.PartMut.{putMid}
 use lib.Dec.{ltb}
 use lib.ListN.{length, take, drop, length-append, length-drop, take-append-drop, drop-of-length-le}
-use lib.Seq.{take-at, drop-at, drop-drop, take-all, take-add}
+use lib.Seq.{take-at, drop-at, drop-drop, take-all, take-add, length-take-le}
 use Rattle.tile.specs.Tile.{component, rowOf, joined}
 
 -- each of the three has n elements
@@ -47,6 +47,15 @@ module _ {A : Type 0} (n : ℕ) where
       let last : take n (drop (2 * n) l) ≡ drop n (drop n l) = take-all n (drop (2 * n) l) (omega (arith, length-drop (2 * n) l)) ∙ from-third l in
       ap₂ (λ (x y : List A). x ++ y) (ap (take n) (from-first l)) (ap₂ (λ (x y : List A). x ++ y) (ap (take n) (from-second l)) last ∙ take-append-drop n (drop n l))
       ∙ take-append-drop n l
+
+  pub parts-long : (l : List A) → length l ≡ 3 * n → Long n (λ k. take n (drop (k * n) l))
+  parts-long l h k p = length-take-le n (drop (k * n) l) (enough k p)
+    where
+      enough : (k : ℕ) → k < 3 → n ≤ length (drop (k * n) l)
+      enough zero p = simp length-drop (omega arith)
+      enough (suc zero) p = simp length-drop (omega arith)
+      enough (suc (suc zero)) p = simp length-drop (omega arith)
+      enough (suc (suc (suc k))) p = absurd (omega arith)
 
   -- ════ the parts replaced one after another ════
 
@@ -93,6 +102,15 @@ module _ {A : Type 0} (n : ℕ) where
         by (suc zero) p = put-second (new 0) (old 1) (old 2) (new 1) (longNew 0 (omega arith)) (longOld 1 p)
         by (suc (suc zero)) p = put-third (new 0) (new 1) (old 2) (new 2) (longNew 0 (omega arith)) (longNew 1 (omega arith)) (longOld 2 p)
         by (suc (suc (suc k))) p = absurd (omega arith)
+
+  -- all three
+  pub put-all : (new : ℕ → List A) → Long n new → (l : List A) → length l ≡ 3 * n → {a b c : List A} → a ≡ new 0 → b ≡ new 1 → c ≡ new 2
+      → putMid (2 * n) n (putMid (1 * n) n (putMid (0 * n) n l a) b) c ≡ joined new
+  put-all new h l e {a} {b} {c} p q r =
+      let old : ℕ → List A = λ k. take n (drop (k * n) l) in
+      let one = next new old h (parts-long l e) 0 (omega arith) l a (sym (joined-parts l e)) p in
+      let two = next new old h (parts-long l e) 1 (omega arith) (putMid (0 * n) n l a) b one q in
+      next new old h (parts-long l e) 2 (omega arith) (putMid (1 * n) n (putMid (0 * n) n l a) b) c two r
 
 -- ════ components and rows ════
 
