@@ -2,18 +2,16 @@
 use mathlib.Core.Path.{_≡_, refl, sym, ap, _∙_, subst}
 use mathlib.Core.Bool.{Bool, true, false, cond, _&&_}
 use mathlib.Core.List.{List, [], _∷_}
-use Prim.Native.Nat.{ℕ, zero, suc, _^_, _<_}
+use Prim.Native.Nat.{ℕ, zero, suc}
 use native.Mathlib.Omega.{arith}
-use lib.ListN.{length, getD}
 use Rattle.bands.specs.Positions.{rowInDomain, rowsInDomain}
-use Rattle.bands.proofs.Every.{both-true}
 use Rattle.progressive.specs.Upgrade.{answered, unlessRefused}
 use Rattle.progressive.specs.declared.Answer.{Answer}
 use Rattle.tile.specs.Tile.{component, rowOf, joined, of, three, upgraded, upgradeRefusal}
 use Rattle.tile.specs.declared.TileState.{TileState}
 use Rattle.reach.specs.Component.{bandsOf, ComponentGains}
 use Rattle.reach.specs.Reach.{TileFits, Pass, Call, after, answersTo, answersBy, passesOf, ThreeRows, AllRows, lastRows, Lower, NoRaise, lastOf, Picture, picture, TileGains, ThreeStreams, AllStreams, Reached, Exact, ReachablePictures}
-use Rattle.reach.proofs.Tiles.{tile-refl, tile-same, step-sound, step-fits, step-trans, step-whole, StreamsTo, Halfway, halfway}
+use Rattle.reach.proofs.Tiles.{tile-refl, tile-same, step-fits, step-trans, step-whole, StreamsTo, Halfway, halfway}
 
 -- an accepted pass has its rows in the domain
 accepted-rows : (a b : Bool) → cond {A = ℕ} (a && b) 0 2 ≡ 0 → a ≡ true

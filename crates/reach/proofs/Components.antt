@@ -1,5 +1,5 @@
 -- The laws of `Passes` for a component by index, as the statement has it.
-use mathlib.Core.Path.{_≡_, refl, sym, ap}
+use mathlib.Core.Path.{_≡_, refl, ap}
 use mathlib.Core.List.{List, [], _∷_, map}
 use Prim.Native.Nat.{ℕ, zero, suc, _<_, suc-le-suc}
 use native.Mathlib.Nat.{suc-inj, le-of-suc-le-suc}
@@ -7,7 +7,7 @@ use native.Mathlib.Omega.{arith}
 use lib.IntN.{ℤ}
 use lib.ListN.{getD, length}
 use Rattle.progressive.specs.Upgrade.{stepOf, upgradedCoefficients, upgradedSigns}
-use Rattle.reach.specs.Place.{Fits, Gains}
+use Rattle.reach.specs.Place.{Gains}
 use Rattle.reach.specs.Component.{isBottom, positionOf, placeAt, ComponentFits, ComponentGains}
 use Rattle.reach.proofs.Places.{gain-refl, gain-trans}
 use Rattle.reach.proofs.Passes.{Below, FitsRow, GainsRow, row-same, row-mid, pass-sound, pass-whole, Streams}

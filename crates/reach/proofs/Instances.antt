@@ -3,7 +3,6 @@ use mathlib.Core.Path.{_≡_, refl, sym, ap, _∙_}
 use mathlib.Core.Bool.{Bool, true, false, cond, _&&_}
 use mathlib.Core.List.{List, [], _∷_, _++_, map}
 use Prim.Native.Nat.{ℕ, zero, suc, _+_, _*_, _≤_, _<_}
-use native.Mathlib.Decide.{decLt}
 use native.Mathlib.Omega.{arith}
 use lib.IntN.{ℤ, pos, negsuc}
 use lib.ListN.{length, getD, take, replicate, length-replicate, getD-replicate, replicate-append-replicate}
@@ -16,11 +15,11 @@ use Rattle.bands.proofs.Every.{both-true}
 use Rattle.bands.proofs.Laid.{ten-bands}
 use Rattle.bands.proofs.Spread.{place-whole}
 use Rattle.progressive.specs.Upgrade.{longEnough}
-use Rattle.tile.specs.Tile.{component, rowOf, joined, three, of, fresh, taken, loaded, loadRefusal}
+use Rattle.tile.specs.Tile.{component, joined, three, of, fresh, taken, loaded, loadRefusal}
 use Rattle.tile.proofs.Joined.{Long, joined-long, component-joined, row-joined}
-use Rattle.reach.specs.Place.{Place, Multiple, Fits, Gains}
+use Rattle.reach.specs.Place.{Multiple, Fits, Gains}
 use Rattle.reach.specs.Component.{bandsOf, isBottom, positionOf, ComponentFits, ComponentGains}
-use Rattle.reach.specs.Reach.{TileFits, ThreeRows, AllRows, Lower, NoRaise, lastOf, lastRows, TileGains}
+use Rattle.reach.specs.Reach.{TileFits, ThreeRows, AllRows, Lower, NoRaise, lastRows, TileGains}
 use Rattle.reach.specs.Corollaries.{rowsAt, dark, sharpening, darker, HypothesesMet}
 use Rattle.reach.proofs.Tiles.{spread-map, given-row, rows-in-domain}
 use Rattle.reach.proofs.AnyList.{reachable-pictures}

@@ -3,18 +3,18 @@
 use mathlib.Core.Path.{_≡_, refl, sym, ap, ap₂, _∙_, subst}
 use mathlib.Core.Bool.{Bool, true, false}
 use mathlib.Core.List.{List, [], _∷_, map, append-nil}
-use Prim.Native.Nat.{ℕ, zero, suc, _+_, _-_, _*_, _^_, _≤_, _<_}
+use Prim.Native.Nat.{ℕ, zero, suc, _+_, _-_, _*_, _≤_, _<_}
 use native.Mathlib.Nat.{zero-lt-suc}
 use native.Mathlib.Omega.{arith}
-use lib.IntN.{ℤ, natAbs}
-use lib.ListN.{length, getD, length-append}
+use lib.IntN.{ℤ}
+use lib.ListN.{length, length-append}
 use lib.Pow.{pow-mono}
 use Rattle.fixed.specs.Fixed.{isZero}
-use Rattle.bits.specs.Bits.{num, numbers}
+use Rattle.bits.specs.Bits.{numbers}
 use Rattle.bits.specs.Written.{bitsOf, bitsOfAll}
 use Rattle.bits.proofs.Numbers.{num-lt}
 use Rattle.bits.proofs.Puts.{length-bitsOf}
-use Rattle.srl.specs.Srl.{start, values}
+use Rattle.srl.specs.Srl.{start}
 use Rattle.srl.specs.Laws.{Wide, wide, Legal, legal}
 use Rattle.srl.proofs.Magnitudes.{magnitudes as read-magnitudes}
 use Rattle.progressive.specs.Upgrade.{Step, stepOf, Source, skipped, srl, raw, source, sourceOf, srlWidth, srlWidths, rawWidth, rawWidths, signThen, signsAfter, coefficientThen, coefficientsAfter, srlValues, rawNumbers, upgradedSigns, upgradedCoefficients}
@@ -26,7 +26,7 @@ use Rattle.bits.proofs.Holds.{pack-holds}
 use Rattle.reach.proofs.Streams.{Stream, srl-stream, raw-stream}
 use Rattle.reach.specs.Place.{Place, Fits, Gains}
 use Rattle.reach.specs.Component.{isBottom, positionOf}
-use Rattle.reach.proofs.Places.{due, srlPlace, rawPlace, gain-refl, gain-same, gain-trans, gain-mid, raw-sound, raw-whole, srl-sound, srl-whole}
+use Rattle.reach.proofs.Places.{due, gain-refl, gain-same, gain-mid, raw-sound, raw-whole, srl-sound, srl-whole}
 
 abbrev pub place : ℤ → ℤ → Place
 place c s = record { coefficient = c; sign = s }

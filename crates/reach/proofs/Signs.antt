@@ -1,22 +1,22 @@
 -- No pass loses a sign, and what it is for a sign to be the coefficient's own.
 use mathlib.Core.Path.{_≡_, refl, sym, ap, _∙_}
-use mathlib.Core.Logic.{_≢_, _⊎_, inl, inr, _↔_}
+use mathlib.Core.Logic.{_≢_, _⊎_, inl, inr}
 use mathlib.Core.Bool.{Bool, true, false, true≢false}
 use mathlib.Core.List.{List, [], _∷_}
-use Prim.Native.Nat.{ℕ, zero, suc, _*_, _<_}
+use Prim.Native.Nat.{ℕ, zero, suc, _<_}
 use native.Mathlib.Omega.{arith}
 use lib.IntN.{ℤ, pos, negsuc, natAbs, pos-ne-negsuc}
-use lib.ListN.{length, getD, drop, length-drop}
-use lib.Seq.{length-take-le}
+use lib.ListN.{length, getD}
 use Rattle.fixed.specs.Fixed.{isZero, signOf}
 use Rattle.bands.proofs.Spread.{place-whole}
-use Rattle.progressive.specs.Upgrade.{Step, Source, skipped, srl, raw, source, sourceOf, signThen, signsAfter, srlValues, unlessRefused}
+use Rattle.progressive.specs.Upgrade.{Step, Source, skipped, srl, raw, source, sourceOf, signThen, signsAfter, srlValues, upgradedSigns, unlessRefused}
 use Rattle.tile.specs.Tile.{component, of, stepsOf, passSigns, upgraded, upgradeRefusal}
 use Rattle.tile.specs.declared.TileState.{TileState}
-use Rattle.tile.proofs.Joined.{Long, joined-long, component-joined}
-use Rattle.reach.specs.Place.{Place, OwnSign, Fits, Gains}
+use Rattle.tile.proofs.Joined.{Long, joined-long, parts-long, component-joined}
+use Rattle.tile.proofs.Passes.{signs-long}
+use Rattle.reach.specs.Place.{Place, Fits, Gains}
 use Rattle.reach.specs.Component.{bandsOf, isBottom}
-use Rattle.reach.specs.Reach.{TileFits, Call, afterCall, after, passesOf, AllRows, NoRaise}
+use Rattle.reach.specs.Reach.{Call, afterCall, after}
 use Rattle.reach.specs.Corollaries.{signAt, NonzeroSignsKept, InWords, OwnSignInWords, FittingPreserved}
 use Rattle.reach.proofs.AnyList.{along}
 
@@ -64,18 +64,6 @@ all-kept [] ss vs i = λ h. refl
 all-kept (t ∷ ts) [] vs i = λ h. refl
 all-kept (t ∷ ts) (s ∷ ss) vs i = place-kept (source t s) s ss vs (signsAfter ts ss) (zero-if (t .bottom) (t .width) s) (all-kept ts ss) i
 
-place-length : (o : Source) (s : ℤ) (ss vs : List ℤ) (rest : List ℤ → List ℤ) → ((vs : List ℤ) → length (rest vs) ≡ length ss) → length (signThen o s vs rest) ≡ suc (length ss)
-place-length skipped s ss vs rest k = ap suc (k vs)
-place-length raw s ss vs rest k = ap suc (k vs)
-place-length srl s ss [] rest k = ap suc (k [])
-place-length srl s ss (v ∷ vs) rest k = ap suc (k vs)
-
-all-length : (ts : List Step) (ss vs : List ℤ) → length (signsAfter ts ss vs) ≡ length ss
-unfolding signsAfter
-all-length [] ss vs = refl
-all-length (t ∷ ts) [] vs = refl
-all-length (t ∷ ts) (s ∷ ss) vs = place-length (source t s) s ss vs (signsAfter ts ss) (all-length ts ss)
-
 -- ════ a tile ════
 
 -- as many signs as before, and no nonzero one lost
@@ -83,27 +71,25 @@ record KeptIn (t u : TileState) : Type 0 where
   long : length (u .sign) ≡ 12288
   kept : (k i : ℕ) → k < 3 → signAt t k i ≢ pos 0 → signAt u k i ≡ signAt t k i
 
-component-long : {A : Type 0} (l : List A) → length l ≡ 12288 → Long 4096 (λ k. component k l)
-component-long l h k p = length-take-le 4096 (drop (k * 4096) l) (omega (arith, length-drop (k * 4096) l))
-
 upgraded-kept : (t : TileState) → length (t .sign) ≡ 12288 → (srlData rawData rows : List (List ℕ)) (q : ℕ) → KeptIn t (upgraded t srlData rawData rows q)
 unfolding upgraded passSigns KeptAt
 upgraded-kept t h srlData rawData rows q = record {
-  long = joined-long 4096 new long;
-  kept = λ k i p n. ap (λ (l : List ℤ). getD l i (pos 0)) (component-joined new long k p) ∙ all-kept (steps k) (old k) (srlValues (steps k) (of srlData k) (old k)) i n;
+  long = joined-long 4096 (λ k. upgradedSigns (stepsOf e p rows k) (of srlData k) (component k ss)) long;
+  kept = λ k i l n. ap (λ (new : List ℤ). getD new i (pos 0)) (component-joined (λ k. upgradedSigns (stepsOf e p rows k) (of srlData k) (component k ss)) long k l)
+      ∙ all-kept (stepsOf e p rows k) (component k ss) (srlValues (stepsOf e p rows k) (of srlData k) (component k ss)) i n;
 }
   where
-    steps : ℕ → List Step
-    steps k = stepsOf (t .«use_reduce_extrapolate») (t .«prog_quant») rows k
+    e : Bool
+    e = t .«use_reduce_extrapolate»
 
-    old : ℕ → List ℤ
-    old k = component k (t .sign)
+    p : List ℕ
+    p = t .«prog_quant»
 
-    new : ℕ → List ℤ
-    new k = signsAfter (steps k) (old k) (srlValues (steps k) (of srlData k) (old k))
+    ss : List ℤ
+    ss = t .sign
 
-    long : Long 4096 new
-    long k p = all-length (steps k) (old k) (srlValues (steps k) (of srlData k) (old k)) ∙ component-long (t .sign) h k p
+    long : Long 4096 (λ k. upgradedSigns (stepsOf e p rows k) (of srlData k) (component k ss))
+    long k l = signs-long (stepsOf e p rows k) (component k ss) _ ∙ parts-long 4096 ss h k l
 
 call-kept : (n : ℕ) (t : TileState) → length (t .sign) ≡ 12288 → (c : Call) → KeptIn t (unlessRefused n (upgraded t (c .srlData) (c .rawData) (c .pass .rows) (c .pass .quality)) t)
 call-kept zero t h c = upgraded-kept t h (c .srlData) (c .rawData) (c .pass .rows) (c .pass .quality)

@@ -1,25 +1,25 @@
 -- One pass over a tile: what it gives, and that all of that is given by some streams. A tile by its three components.
-use mathlib.Core.Path.{_≡_, refl, sym, ap, ap₂, _∙_, subst, subst₂}
-use mathlib.Core.Bool.{Bool, true, false, cond, _&&_}
+use mathlib.Core.Path.{_≡_, refl, sym, ap, ap₂, _∙_, subst}
+use mathlib.Core.Bool.{Bool, true, _&&_}
 use mathlib.Core.List.{List, [], _∷_, _++_, map}
 use Prim.Native.Nat.{ℕ, zero, suc, _+_, _*_, _≤_, _<_}
 use native.Mathlib.Bridge.{le-prop}
 use native.Mathlib.Decide.{decLt}
 use native.Mathlib.Omega.{arith}
 use lib.IntN.{ℤ}
-use lib.ListN.{length, getD, take, drop, replicate, length-take, List·getD-eq-default}
+use lib.ListN.{length, getD, drop, replicate, length-take, List·getD-eq-default}
 use lib.Seq.{getD-take, getD-drop}
 use Rattle.bands.specs.declared.BandInfo.{BandInfo}
-use Rattle.bands.specs.Bands.{spread, perPlace, layout, countOf}
+use Rattle.bands.specs.Bands.{spread, layout, countOf}
 use Rattle.bands.specs.Positions.{every, rowInDomain, rowsInDomain}
 use Rattle.bands.proofs.Every.{at, both-true}
 use Rattle.bands.proofs.Spread.{place-whole}
 use Rattle.progressive.specs.Upgrade.{Step, stepOf, steps, upgradedCoefficients, upgradedSigns}
-use Rattle.tile.specs.Tile.{component, rowOf, joined, three, of, stepsOf, passCoefficients, passSigns, upgraded, upgradeRefusal}
+use Rattle.tile.specs.Tile.{component, rowOf, joined, three, of, stepsOf, passCoefficients, passSigns, upgraded}
 use Rattle.tile.specs.declared.TileState.{TileState}
 use Rattle.tile.proofs.Joined.{Long, joined-long, component-joined, row-joined, joined-components}
-use Rattle.reach.specs.Component.{bandsOf, positionOf, ComponentFits, ComponentGains}
-use Rattle.reach.specs.Reach.{TileFits, Pass, Call, ThreeRows, Lower, Picture, picture, TileGains, ThreeStreams}
+use Rattle.reach.specs.Component.{bandsOf, positionOf, ComponentGains}
+use Rattle.reach.specs.Reach.{TileFits, Pass, ThreeRows, Lower, Picture, picture, TileGains, ThreeStreams}
 use Rattle.reach.proofs.Streams.{Stream}
 use Rattle.reach.proofs.Passes.{Below, Streams}
 use Rattle.reach.proofs.Components.{component-fits, component-sound, component-whole, component-trans, component-refl, component-same, component-mid, Middle}

@@ -1,7 +1,7 @@
 -- What a member would ask of the theorem: that fitting lasts, that no sign is lost, and that its hypotheses are met by real tiles.
 use mathlib.Core.Path.{_≡_}
 use mathlib.Core.Logic.{_≢_, _⊎_, _↔_}
-use mathlib.Core.Bool.{Bool, true, false, cond}
+use mathlib.Core.Bool.{Bool, false, cond}
 use mathlib.Core.List.{List, [], _∷_}
 use Prim.Native.Nat.{ℕ, _<_}
 use lib.IntN.{ℤ, pos, negsuc}
@@ -11,7 +11,7 @@ use Rattle.bands.specs.Bands.{perPlace}
 use Rattle.tile.specs.Tile.{component, joined, three, of, fresh, loaded, loadRefusal}
 use Rattle.tile.specs.declared.TileState.{TileState}
 use Rattle.reach.specs.Place.{Place, OwnSign}
-use Rattle.reach.specs.Component.{bandsOf, isBottom, placeAt, ComponentFits}
+use Rattle.reach.specs.Component.{bandsOf, isBottom, ComponentFits}
 use Rattle.reach.specs.Reach.{TileFits, Pass, Call, after, passesOf, ThreeRows, AllRows, NoRaise, Picture, Reached}
 
 -- ════ fitting lasts ════
