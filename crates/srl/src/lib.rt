@@ -1,7 +1,6 @@
 // Simplified Run-Length (SRL) coding, both ways: a port of srl.rs. The decoder and the encoder are crates of their own, so that each is
 // proved by itself; here they are handed on, and here are the laws of both.
 
-ghost use mathlib.Core.Path.{_≡_};
 ghost use Rattle.srl.specs.Laws.{Refusals, DecodedMagnitudes, RoundTrip, DecoderResumes, EncoderResumes};
 pub use srl_decoder::Decoded;
 pub use srl_decoder::SrlState;

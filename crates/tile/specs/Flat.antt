@@ -4,7 +4,8 @@ use mathlib.Core.List.{List, _++_}
 use Prim.Native.Nat.{ℕ}
 use lib.IntN.{ℤ}
 use lib.ListN.{take, drop}
-use Rattle.progressive.specs.Upgrade.{steps, upgradedCoefficients, upgradedSigns}
+use Rattle.upgrade_steps.specs.Steps.{steps}
+use Rattle.progressive_decoder.specs.Upgrade.{upgradedCoefficients, upgradedSigns}
 
 -- 4,096 elements from a place on
 abbrev pub part : {A : Type 0} → ℕ → List A → List A

@@ -1,4 +1,4 @@
--- `srl::decode` meets its contract: each test is one of `decodeRefusal`, and where no nonzero value is due the width does not matter. Assumes nothing.
+-- `srl_decoder::decode` meets its contract: each test is one of `decodeRefusal`, and where no nonzero value is due the width does not matter. Assumes nothing.
 use mathlib.Core.Path.{_≡_, sym, _∙_}
 use mathlib.Core.Bool.{true, false}
 use native.Mathlib.Omega.{arith}

@@ -1,4 +1,4 @@
--- `srl::encode` meets its contract: each test is one of `encodeRefusal`, and the bytes stored are those measured. Assumes nothing.
+-- `srl_encoder::encode` meets its contract: each test is one of `encodeRefusal`, and the bytes stored are those measured. Assumes nothing.
 use mathlib.Core.Path.{_≡_, sym, ap, _∙_}
 use mathlib.Core.Bool.{true, cond}
 use Prim.Native.Nat.{_≤_}

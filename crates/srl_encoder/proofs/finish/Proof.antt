@@ -1,4 +1,4 @@
--- `srl::finish` meets its contract: the tests are those of `finishRefusal`. Assumes nothing.
+-- `srl_encoder::finish` meets its contract: the tests are those of `finishRefusal`. Assumes nothing.
 use mathlib.Core.Path.{_≡_, sym, ap, _∙_}
 use mathlib.Core.Bool.{true, false, cond}
 use Prim.Native.Nat.{_≤_}

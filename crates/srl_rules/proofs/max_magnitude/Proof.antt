@@ -1,4 +1,4 @@
--- `srl::rules::max_magnitude` meets its contract: the shift loses nothing, since 2^15 fits. Assumes nothing.
+-- `srl_rules::max_magnitude` meets its contract: the shift loses nothing, since 2^15 fits. Assumes nothing.
 use native.Mathlib.Omega.{arith}
 use lib.Pow.{pow-pos}
 use borrow.Author.Needs.{needs}

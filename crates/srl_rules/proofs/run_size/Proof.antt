@@ -1,4 +1,4 @@
--- `srl::rules::run_size` meets its contract: kp / 8 is at most 31. Assumes nothing.
+-- `srl_rules::run_size` meets its contract: kp / 8 is at most 31. Assumes nothing.
 use Prim.Native.Nat.{_/_}
 use native.Mathlib.Omega.{arith}
 use borrow.Author.Needs.{needs}

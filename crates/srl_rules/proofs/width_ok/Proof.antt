@@ -1,4 +1,4 @@
--- `srl::rules::width_ok` meets its contract. Assumes nothing.
+-- `srl_rules::width_ok` meets its contract. Assumes nothing.
 use borrow.Author.Tests.{le-leb, lt-leb}
 use Rattle.srl_rules.proofs.width_ok.Statement.{statement}
 use Rattle.srl_rules.proofs.width_ok.Tie as tie

@@ -1,4 +1,4 @@
--- `srl::decoder::any_due` meets its contract: one of all values is nonzero where one of those left is; each turn takes a bit of the stream at least. Assumes nothing.
+-- `srl_decoder::decoder::any_due` meets its contract: one of all values is nonzero where one of those left is; each turn takes a bit of the stream at least. Assumes nothing.
 use mathlib.Core.Path.{_≡_, refl, sym, ap, _∙_}
 use mathlib.Core.Bool.{Bool, true, false}
 use mathlib.Core.List.{List}

@@ -1,4 +1,4 @@
--- `srl::decoder::code_word` meets its contract: the first bit says which case of `codeWord` holds. Assumes nothing.
+-- `srl_decoder::decoder::code_word` meets its contract: the first bit says which case of `codeWord` holds. Assumes nothing.
 use mathlib.Core.Path.{_≡_, sym, ap, _∙_}
 use Prim.Native.Nat.{_+_, _-_, _/_}
 use native.Mathlib.Omega.{arith}

@@ -1,4 +1,4 @@
--- `srl::decoder::decode_nonzero` meets its contract: the zeros behind the sign bit, at most 2^w - 2. Assumes nothing.
+-- `srl_decoder::decoder::decode_nonzero` meets its contract: the zeros behind the sign bit, at most 2^w - 2. Assumes nothing.
 use mathlib.Core.Path.{_≡_, ap, _∙_}
 use mathlib.Core.Bool.{cond}
 use Prim.Native.Nat.{_+_, _-_, _<_}

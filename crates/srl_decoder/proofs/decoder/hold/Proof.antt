@@ -1,4 +1,4 @@
--- `srl::decoder::hold` meets its contract: only the place changes. Assumes nothing.
+-- `srl_decoder::decoder::hold` meets its contract: only the place changes. Assumes nothing.
 use mathlib.Core.Path.{refl}
 use Rattle.srl_decoder.proofs.Codes.{shut-parts}
 use borrow.Author.Needs.{needs}

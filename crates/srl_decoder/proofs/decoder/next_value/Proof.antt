@@ -1,4 +1,4 @@
--- `srl::decoder::next_value` meets its contract: the run that is at hand says which case of `value` holds. Assumes nothing.
+-- `srl_decoder::decoder::next_value` meets its contract: the run that is at hand says which case of `value` holds. Assumes nothing.
 use mathlib.Core.Path.{_≡_, refl, sym, ap, _∙_}
 use Prim.Native.Nat.{ℕ, _-_}
 use native.Mathlib.Omega.{arith}

@@ -1,4 +1,4 @@
--- `srl::decoder::ready` meets its contract: the tests say which case of `ready` holds. Assumes nothing.
+-- `srl_decoder::decoder::ready` meets its contract: the tests say which case of `ready` holds. Assumes nothing.
 use mathlib.Core.Path.{_≡_, sym, ap, ap₂, _∙_}
 use mathlib.Core.Bool.{Bool, true}
 use Prim.Native.Nat.{ℕ}

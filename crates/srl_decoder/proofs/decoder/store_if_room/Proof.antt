@@ -1,4 +1,4 @@
--- `srl::decoder::store_if_room` meets its contract: what is held at the end reads as what was handed in. Assumes nothing.
+-- `srl_decoder::decoder::store_if_room` meets its contract: what is held at the end reads as what was handed in. Assumes nothing.
 use mathlib.Core.Path.{_≡_, ap, ap₂, sym, _∙_}
 use mathlib.Core.List.{List, _++_}
 use Prim.Native.Nat.{ℕ}

@@ -1,4 +1,4 @@
--- `srl::decoder::store_values` meets its contract: after i turns the state is that after i values, held at the end, and `out` begins with them. Assumes nothing.
+-- `srl_decoder::decoder::store_values` meets its contract: after i turns the state is that after i values, held at the end, and `out` begins with them. Assumes nothing.
 use mathlib.Core.Path.{_≡_, refl, sym, ap, _∙_}
 use mathlib.Core.List.{_++_}
 use Prim.Native.Nat.{ℕ, _+_, _-_, _≤_}

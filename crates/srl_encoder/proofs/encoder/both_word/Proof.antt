@@ -1,4 +1,4 @@
--- `srl::encoder::both_word` meets its contract: at most 11 bits, shifted by at most 16. Assumes nothing.
+-- `srl_encoder::encoder::both_word` meets its contract: at most 11 bits, shifted by at most 16. Assumes nothing.
 use mathlib.Core.Path.{_≡_, ap, _∙_}
 use Prim.Native.Nat.{_+_, _-_, _*_, _/_, _%_, _^_, _≤_, _<_}
 use native.Mathlib.Nat.{lt-of-lt-of-le}

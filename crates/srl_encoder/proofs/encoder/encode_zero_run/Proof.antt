@@ -1,4 +1,4 @@
--- `srl::encoder::encode_zero_run` meets its contract: one number, or zeros and then one. Assumes nothing.
+-- `srl_encoder::encoder::encode_zero_run` meets its contract: one number, or zeros and then one. Assumes nothing.
 use mathlib.Core.Path.{ap, _∙_}
 use mathlib.Core.Bool.{true, false}
 use mathlib.Core.List.{_∷_}

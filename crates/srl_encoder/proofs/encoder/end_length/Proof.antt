@@ -1,4 +1,4 @@
--- `srl::encoder::end_length` meets its contract. Assumes nothing.
+-- `srl_encoder::encoder::end_length` meets its contract. Assumes nothing.
 use mathlib.Core.List.{[], _∷_}
 use Prim.Native.Nat.{_≤_}
 use native.Mathlib.Omega.{arith}

@@ -1,4 +1,4 @@
--- `srl::encoder::exceeds` meets its contract: what surely fits is not measured, and else the measure is exact. Assumes nothing.
+-- `srl_encoder::encoder::exceeds` meets its contract: what surely fits is not measured, and else the measure is exact. Assumes nothing.
 use mathlib.Core.Path.{sym, ap, _∙_}
 use native.Mathlib.Omega.{arith}
 use lib.Dec.{ltb}

@@ -1,4 +1,4 @@
--- `srl::encoder::find_fault` meets its contract. The invariant: the refusal of all values is that of the rest. Assumes nothing.
+-- `srl_encoder::encoder::find_fault` meets its contract. The invariant: the refusal of all values is that of the rest. Assumes nothing.
 use mathlib.Core.Path.{_≡_, refl, sym, ap, _∙_}
 use Prim.Native.Nat.{suc, _+_, _-_, _≤_}
 use native.Mathlib.Numerals.{add-one}

@@ -1,4 +1,4 @@
--- `srl::encoder::flush_length` meets its contract. Assumes nothing.
+-- `srl_encoder::encoder::flush_length` meets its contract. Assumes nothing.
 use mathlib.Core.Path.{sym, ap, _∙_}
 use lib.ListN.{length}
 use Rattle.srl_encoder.proofs.Runs.{flush-some}

@@ -1,4 +1,4 @@
--- `srl::encoder::largest_magnitude` meets its contract. The invariant: the largest of all is that of those seen and those left. Assumes nothing.
+-- `srl_encoder::encoder::largest_magnitude` meets its contract. The invariant: the largest of all is that of those seen and those left. Assumes nothing.
 use mathlib.Core.Path.{_≡_, sym, ap, _∙_}
 use Prim.Native.Nat.{_-_, _≤_, max}
 use native.Mathlib.Numerals.{add-one}

@@ -1,4 +1,4 @@
--- `srl::encoder::measure_value` meets its contract. Assumes nothing.
+-- `srl_encoder::encoder::measure_value` meets its contract. Assumes nothing.
 use mathlib.Core.Path.{_≡_, sym, ap, _∙_}
 use mathlib.Core.Bool.{true}
 use Prim.Native.Nat.{suc, _+_, _-_, _≤_}

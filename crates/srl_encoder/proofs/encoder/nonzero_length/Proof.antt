@@ -1,4 +1,4 @@
--- `srl::encoder::nonzero_length` meets its contract. Assumes nothing.
+-- `srl_encoder::encoder::nonzero_length` meets its contract. Assumes nothing.
 use mathlib.Core.Path.{sym}
 use mathlib.Core.Bool.{true}
 use borrow.Author.Needs.{needs}

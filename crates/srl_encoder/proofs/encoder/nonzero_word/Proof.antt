@@ -1,4 +1,4 @@
--- `srl::encoder::nonzero_word` meets its contract: the shift loses nothing. Assumes nothing.
+-- `srl_encoder::encoder::nonzero_word` meets its contract: the shift loses nothing. Assumes nothing.
 use mathlib.Core.Path.{_≡_, ap, _∙_}
 use Prim.Native.Nat.{_+_, _-_, _*_, _%_, _^_, _<_}
 use native.Mathlib.Omega.{arith}

@@ -1,4 +1,4 @@
--- `srl::encoder::plan_run` meets its contract. The invariant: the run is `steps` zeros and then what is left of it. Assumes nothing.
+-- `srl_encoder::encoder::plan_run` meets its contract. The invariant: the run is `steps` zeros and then what is left of it. Assumes nothing.
 use mathlib.Core.Path.{_≡_, refl, sym, ap, _∙_}
 use mathlib.Core.Bool.{Bool, false}
 use mathlib.Core.List.{List, _∷_, _++_}

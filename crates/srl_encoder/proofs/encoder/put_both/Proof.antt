@@ -1,4 +1,4 @@
--- `srl::encoder::put_both` meets its contract: one number, or the run and then the value. Assumes nothing.
+-- `srl_encoder::encoder::put_both` meets its contract: one number, or the run and then the value. Assumes nothing.
 use Prim.Native.Nat.{_-_, _≤_}
 use native.Mathlib.Omega.{arith}
 use borrow.Author.Needs.{needs}

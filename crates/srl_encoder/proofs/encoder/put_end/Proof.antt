@@ -1,4 +1,4 @@
--- `srl::encoder::put_end` meets its contract. Assumes nothing.
+-- `srl_encoder::encoder::put_end` meets its contract. Assumes nothing.
 use mathlib.Core.Path.{ap, _∙_}
 use native.Mathlib.Omega.{arith}
 use borrow.Author.Needs.{needs}

@@ -1,4 +1,4 @@
--- `srl::encoder::put_flush` meets its contract. Assumes nothing.
+-- `srl_encoder::encoder::put_flush` meets its contract. Assumes nothing.
 use mathlib.Core.Path.{sym, _∙_}
 use native.Mathlib.Omega.{arith}
 use borrow.Author.Needs.{needs}

@@ -1,4 +1,4 @@
--- `srl::encoder::put_nonzero` meets its contract: the number that is written is all of the value, or its parts follow each other. Assumes nothing.
+-- `srl_encoder::encoder::put_nonzero` meets its contract: the number that is written is all of the value, or its parts follow each other. Assumes nothing.
 use mathlib.Core.Path.{ap, _∙_}
 use mathlib.Core.Bool.{false}
 use mathlib.Core.List.{[], _∷_, _++_}

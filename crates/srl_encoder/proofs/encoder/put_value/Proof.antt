@@ -1,4 +1,4 @@
--- `srl::encoder::put_value` meets its contract: a zero is counted, and another value is the run and its bits. Assumes nothing.
+-- `srl_encoder::encoder::put_value` meets its contract: a zero is counted, and another value is the run and its bits. Assumes nothing.
 use mathlib.Core.Path.{_≡_, sym, ap, _∙_}
 use mathlib.Core.List.{_++_}
 use Prim.Native.Nat.{suc, _-_}

@@ -1,4 +1,4 @@
--- `srl::encoder::put_values` meets its contract. The invariant: the state and the bytes after all values are those after the rest from here.
+-- `srl_encoder::encoder::put_values` meets its contract. The invariant: the state and the bytes after all values are those after the rest from here.
 -- Assumes nothing.
 use mathlib.Core.Path.{_≡_, refl, sym, ap, _∙_, subst}
 use mathlib.Core.List.{[], _∷_}

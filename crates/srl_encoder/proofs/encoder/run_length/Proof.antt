@@ -1,4 +1,4 @@
--- `srl::encoder::run_length` meets its contract. Assumes nothing.
+-- `srl_encoder::encoder::run_length` meets its contract. Assumes nothing.
 use mathlib.Core.Path.{sym}
 use Rattle.srl_encoder.proofs.Runs.{length-plan}
 use borrow.Author.Needs.{needs}

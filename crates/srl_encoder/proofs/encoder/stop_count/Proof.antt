@@ -1,4 +1,4 @@
--- `srl::encoder::stop_count` meets its contract. Assumes nothing.
+-- `srl_encoder::encoder::stop_count` meets its contract. Assumes nothing.
 use mathlib.Core.Path.{ap, sym}
 use mathlib.Core.Bool.{cond}
 use Prim.Native.Nat.{_-_, _^_, _≤_, _<_}

@@ -1,4 +1,4 @@
--- `srl::encoder::surely_fits` meets its contract: the product is exact, and its eighth is under the room. Assumes nothing.
+-- `srl_encoder::encoder::surely_fits` meets its contract: the product is exact, and its eighth is under the room. Assumes nothing.
 use mathlib.Core.Bool.{false≢true}
 use Prim.Native.Nat.{_+_, _*_, _/_, _^_}
 use native.Mathlib.Omega.{arith}

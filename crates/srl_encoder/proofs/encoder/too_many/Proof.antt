@@ -1,4 +1,4 @@
--- `srl::encoder::too_many` meets its contract. The invariant: the count of all values is that of the rest from here. Assumes nothing.
+-- `srl_encoder::encoder::too_many` meets its contract. The invariant: the count of all values is that of the rest from here. Assumes nothing.
 use mathlib.Core.Path.{_≡_, refl, sym, ap, _∙_}
 use Prim.Native.Nat.{suc, _+_, _-_, _≤_, _<_}
 use native.Mathlib.Numerals.{add-one}

@@ -1,4 +1,4 @@
--- `srl::encoder::value_fault` meets its contract. Assumes nothing.
+-- `srl_encoder::encoder::value_fault` meets its contract. Assumes nothing.
 use mathlib.Core.Path.{_≡_, sym, ap, _∙_}
 use mathlib.Core.Bool.{cond}
 use Prim.Native.Nat.{_-_, _^_, _≤_, _<_}

@@ -1,4 +1,4 @@
--- `srl::encoder::values_fault` meets its contract: where the two tests hold no value is refused. Assumes nothing.
+-- `srl_encoder::encoder::values_fault` meets its contract: where the two tests hold no value is refused. Assumes nothing.
 use mathlib.Core.Path.{sym}
 use native.Mathlib.Omega.{arith}
 use Rattle.srl_encoder.proofs.Sizes.{no-fault}

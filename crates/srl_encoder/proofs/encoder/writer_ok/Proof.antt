@@ -1,4 +1,4 @@
--- `srl::encoder::writer_ok` meets its contract. Assumes nothing.
+-- `srl_encoder::encoder::writer_ok` meets its contract. Assumes nothing.
 use mathlib.Core.Path.{ap}
 use native.Mathlib.Omega.{arith}
 use lib.Dec.{ltb}

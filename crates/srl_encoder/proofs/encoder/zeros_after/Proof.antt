@@ -1,4 +1,4 @@
--- `srl::encoder::zeros_after` meets its contract. Assumes nothing.
+-- `srl_encoder::encoder::zeros_after` meets its contract. Assumes nothing.
 use mathlib.Core.Path.{_≡_, sym, ap, _∙_}
 use lib.IntN.{natAbs}
 use mir.Syntax.{w16}
