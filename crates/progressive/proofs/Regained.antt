@@ -20,16 +20,17 @@ use Rattle.bits.specs.Bits.{numbers}
 use Rattle.bits.specs.Written.{bitsOf, bitsOfAll, pack}
 use Rattle.bits.proofs.Holds.{Holds, holds-append, num-holds, pack-holds}
 use Rattle.bits.proofs.Puts.{length-bitsOf}
-use Rattle.srl.specs.Srl.{start, values}
-use Rattle.srl.specs.Encode.{valueZeros, valueFault, firstOf}
-use Rattle.srl.specs.Finish.{streamBits}
+use Rattle.srl_decoder.specs.Srl.{start, values}
+use Rattle.srl_encoder.specs.Encode.{valueZeros, valueFault, firstOf}
+use Rattle.srl_encoder.specs.Finish.{streamBits}
 use Rattle.srl.specs.Laws.{Legal, legal}
 use Rattle.srl.proofs.Back.{value-legal}
-use Rattle.srl.proofs.EncodedValues.{first-none}
+use Rattle.srl_encoder.proofs.EncodedValues.{first-none}
 use Rattle.srl.proofs.Trip.{stream-values}
-use Rattle.progressive.specs.Upgrade.{Step, Source, skipped, srl, raw, source, sourceOf, steps, stepOf, srlWidths, rawWidths, srlCoefficient, srlSign, adds, rawCoefficient, signThen, signsAfter, coefficientThen, coefficientsAfter, srlValues, rawNumbers, longEnough, decodeCoefficients, decodeSigns}
-use Rattle.progressive.specs.Encode.{srlDifference, rawDifference, srlGiven, srlDifferences, rawGiven, rawDifferences, srlStream, srlBytes, rawBytes, valuesFault, passFault, noRoomFor, encodeRefusal}
-use Rattle.progressive.proofs.Placewise.{same-length}
+use Rattle.upgrade_steps.specs.Steps.{Step, Source, skipped, srl, raw, source, sourceOf, steps, stepOf, srlWidths, rawWidths, longEnough}
+use Rattle.progressive_decoder.specs.Upgrade.{srlCoefficient, srlSign, adds, rawCoefficient, signThen, signsAfter, coefficientThen, coefficientsAfter, srlValues, rawNumbers, decodeCoefficients, decodeSigns}
+use Rattle.progressive_encoder.specs.Encode.{srlDifference, rawDifference, srlGiven, srlDifferences, rawGiven, rawDifferences, srlStream, srlBytes, rawBytes, valuesFault, passFault, noRoomFor, encodeRefusal}
+use Rattle.progressive_encoder.proofs.Placewise.{same-length}
 use Rattle.progressive.specs.Laws.{Small, small, Sent, downward, towardZero, cut, cuts, cutSign, cutSigns, Onward, Regained, Regains, regained, PassRoundTrip}
 
 -- ════ a place with an SRL value ════

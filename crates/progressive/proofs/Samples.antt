@@ -3,14 +3,14 @@ use mathlib.Core.Path.{_≡_, refl}
 use mathlib.Core.Bool.{Bool, true, false}
 use mathlib.Core.List.{List, [], _∷_}
 use lib.IntN.{ℤ, pos, negsuc}
-use Rattle.bits.specs.Bits.{num, numbers}
+use Rattle.bits.specs.Bits.{num, numbers, zeros}
 use Rattle.bits.specs.Written.{bitsOfAll}
 use Rattle.fixed.specs.Fixed.{clampI16, addScaled, subScaled, isZero, isOne, roundShift, shiftLeftClamp}
-use Rattle.bits.specs.Bits.{zeros}
-use Rattle.srl.specs.Srl.{values}
-use Rattle.srl.specs.Finish.{streamBits}
-use Rattle.progressive.specs.Upgrade.{Step, srlWidths, rawWidths, signsAfter, coefficientsAfter, upgradedCoefficients, upgradedSigns}
-use Rattle.progressive.specs.Encode.{srlDifferences, rawDifferences, valuesFault, passFault, srlBytes, rawBytes}
+use Rattle.srl_decoder.specs.Srl.{values}
+use Rattle.srl_encoder.specs.Finish.{streamBits}
+use Rattle.upgrade_steps.specs.Steps.{Step, srlWidths, rawWidths}
+use Rattle.progressive_decoder.specs.Upgrade.{signsAfter, coefficientsAfter, upgradedCoefficients, upgradedSigns}
+use Rattle.progressive_encoder.specs.Encode.{srlDifferences, rawDifferences, valuesFault, passFault, srlBytes, rawBytes}
 use Rattle.progressive.specs.Dequantize.{dequantizedAll}
 use Rattle.progressive.specs.Laws.{cuts}
 

@@ -8,8 +8,9 @@ use lib.ListN.{getD}
 use Rattle.fixed.specs.Fixed.{roundShift, shiftLeftClamp}
 use Rattle.bands.specs.Bands.{perPlace}
 use Rattle.bands.specs.Positions.{rowInDomain}
-use Rattle.progressive.specs.declared.Answer.{Answer}
-use Rattle.progressive.specs.Upgrade.{longEnough, answered, unlessRefused}
+use Rattle.progressive_decoder.specs.declared.Answer.{Answer}
+use Rattle.upgrade_steps.specs.Steps.{longEnough}
+use Rattle.progressive_decoder.specs.Upgrade.{answered, unlessRefused}
 
 -- "a quantizer q above 6 shifts left q - 6 places and clamps; below 6 it adds 2^(5-q) and shifts right 6 - q places with floor; 6 leaves the value"
 abbrev pub dequantized : ℕ → ℤ → ℤ

@@ -8,8 +8,9 @@ use lib.IntN.{ℤ, pos, natAbs, _*ℤ_}
 use lib.ListN.{length}
 use lib.Signed.{mag}
 use Rattle.fixed.specs.Fixed.{floorShift, isNegative, signOf, withSign}
-use Rattle.progressive.specs.Upgrade.{Step, Source, skipped, srl, raw, source, steps, adds, rawWidths, srlValues, rawNumbers, upgradedSigns, upgradedCoefficients, decodeCoefficients, decodeSigns}
-use Rattle.progressive.specs.Encode.{srlDifferences, rawDifferences, srlBytes, rawBytes, passFault, encodeRefusal}
+use Rattle.upgrade_steps.specs.Steps.{Step, Source, skipped, srl, raw, source, steps, rawWidths}
+use Rattle.progressive_decoder.specs.Upgrade.{adds, srlValues, rawNumbers, upgradedSigns, upgradedCoefficients, decodeCoefficients, decodeSigns}
+use Rattle.progressive_encoder.specs.Encode.{srlDifferences, rawDifferences, srlBytes, rawBytes, passFault, encodeRefusal}
 
 -- ════ what the writer could send whole ════
 

@@ -1,7 +1,3 @@
 -- What the contracts of `progressive` cite.
-pub mod Upgrade
-pub mod Encode
 pub mod Dequantize
 pub mod Laws
-pub mod Walk
-pub mod Writing

@@ -3,7 +3,6 @@ ghost use mathlib.Core.Path.{_≡_};
 ghost use Prim.Native.Nat.{_≤_};
 ghost use lib.ListN.{length, replicate};
 ghost use Rattle.progressive.specs.Dequantize.{dequantized, dequantizedAll, quantizers};
-use crate::span;
 
 // A coefficient with the quantizer q.
 fn dequantize_value(c: i16, q: u8) -> i16
@@ -37,7 +36,7 @@ pub fn dequantize_bands(coefficients: &mut [i16], quant: [u8; 10], use_reduce_ex
 {
     let mut b: usize = 0;
     while b < 10 {
-        let place = span::band_span(use_reduce_extrapolate, b);
+        let place = upgrade_steps::span::band_span(use_reduce_extrapolate, b);
         let from = place.from;
         let to = place.to;
         dequantize_band(&mut coefficients[from..to], quant[b]);

@@ -5,8 +5,8 @@ use mathlib.Core.List.{List, [], _∷_}
 use Prim.Native.Nat.{ℕ, zero, suc}
 use native.Mathlib.Omega.{arith}
 use Rattle.bands.specs.Positions.{rowInDomain, rowsInDomain}
-use Rattle.progressive.specs.Upgrade.{answered, unlessRefused}
-use Rattle.progressive.specs.declared.Answer.{Answer}
+use Rattle.progressive_decoder.specs.Upgrade.{answered, unlessRefused}
+use Rattle.progressive_decoder.specs.declared.Answer.{Answer}
 use Rattle.tile.specs.Tile.{component, rowOf, joined, of, three, upgraded, upgradeRefusal}
 use Rattle.tile.specs.declared.TileState.{TileState}
 use Rattle.reach.specs.Component.{bandsOf, ComponentGains}

@@ -6,7 +6,8 @@ use native.Mathlib.Nat.{suc-inj, le-of-suc-le-suc}
 use native.Mathlib.Omega.{arith}
 use lib.IntN.{ℤ}
 use lib.ListN.{getD, length}
-use Rattle.progressive.specs.Upgrade.{stepOf, upgradedCoefficients, upgradedSigns}
+use Rattle.upgrade_steps.specs.Steps.{stepOf}
+use Rattle.progressive_decoder.specs.Upgrade.{upgradedCoefficients, upgradedSigns}
 use Rattle.reach.specs.Place.{Gains}
 use Rattle.reach.specs.Component.{isBottom, positionOf, placeAt, ComponentFits, ComponentGains}
 use Rattle.reach.proofs.Places.{gain-refl, gain-trans}

@@ -14,7 +14,7 @@ use Rattle.bands.specs.Positions.{every, rowsInDomain}
 use Rattle.bands.proofs.Every.{both-true}
 use Rattle.bands.proofs.Laid.{ten-bands}
 use Rattle.bands.proofs.Spread.{place-whole}
-use Rattle.progressive.specs.Upgrade.{longEnough}
+use Rattle.upgrade_steps.specs.Steps.{longEnough}
 use Rattle.tile.specs.Tile.{component, joined, three, of, fresh, taken, loaded, loadRefusal}
 use Rattle.tile.proofs.Joined.{Long, joined-long, component-joined, row-joined}
 use Rattle.reach.specs.Place.{Multiple, Fits, Gains}

@@ -14,13 +14,14 @@ use Rattle.bits.specs.Bits.{numbers}
 use Rattle.bits.specs.Written.{bitsOf, bitsOfAll}
 use Rattle.bits.proofs.Numbers.{num-lt}
 use Rattle.bits.proofs.Puts.{length-bitsOf}
-use Rattle.srl.specs.Srl.{start}
+use Rattle.srl_decoder.specs.Srl.{start}
 use Rattle.srl.specs.Laws.{Wide, wide, Legal, legal}
 use Rattle.srl.proofs.Magnitudes.{magnitudes as read-magnitudes}
-use Rattle.progressive.specs.Upgrade.{Step, stepOf, Source, skipped, srl, raw, source, sourceOf, srlWidth, srlWidths, rawWidth, rawWidths, signThen, signsAfter, coefficientThen, coefficientsAfter, srlValues, rawNumbers, upgradedSigns, upgradedCoefficients}
+use Rattle.upgrade_steps.specs.Steps.{Step, stepOf, Source, skipped, srl, raw, source, sourceOf, srlWidth, srlWidths, rawWidth, rawWidths}
+use Rattle.progressive_decoder.specs.Upgrade.{signThen, signsAfter, coefficientThen, coefficientsAfter, srlValues, rawNumbers, upgradedSigns, upgradedCoefficients}
 use Rattle.progressive.specs.Laws.{Small, small}
-use Rattle.progressive.specs.Writing.{magnitudes}
-use Rattle.progressive.specs.Encode.{srlStream, rawStream}
+use Rattle.progressive_encoder.specs.Writing.{magnitudes}
+use Rattle.progressive_encoder.specs.Encode.{srlStream, rawStream}
 use Rattle.progressive.proofs.Regained.{read-values, read-numbers}
 use Rattle.bits.proofs.Holds.{pack-holds}
 use Rattle.reach.proofs.Streams.{Stream, srl-stream, raw-stream}

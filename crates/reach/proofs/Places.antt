@@ -14,7 +14,7 @@ use lib.Pow.{pow-pos, pow-mono}
 use Rattle.reach.proofs.Level.{multiple-down, multiple-add, multiple-diff, multiple-times, add-small, small-add, room, cut, cut-multiple, cut-rest}
 use Rattle.fixed.proofs.Clamp.{clamp-same}
 use Rattle.fixed.specs.Fixed.{clampI16, isZero, isOne, signOf, addScaled, subScaled}
-use Rattle.progressive.specs.Upgrade.{srlCoefficient, srlSign, rawCoefficient}
+use Rattle.progressive_decoder.specs.Upgrade.{srlCoefficient, srlSign, rawCoefficient}
 use Rattle.reach.specs.Place.{Place, Multiple, Fits, Kept, More, Gains}
 
 abbrev pub own : ℤ → Place

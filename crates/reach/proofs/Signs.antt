@@ -9,7 +9,8 @@ use lib.IntN.{ℤ, pos, negsuc, natAbs, pos-ne-negsuc}
 use lib.ListN.{length, getD}
 use Rattle.fixed.specs.Fixed.{isZero, signOf}
 use Rattle.bands.proofs.Spread.{place-whole}
-use Rattle.progressive.specs.Upgrade.{Step, Source, skipped, srl, raw, source, sourceOf, signThen, signsAfter, srlValues, upgradedSigns, unlessRefused}
+use Rattle.upgrade_steps.specs.Steps.{Step, Source, skipped, srl, raw, source, sourceOf}
+use Rattle.progressive_decoder.specs.Upgrade.{signThen, signsAfter, srlValues, upgradedSigns, unlessRefused}
 use Rattle.tile.specs.Tile.{component, of, stepsOf, passSigns, upgraded, upgradeRefusal}
 use Rattle.tile.specs.declared.TileState.{TileState}
 use Rattle.tile.proofs.Joined.{Long, joined-long, parts-long, component-joined}

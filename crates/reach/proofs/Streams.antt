@@ -14,10 +14,10 @@ use Rattle.bits.specs.Bits.{bitOf}
 use Rattle.bits.specs.Written.{pack, bitsOfAll}
 use Rattle.bits.proofs.Numbers.{Bytes, bit-le}
 use Rattle.bits.proofs.Packed.{length-pack}
-use Rattle.srl.specs.Finish.{streamBits}
-use Rattle.progressive.specs.Encode.{srlStream, rawStream}
-use Rattle.progressive.specs.Writing.{magnitudes}
-use Rattle.progressive.proofs.WrittenValues.{surely}
+use Rattle.srl_encoder.specs.Finish.{streamBits}
+use Rattle.progressive_encoder.specs.Encode.{srlStream, rawStream}
+use Rattle.progressive_encoder.specs.Writing.{magnitudes}
+use Rattle.progressive_encoder.proofs.WrittenValues.{surely}
 
 -- a byte in front of bytes, and bytes one after another
 bytes-cons : (b : ℕ) (s : List ℕ) → b < 256 → Bytes s → Bytes (b ∷ s)

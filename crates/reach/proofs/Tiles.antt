@@ -14,7 +14,8 @@ use Rattle.bands.specs.Bands.{spread, layout, countOf}
 use Rattle.bands.specs.Positions.{every, rowInDomain, rowsInDomain}
 use Rattle.bands.proofs.Every.{at, both-true}
 use Rattle.bands.proofs.Spread.{place-whole}
-use Rattle.progressive.specs.Upgrade.{Step, stepOf, steps, upgradedCoefficients, upgradedSigns}
+use Rattle.upgrade_steps.specs.Steps.{Step, stepOf, steps}
+use Rattle.progressive_decoder.specs.Upgrade.{upgradedCoefficients, upgradedSigns}
 use Rattle.tile.specs.Tile.{component, rowOf, joined, three, of, stepsOf, passCoefficients, passSigns, upgraded}
 use Rattle.tile.specs.declared.TileState.{TileState}
 use Rattle.tile.proofs.Joined.{Long, joined-long, component-joined, row-joined, joined-components}

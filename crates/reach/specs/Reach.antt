@@ -8,8 +8,8 @@ use Prim.Native.Nat.{ℕ, _^_, _≤_, _<_}
 use lib.IntN.{ℤ}
 use lib.ListN.{getD, length}
 use Rattle.bands.specs.Positions.{rowInDomain}
-use Rattle.progressive.specs.Upgrade.{answered, unlessRefused}
-use Rattle.progressive.specs.declared.Answer.{Answer}
+use Rattle.progressive_decoder.specs.Upgrade.{answered, unlessRefused}
+use Rattle.progressive_decoder.specs.declared.Answer.{Answer}
 use Rattle.tile.specs.Tile.{component, rowOf, joined, of, upgradeRefusal, decodeUpgrade}
 use Rattle.tile.specs.declared.TileState.{TileState}
 use Rattle.reach.specs.Component.{bandsOf, ComponentFits, ComponentGains}

@@ -5,11 +5,12 @@ use mathlib.Core.List.{List, [], _∷_, map}
 use Prim.Native.Nat.{ℕ}
 use lib.IntN.{ℤ, pos, negsuc}
 use lib.ListN.{length, replicate}
-use Rattle.srl.specs.Srl.{values, start}
-use Rattle.srl.specs.Encode.{freshWriter}
+use Rattle.srl_decoder.specs.Srl.{values, start}
+use Rattle.srl_encoder.specs.Encode.{freshWriter}
 use Rattle.srl.specs.Laws.{streamFrom}
-use Rattle.progressive.specs.Upgrade.{Step, stepAt, upgradedCoefficients, upgradedSigns}
-use Rattle.progressive.specs.Encode.{srlDifferences, passFault}
+use Rattle.upgrade_steps.specs.Steps.{Step, stepAt}
+use Rattle.progressive_decoder.specs.Upgrade.{upgradedCoefficients, upgradedSigns}
+use Rattle.progressive_encoder.specs.Encode.{srlDifferences, passFault}
 
 -- ════ SRL, written: one call of `encode`, then `finish` ════
 

@@ -13,18 +13,19 @@ use Rattle.bits.specs.Bits.{bitsRead, placeAt, held}
 use Rattle.bits.proofs.Holds.{Holds, pack-holds}
 use Rattle.bits.proofs.Past.{same, past, alike-held}
 use Rattle.bits.proofs.Places.{read-place}
-use Rattle.srl.specs.Srl.{Reader, reader, start, values, readerAfter}
-use Rattle.srl.specs.Decode.{startState, opened, closed, stateOk, widthOk, noRoom, decodeRefusal, decoded, stored, decodeAnswer, decodeOut, stateOf}
-use Rattle.srl.specs.Encode.{valueBits, valueKp, valueZeros, callBits, callKp, callZeros, callBytes, callAfter, freshWriter, valueFault, fault}
-use Rattle.srl.specs.Finish.{streamBits}
+use Rattle.srl_decoder.specs.Srl.{Reader, reader, start, values, readerAfter}
+use Rattle.srl_decoder.specs.Decode.{startState, opened, closed, stateOk, decodeRefusal, decoded, decodeAnswer, decodeOut, stateOf}
+use Rattle.srl_rules.specs.Rules.{widthOk, noRoom, stored}
+use Rattle.srl_encoder.specs.Encode.{valueBits, valueKp, valueZeros, callBits, callKp, callZeros, callBytes, callAfter, freshWriter, valueFault, fault}
+use Rattle.srl_encoder.specs.Finish.{streamBits}
 use Rattle.srl.specs.Laws.{Legal, legal, Call, Ask, Accepted, streamFrom, given, widths, asked, room, readBack, RoundTrip}
-use Rattle.srl.specs.declared.SrlState.{SrlState}
-use Rattle.srl.specs.declared.SrlWriter.{SrlWriter}
-use Rattle.srl.proofs.EncodedValues.{first-none, passes}
+use Rattle.srl_decoder.specs.declared.SrlState.{SrlState}
+use Rattle.srl_encoder.specs.declared.SrlWriter.{SrlWriter}
+use Rattle.srl_encoder.proofs.EncodedValues.{first-none, passes}
 use Rattle.srl.proofs.Streamed.{allBits, stream-packed, accepted}
-use Rattle.srl.proofs.States.{after-mono, closed-ok}
+use Rattle.srl_decoder.proofs.States.{after-mono, closed-ok}
 use Rattle.srl.proofs.Trip.{stream-values}
-use Rattle.srl.proofs.Values.{AlikeReader, alike, reader-trans, values-alike, values-append, length-values}
+use Rattle.srl_decoder.proofs.Values.{AlikeReader, alike, reader-trans, values-alike, values-append, length-values}
 
 -- ════ accepted calls ════
 

@@ -2,13 +2,14 @@
 use mathlib.Core.Path.{_≡_, refl, ap}
 use Prim.Native.Nat.{ℕ, zero, suc}
 use lib.ListN.{length, replicate}
-use Rattle.srl.specs.Srl.{values, readerAfter}
-use Rattle.srl.specs.Decode.{opened, closed, decodeRefusal, decoded, stored, numberOf, valueCount, stateOf}
-use Rattle.srl.specs.Encode.{callBytes, callAfter, encodeRefusal, encoded, encodedNumber, encodedCount, encodedState}
-use Rattle.srl.specs.Finish.{finishBytes, finishRefusal, finished, finishedNumber, finishedCount}
+use Rattle.srl_decoder.specs.Srl.{values, readerAfter}
+use Rattle.srl_decoder.specs.Decode.{opened, closed, decodeRefusal, decoded, numberOf, valueCount, stateOf}
+use Rattle.srl_rules.specs.Rules.{stored}
+use Rattle.srl_encoder.specs.Encode.{callBytes, callAfter, encodeRefusal, encoded, encodedNumber, encodedCount, encodedState}
+use Rattle.srl_encoder.specs.Finish.{finishBytes, finishRefusal, finished, finishedNumber, finishedCount}
 use Rattle.srl.specs.Laws.{Refusals}
-use Rattle.srl.specs.declared.SrlState.{SrlState}
-use Rattle.srl.specs.declared.SrlWriter.{SrlWriter}
+use Rattle.srl_decoder.specs.declared.SrlState.{SrlState}
+use Rattle.srl_encoder.specs.declared.SrlWriter.{SrlWriter}
 
 -- the number of the case that a number stands for
 decoded-number : (k n : ℕ) (next st : SrlState) → numberOf (decoded k n next st) ≡ k

@@ -9,7 +9,7 @@ use lib.Pow.{pow-pos, pow-mono}
 use Rattle.fixed.specs.Fixed.{withSign}
 use Rattle.bits.specs.Bits.{bitAt, zeros}
 use Rattle.bits.proofs.Ones.{zeros-le}
-use Rattle.srl.specs.Srl.{Reader, mostZeros, value, readied, nextReader, values}
+use Rattle.srl_decoder.specs.Srl.{Reader, mostZeros, value, readied, nextReader, values}
 use Rattle.srl.specs.Laws.{Wide, wide, Legal, legal, DecodedMagnitudes}
 
 abs-with : (b : Bool) (m : ℕ) → natAbs (withSign b m) ≡ m

@@ -10,13 +10,13 @@ use borrow.Author.Tests.{lt-ltb, le-leb}
 use Rattle.bits.specs.Written.{pack}
 use Rattle.bits.proofs.Puts.{after-sound}
 use Rattle.bits.proofs.Packed.{pack-append}
-use Rattle.srl.specs.Decode.{widthOk, noRoom}
-use Rattle.srl.specs.Encode.{valueKp, valueZeros, callBits, callKp, callZeros, sink, bitsFrom, callBytes, callAfter, writerOk, valueFault, firstOf, fault, encodeRefusal}
-use Rattle.srl.specs.Finish.{flush}
+use Rattle.srl_rules.specs.Rules.{widthOk, noRoom}
+use Rattle.srl_encoder.specs.Encode.{valueKp, valueZeros, callBits, callKp, callZeros, sink, bitsFrom, callBytes, callAfter, writerOk, valueFault, firstOf, fault, encodeRefusal}
+use Rattle.srl_encoder.specs.Finish.{flush}
 use Rattle.srl.specs.Laws.{Call, streamFrom, EncoderResumes}
-use Rattle.srl.specs.declared.SrlWriter.{SrlWriter}
-use Rattle.srl.proofs.EncodedCalls.{writerOk-good}
-use Rattle.srl.proofs.EncodedValues.{value-kp, first-none, passes}
+use Rattle.srl_encoder.specs.declared.SrlWriter.{SrlWriter}
+use Rattle.srl_encoder.proofs.EncodedCalls.{writerOk-good}
+use Rattle.srl_encoder.proofs.EncodedValues.{value-kp, first-none, passes}
 
 -- ════ the stream ════
 

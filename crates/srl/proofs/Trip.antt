@@ -16,12 +16,12 @@ use Rattle.bits.specs.Bits.{bitAt, num, zeros, zerosLength}
 use Rattle.bits.specs.Written.{bitsOf}
 use Rattle.bits.proofs.Holds.{Holds, holds-append, zeros-one, zeros-all, num-holds}
 use Rattle.bits.proofs.Puts.{length-bitsOf}
-use Rattle.srl.specs.Srl.{reader, start, mostZeros, nonzero, behind, codeWord, values}
-use Rattle.srl.specs.Encode.{stop, nonzeroBits, runBits, runKp}
-use Rattle.srl.specs.Finish.{flush, streamBits}
+use Rattle.srl_decoder.specs.Srl.{reader, start, mostZeros, nonzero, behind, codeWord, values}
+use Rattle.srl_encoder.specs.Encode.{stop, nonzeroBits, runBits, runKp}
+use Rattle.srl_encoder.specs.Finish.{flush, streamBits}
 use Rattle.srl.specs.Laws.{Legal, legal}
-use Rattle.srl.proofs.Codes.{code-zero, code-one}
-use Rattle.srl.proofs.Due.{from, code-ready}
+use Rattle.srl_decoder.proofs.Codes.{code-zero, code-one}
+use Rattle.srl_decoder.proofs.Due.{from, code-ready}
 
 -- ════ a nonzero value ════
 

@@ -5,13 +5,13 @@ use mathlib.Core.List.{List, [], _∷_, _++_}
 use Prim.Native.Nat.{ℕ, suc, _^_, _<_}
 use lib.IntN.{ℤ, pos, natAbs}
 use lib.ListN.{length, replicate}
-use Rattle.srl.specs.Srl.{Reader, values}
-use Rattle.srl.specs.Decode.{startState, stateOk, decodeRefusal, decodeAnswer, decodeOut, numberOf, valueCount, stateOf}
-use Rattle.srl.specs.Encode.{freshWriter, writerOk, callBytes, callAfter, encodeRefusal, encodeAnswer, encodeOut, encodedNumber, encodedCount, encodedState}
-use Rattle.srl.specs.Finish.{finishBytes, finishRefusal, finishAnswer, finishOut, finishedNumber, finishedCount}
-use Rattle.srl.specs.declared.SrlState.{SrlState}
-use Rattle.srl.specs.declared.SrlWriter.{SrlWriter}
-use Rattle.srl.specs.declared.Finished.the-variants.{Refused}
+use Rattle.srl_decoder.specs.Srl.{Reader, values}
+use Rattle.srl_decoder.specs.Decode.{startState, stateOk, decodeRefusal, decodeAnswer, decodeOut, numberOf, valueCount, stateOf}
+use Rattle.srl_encoder.specs.Encode.{freshWriter, writerOk, callBytes, callAfter, encodeRefusal, encodeAnswer, encodeOut, encodedNumber, encodedCount, encodedState}
+use Rattle.srl_encoder.specs.Finish.{finishBytes, finishRefusal, finishAnswer, finishOut, finishedNumber, finishedCount}
+use Rattle.srl_decoder.specs.declared.SrlState.{SrlState}
+use Rattle.srl_encoder.specs.declared.SrlWriter.{SrlWriter}
+use Rattle.srl_encoder.specs.declared.Finished.the-variants.{Refused}
 
 -- ════ magnitudes ════
 

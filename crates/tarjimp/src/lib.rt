@@ -3,8 +3,8 @@
 
 ghost use mathlib.Core.Path.{_≡_};
 ghost use mathlib.Core.List.{_∷_, []};
-ghost use Rattle.progressive.specs.Upgrade.{numberOf, decodeAnswer, decodeCoefficients, decodeSigns};
-ghost use Rattle.progressive.specs.Encode.{writtenNumber, srlCount, rawCount, encodeAnswer, encodeSrlOut, encodeRawOut};
+ghost use Rattle.progressive_decoder.specs.Upgrade.{numberOf, decodeAnswer, decodeCoefficients, decodeSigns};
+ghost use Rattle.progressive_encoder.specs.Encode.{writtenNumber, srlCount, rawCount, encodeAnswer, encodeSrlOut, encodeRawOut};
 ghost use Rattle.progressive.specs.Dequantize.{dequantizeAnswer, dequantizeOut};
 
 // The number of an answer.

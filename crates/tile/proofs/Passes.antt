@@ -9,7 +9,8 @@ use borrow.Rule.Slice.PartMut.{putMid, midOf}
 use lib.IntN.{ℤ}
 use lib.ListN.{length}
 use Rattle.bands.specs.Positions.{inDomain, rowInDomain}
-use Rattle.progressive.specs.Upgrade.{Step, Source, skipped, srl, raw, source, steps, signThen, signsAfter, coefficientThen, coefficientsAfter, upgradedCoefficients, upgradedSigns, longEnough, passRefusal, unlessRefused}
+use Rattle.upgrade_steps.specs.Steps.{Step, Source, skipped, srl, raw, source, steps, longEnough}
+use Rattle.progressive_decoder.specs.Upgrade.{signThen, signsAfter, coefficientThen, coefficientsAfter, upgradedCoefficients, upgradedSigns, passRefusal, unlessRefused}
 use Rattle.tile.specs.Tile.{component, rowOf, joined, of, stepsOf, passCoefficients, passSigns}
 use Rattle.tile.specs.Flat.{withComponent, coefficientsPast, signsPast}
 use Rattle.tile.proofs.Joined.{Long, upTo, component-joined, joined-components, parts-long, here, next}

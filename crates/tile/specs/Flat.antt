@@ -4,7 +4,7 @@ use mathlib.Core.List.{List, _++_}
 use Prim.Native.Nat.{ℕ, _*_}
 use lib.IntN.{ℤ}
 use lib.ListN.{take, drop}
-use Rattle.progressive.specs.Upgrade.{upgradedCoefficients, upgradedSigns}
+use Rattle.progressive_decoder.specs.Upgrade.{upgradedCoefficients, upgradedSigns}
 use Rattle.tile.specs.Tile.{component, stepsOf}
 
 -- a list with another component k

@@ -5,7 +5,8 @@ use Prim.Native.Nat.{ℕ, _+_, _*_, min}
 use lib.IntN.{ℤ, pos}
 use lib.ListN.{getD, replicate, take, drop}
 use Rattle.bands.specs.Positions.{every, rowInDomain, rowsInDomain}
-use Rattle.progressive.specs.Upgrade.{Step, steps, upgradedCoefficients, upgradedSigns, longEnough, answered, unlessRefused}
+use Rattle.upgrade_steps.specs.Steps.{Step, steps, longEnough}
+use Rattle.progressive_decoder.specs.Upgrade.{upgradedCoefficients, upgradedSigns, answered, unlessRefused}
 use Rattle.tile.specs.declared.TileState.{TileState}
 use Rattle.tile.specs.declared.Loaded.{Loaded}
 use Rattle.tile.specs.declared.Upgraded.{Upgraded}

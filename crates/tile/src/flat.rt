@@ -130,7 +130,7 @@ fn upgrade_component(
     let curr = rows[k];
     let at = k * 4096;
     let end = at + 4096;
-    progressive::decode_upgrade_pass(
+    progressive_decoder::decode_upgrade_pass(
         srl_data,
         raw_data,
         prev,

@@ -27,13 +27,13 @@ pub struct TileState {
 
 // What `load` answers, and the tile: a fresh one where it refuses.
 pub struct Loaded {
-    pub answer: progressive::Answer,
+    pub answer: progressive_decoder::Answer,
     pub tile: TileState,
 }
 
 // What `decode_upgrade` answers, and the tile then.
 pub struct Upgraded {
-    pub answer: progressive::Answer,
+    pub answer: progressive_decoder::Answer,
     pub tile: TileState,
 }
 
@@ -82,7 +82,7 @@ fn not_loaded(refusal: u8) -> Loaded
     ensures { λ r. ⌜ r ≡ loadedBy refusal fresh fresh ⌝ }
 {
     Loaded {
-        answer: progressive::Answer::Refused(refusal),
+        answer: progressive_decoder::Answer::Refused(refusal),
         tile: TileState::new(),
     }
 }
@@ -184,7 +184,7 @@ impl TileState {
             e,
         );
         Loaded {
-            answer: progressive::Answer::Accepted,
+            answer: progressive_decoder::Answer::Accepted,
             tile: tile,
         }
     }
@@ -255,7 +255,7 @@ impl TileState {
         let quants = self.base_quant;
         if !in_domain(prog_quants, positions, quants) {
             return Upgraded {
-                answer: progressive::Answer::Refused(2),
+                answer: progressive_decoder::Answer::Refused(2),
                 tile: self,
             };
         }
@@ -270,7 +270,7 @@ impl TileState {
             quality,
         );
         Upgraded {
-            answer: progressive::Answer::Accepted,
+            answer: progressive_decoder::Answer::Accepted,
             tile: next,
         }
     }

@@ -5,7 +5,7 @@ use native.Mathlib.Omega.{arith}
 use borrow.Author.Tests.{le-leb, lt-leb, not-true, not-false}
 use lib.ListN.{length}
 use Rattle.bands.specs.Positions.{rowInDomain}
-use Rattle.progressive.specs.Upgrade.{longEnough}
+use Rattle.upgrade_steps.specs.Steps.{longEnough}
 use borrow.Author.Needs.{needs}
 use Rattle.progressive.proofs.dequantize_component_ccq.Statement.{statement}
 use Rattle.progressive.proofs.dequantize_component_ccq.Tie as tie

@@ -4,10 +4,11 @@ use mathlib.Core.List.{[]}
 use native.Mathlib.Omega.{arith}
 use Rattle.fixed.specs.Fixed.{clampI16, addScaled, subScaled, isZero, isOne}
 use Rattle.bits.specs.Bits.{num, numbers, zeros}
-use Rattle.srl.specs.Srl.{values}
-use Rattle.srl.proofs.Due.{values-past}
-use Rattle.progressive.specs.Upgrade.{srlWidths, rawWidths, signsAfter, coefficientsAfter}
-use Rattle.progressive.specs.Encode.{srlDifferences, valuesFault}
+use Rattle.srl_decoder.specs.Srl.{values}
+use Rattle.srl_decoder.proofs.Due.{values-past}
+use Rattle.upgrade_steps.specs.Steps.{srlWidths, rawWidths}
+use Rattle.progressive_decoder.specs.Upgrade.{signsAfter, coefficientsAfter}
+use Rattle.progressive_encoder.specs.Encode.{srlDifferences, valuesFault}
 use Rattle.samples.specs.Samples.{BenchSamples}
 use Rattle.samples.proofs.bench_samples.Statement.{statement}
 use Rattle.samples.proofs.bench_samples.Tie as tie

@@ -1,5 +1,5 @@
 -- `srl::decoder_resumes` meets its contract: the statement is proved in `States.antt`. Assumes nothing.
-use Rattle.srl.proofs.States.{resumes}
+use Rattle.srl.proofs.Resumed.{resumes}
 use Rattle.srl.proofs.decoder_resumes.Statement.{statement}
 use Rattle.srl.proofs.decoder_resumes.Tie as tie
 

@@ -2,7 +2,7 @@
 use mathlib.Core.Path.{_∙_, ap, ap₂}
 use mathlib.Core.List.{_∷_, []}
 use borrow.Author.Needs.{needs}
-use Rattle.progressive.specs.Encode.{writtenNumber, srlCount, rawCount}
+use Rattle.progressive_encoder.specs.Encode.{writtenNumber, srlCount, rawCount}
 use Rattle.tarjimp.proofs.tarjimp_encode_upgrade_pass.Statement.{statement}
 use Rattle.tarjimp.proofs.tarjimp_encode_upgrade_pass.Tie as tie
 

@@ -6,7 +6,7 @@ use borrow.Rule.Slice.PartMut.{midOf}
 use lib.ListN.{length, getD, replicate}
 use Rattle.bands.proofs.Spread.{spreadTo, perPlaceTo, place-all}
 use Rattle.progressive.specs.Dequantize.{dequantizedAll}
-use Rattle.progressive.proofs.Bandwise.{Lies, part-length}
+use Rattle.upgrade_steps.proofs.Spans.{Lies, part-length}
 use Rattle.progressive.proofs.Dequantized.{all-band}
 use borrow.Author.Needs.{needs}
 use Rattle.progressive.proofs.dequantize.dequantize_bands.Statement.{statement}

@@ -10,7 +10,7 @@ use borrow.Author.Tests.{leb-true, not-true, not-false}
 use borrow.Author.Needs.{needs}
 use Rattle.bands.specs.Positions.{every, rowsInDomain}
 use Rattle.bands.proofs.Every.{at}
-use Rattle.progressive.specs.Upgrade.{longEnough}
+use Rattle.upgrade_steps.specs.Steps.{longEnough}
 use Rattle.tile.specs.Tile.{three}
 use Rattle.tile.proofs.TileState.load.Statement.{statement}
 use Rattle.tile.proofs.TileState.load.Tie as tie

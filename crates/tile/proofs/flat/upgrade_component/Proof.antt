@@ -7,7 +7,8 @@ use lib.IntN.{ℤ}
 use borrow.Author.Needs.{needs}
 use Rattle.bands.specs.Positions.{rowInDomain}
 use Rattle.bands.proofs.Every.{at}
-use Rattle.progressive.specs.Upgrade.{Step, upgradedCoefficients, upgradedSigns}
+use Rattle.upgrade_steps.specs.Steps.{Step}
+use Rattle.progressive_decoder.specs.Upgrade.{upgradedCoefficients, upgradedSigns}
 use Rattle.tile.specs.Flat.{coefficientsPast, signsPast}
 use Rattle.tile.proofs.Passes.{put}
 use Rattle.tile.proofs.flat.upgrade_component.Statement.{statement}

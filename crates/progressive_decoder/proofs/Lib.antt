@@ -1,0 +1,5 @@
+-- Laws of a pass, read, for the proofs here and in the crates above.
+pub mod Bandwise
+pub mod Lists
+pub mod Steps
+pub mod Walks

@@ -1,0 +1,3 @@
+-- What the contracts of `progressive_decoder` cite.
+pub mod Upgrade
+pub mod Walk

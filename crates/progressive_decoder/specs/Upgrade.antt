@@ -1,0 +1,123 @@
+-- An upgrade pass over one component, read (docs/SCOPE.md, "Upgrade pass"; MS-RDPEGFX 3.3.8.2.1.2): the coefficients and signs after it.
+-- A pass is a list of steps, one for each place (`Steps`). Everything below holds for every list of steps; what a slice has past them stays.
+use mathlib.Core.Bool.{Bool, true, false, cond, _&&_, _||_}
+use mathlib.Core.List.{List, [], _∷_}
+use Prim.Native.Nat.{ℕ, zero, suc}
+use lib.IntN.{ℤ, pos, negsuc}
+use Rattle.fixed.specs.Fixed.{addScaled, subScaled, isOne}
+use Rattle.bands.specs.Positions.{rowInDomain}
+use Rattle.bits.specs.Bits.{numbers}
+use Rattle.srl_decoder.specs.Srl.{start, values}
+use Rattle.upgrade_steps.specs.Steps.{Step, Source, skipped, srl, raw, source, steps, srlWidths, rawWidths, longEnough}
+use Rattle.progressive_decoder.specs.declared.Answer.{Answer}
+use Rattle.progressive_decoder.specs.declared.Answer.the-variants.{Accepted, Refused}
+
+-- ════ what a value does at its place ════
+
+-- "a nonzero SRL value times 2^current is added"
+abbrev pub srlCoefficient : ℕ → ℤ → ℤ → ℤ
+srlCoefficient q (pos zero) c = c
+srlCoefficient q (pos (suc m)) c = addScaled c (suc m) q
+srlCoefficient q (negsuc m) c = subScaled c (suc m) q
+
+-- "and sets the sign"
+abbrev pub srlSign : ℤ → ℤ → ℤ
+srlSign (pos zero) s = s
+srlSign (pos (suc m)) s = pos 1
+srlSign (negsuc m) s = negsuc 0
+
+-- "it is added in the bottom band and where the sign is 1, and subtracted for every other sign"
+abbrev pub adds : Step → ℤ → Bool
+adds t s = t .bottom || isOne s
+
+-- the coefficient after raw bits that form the number m; "sums clamp to -32768..32767"
+abbrev pub rawCoefficient : Bool → ℕ → ℕ → ℤ → ℤ
+rawCoefficient true q m c = addScaled c m q
+rawCoefficient false q m c = subScaled c m q
+
+-- ════ all places, with the SRL values and the raw numbers that were read ════
+
+-- a place's sign, and those behind it by what is left of the values; "signs of the bottom band are neither read nor set"
+abbrev pub signThen : Source → ℤ → List ℤ → (List ℤ → List ℤ) → List ℤ
+signThen skipped s vs rest = s ∷ rest vs
+signThen raw s vs rest = s ∷ rest vs
+signThen srl s [] rest = s ∷ rest []
+signThen srl s (v ∷ vs) rest = srlSign v s ∷ rest vs
+
+-- all signs, by the SRL values; those past the steps stay
+unfoldable pub signsAfter : List Step → List ℤ → List ℤ → List ℤ
+signsAfter [] ss vs = ss
+signsAfter (t ∷ ts) [] vs = []
+signsAfter (t ∷ ts) (s ∷ ss) vs = signThen (source t s) s vs (signsAfter ts ss)
+
+-- a place's coefficient, and those behind it by what is left of the values and of the numbers
+abbrev pub coefficientThen : Source → Step → ℤ → ℤ → List ℤ → List ℕ → (List ℤ → List ℕ → List ℤ) → List ℤ
+coefficientThen skipped t c s vs ms rest = c ∷ rest vs ms
+coefficientThen srl t c s [] ms rest = c ∷ rest [] ms
+coefficientThen srl t c s (v ∷ vs) ms rest = srlCoefficient (t .position) v c ∷ rest vs ms
+coefficientThen raw t c s vs [] rest = c ∷ rest vs []
+coefficientThen raw t c s vs (m ∷ ms) rest = rawCoefficient (adds t s) (t .position) m c ∷ rest vs ms
+
+-- all coefficients, by the SRL values and the raw numbers; those past the steps stay
+unfoldable pub coefficientsAfter : List Step → List ℤ → List ℤ → List ℤ → List ℕ → List ℤ
+coefficientsAfter [] cs ss vs ms = cs
+coefficientsAfter (t ∷ ts) [] ss vs ms = []
+coefficientsAfter (t ∷ ts) (c ∷ cs) [] vs ms = c ∷ cs
+coefficientsAfter (t ∷ ts) (c ∷ cs) (s ∷ ss) vs ms = coefficientThen (source t s) t c s vs ms (coefficientsAfter ts cs ss)
+
+-- ════ the pass ════
+
+-- "all SRL values are read first, band by band"
+abbrev pub srlValues : List Step → List ℕ → List ℤ → List ℤ
+srlValues ts srlData ss = values srlData (srlWidths ts ss) start
+
+-- "raw bits run on from band to band"
+abbrev pub rawNumbers : List Step → List ℕ → List ℤ → List ℕ
+rawNumbers ts rawData ss = numbers rawData (rawWidths ts ss) 0
+
+-- the signs after a pass
+abbrev pub upgradedSigns : List Step → List ℕ → List ℤ → List ℤ
+upgradedSigns ts srlData ss = signsAfter ts ss (srlValues ts srlData ss)
+
+-- the coefficients after it
+abbrev pub upgradedCoefficients : List Step → List ℕ → List ℕ → List ℤ → List ℤ → List ℤ
+upgradedCoefficients ts srlData rawData cs ss =
+    coefficientsAfter ts cs ss (srlValues ts srlData ss) (rawNumbers ts rawData ss)
+
+-- ════ refusals: 0 is none ════
+
+-- "order: .. 1, 2": 2 is "a position or quantizer above 15"
+abbrev pub passRefusal : List ℕ → List ℕ → List ℤ → List ℤ → ℕ
+passRefusal prev curr cs ss =
+    cond (longEnough cs && longEnough ss) (cond (rowInDomain prev && rowInDomain curr) 0 2) 1
+
+-- the answer by the refusal
+abbrev pub answered : ℕ → Answer
+answered zero = Accepted
+answered (suc k) = Refused (suc k)
+
+-- what a lent slice holds then, or a tile: "a refusal gives .. the state handed in, and alters no lent element"
+abbrev pub unlessRefused : {A : Type 0} → ℕ → A → A → A
+unlessRefused zero new old = new
+unlessRefused (suc k) new old = old
+
+-- the number of each case
+abbrev pub numberOf : Answer → ℕ
+numberOf Accepted = 0
+numberOf (Refused k) = k
+
+-- ════ what `decode_upgrade_pass` answers, and what it leaves in the two slices ════
+
+-- the answer: "stream bytes never cause [a refusal]", so they are not among its arguments
+abbrev pub decodeAnswer : List ℕ → List ℕ → List ℤ → List ℤ → Answer
+decodeAnswer prev curr cs ss = answered (passRefusal prev curr cs ss)
+
+-- the coefficients then
+abbrev pub decodeCoefficients : List ℕ → List ℕ → List ℕ → List ℕ → Bool → List ℤ → List ℤ → List ℤ
+decodeCoefficients srlData rawData prev curr e cs ss =
+    unlessRefused (passRefusal prev curr cs ss) (upgradedCoefficients (steps e prev curr) srlData rawData cs ss) cs
+
+-- the signs then
+abbrev pub decodeSigns : List ℕ → List ℕ → List ℕ → Bool → List ℤ → List ℤ → List ℤ
+decodeSigns srlData prev curr e cs ss =
+    unlessRefused (passRefusal prev curr cs ss) (upgradedSigns (steps e prev curr) srlData ss) ss

@@ -1,0 +1,100 @@
+-- For the inner functions of the reader: a pass as one walk over the places, with both streams' readers. It gives what `Upgrade` says
+-- (proofs/Walks.antt), where all SRL values are read before the first raw bit: the two streams do not touch each other.
+use mathlib.Core.Bool.{Bool}
+use mathlib.Core.List.{List, [], _∷_}
+use Prim.Native.Nat.{ℕ, _+_, _≤_}
+use lib.IntN.{ℤ, pos}
+use lib.ListN.{getD, set}
+use Rattle.bits.specs.Bits.{num, bitsRead}
+use Rattle.srl_decoder.specs.Srl.{Reader, nextValue, nextReader}
+use Rattle.srl_decoder.specs.Decode.{opened}
+use Rattle.upgrade_steps.specs.Steps.{Step, Source, skipped, srl, raw, source}
+use Rattle.progressive_decoder.specs.Upgrade.{srlCoefficient, srlSign, adds, rawCoefficient}
+use Rattle.progressive_decoder.specs.declared.upgrade.Readers.{Readers}
+
+-- the coefficients and signs, and both readers: the SRL reader and the count of raw bits read
+pub record Walked : Type 0 where
+  pub coefficients : List ℤ
+  pub sign : List ℤ
+  pub srl : Reader
+  pub raw : ℕ
+
+-- by its four parts
+abbrev pub walked : List ℤ → List ℤ → Reader → ℕ → Walked
+walked cs ss r n = record { coefficients = cs; sign = ss; srl = r; raw = n }
+
+-- ════ one place ════
+
+module _ (srlData rawData : List ℕ) (t : Step) where
+  -- the coefficient after the step, by where its value comes from
+  abbrev pub coefficientAt : Source → ℤ → ℤ → Reader → ℕ → ℤ
+  coefficientAt skipped c s r n = c
+  coefficientAt srl c s r n = srlCoefficient (t .position) (nextValue srlData (t .width) r) c
+  coefficientAt raw c s r n = rawCoefficient (adds t s) (t .position) (num rawData n (t .width)) c
+
+  -- the sign
+  abbrev pub signAt : Source → ℤ → Reader → ℤ
+  signAt skipped s r = s
+  signAt srl s r = srlSign (nextValue srlData (t .width) r) s
+  signAt raw s r = s
+
+  -- the SRL reader
+  abbrev pub readerAt : Source → Reader → Reader
+  readerAt skipped r = r
+  readerAt srl r = nextReader srlData (t .width) r
+  readerAt raw r = r
+
+  -- the count of raw bits read
+  abbrev pub countAt : Source → ℕ → ℕ
+  countAt skipped n = n
+  countAt srl n = n
+  countAt raw n = n + t .width
+
+-- ════ all places ════
+
+-- a place before the others
+abbrev pub onto : ℤ → ℤ → Walked → Walked
+onto c s w = walked (c ∷ w .coefficients) (s ∷ w .sign) (w .srl) (w .raw)
+
+-- one step after another; what a list has past the steps stays
+unfoldable pub walk : List ℕ → List ℕ → List Step → List ℤ → List ℤ → Reader → ℕ → Walked
+walk srlData rawData [] cs ss r n = walked cs ss r n
+walk srlData rawData (t ∷ ts) [] ss r n = walked [] ss r n
+walk srlData rawData (t ∷ ts) (c ∷ cs) [] r n = walked (c ∷ cs) [] r n
+walk srlData rawData (t ∷ ts) (c ∷ cs) (s ∷ ss) r n =
+    onto (coefficientAt srlData rawData t (source t s) c s r n) (signAt srlData rawData t (source t s) s r)
+    (walk srlData rawData ts cs ss (readerAt srlData rawData t (source t s) r) (countAt srlData rawData t (source t s) n))
+
+-- ════ what the inner functions ask and promise ════
+
+-- a walk's slices and readers once the place i, whose value comes from o, has had its step
+abbrev pub steppedFrom : Source → List ℕ → List ℕ → Step → ℕ → Walked → Walked
+steppedFrom o srlData rawData t i w =
+    walked
+    (set (w .coefficients) i (coefficientAt srlData rawData t o (getD (w .coefficients) i (pos 0)) (getD (w .sign) i (pos 0)) (w .srl) (w .raw)))
+    (set (w .sign) i (signAt srlData rawData t o (getD (w .sign) i (pos 0)) (w .srl)))
+    (readerAt srlData rawData t o (w .srl))
+    (countAt srlData rawData t o (w .raw))
+
+-- the same, where the sign says where the value comes from
+abbrev pub stepped : List ℕ → List ℕ → Step → ℕ → Walked → Walked
+stepped srlData rawData t i w = steppedFrom (source t (getD (w .sign) i (pos 0))) srlData rawData t i w
+
+-- the slices and the readers of the code, as a walk gives them
+abbrev pub reached : List ℤ → List ℤ → Readers → Walked
+reached cs ss r = walked cs ss (opened (r .srl)) (r .raw)
+
+-- the readers by their parts
+abbrev pub readersOf : ℕ → ℕ → ℕ → ℕ → Bool → ℕ → Readers
+readersOf byte bit kp run pending n =
+    record {
+      srl = record { reader = record { «byte_idx» = byte; «bit_idx» = bit }; kp = kp; «zero_run_remaining» = run; «nonzero_pending» = pending };
+      raw = n;
+    }
+
+-- the readers can go on, with at most m bits read of each stream
+pub record Early (r : Readers) (m : ℕ) : Type 0 where
+  pub place : r .srl .reader .«bit_idx» ≤ 7
+  pub kp : r .srl .kp ≤ 80
+  pub srl-read : bitsRead (r .srl .reader) ≤ m
+  pub raw-read : r .raw ≤ m

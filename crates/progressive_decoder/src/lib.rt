@@ -1,0 +1,47 @@
+// Upgrade passes over one component, read: a part of progressive.rs. `progressive` hands it on under the source's name.
+// Positions go in by value, a row of ten in band order; coefficients, signs and streams are slices that the caller lends.
+// A refusal has a number (docs/SCOPE.md, "Refusals") and alters nothing.
+
+ghost use mathlib.Core.Path.{_≡_};
+ghost use Rattle.progressive_decoder.specs.Upgrade.{decodeAnswer, decodeCoefficients, decodeSigns};
+
+mod upgrade;
+
+// What a call that works in place answers.
+pub enum Answer {
+    Accepted,
+    Refused(u8),
+}
+
+// Reads a pass: the coefficients of each band go from its position in `prev` to that in `curr`.
+pub fn decode_upgrade_pass(
+    srl_data: &[u8],
+    raw_data: &[u8],
+    prev: [u8; 10],
+    curr: [u8; 10],
+    use_reduce_extrapolate: bool,
+    coefficients: &mut [i16],
+    sign: &mut [i8],
+) -> Answer
+    ensures { λ r. ⌜ (r ≡ decodeAnswer prev curr (now (coefficients .entry)) (now (sign .entry))) × (now (coefficients .exit) ≡ decodeCoefficients (now («srl_data» .entry)) (now («raw_data» .entry)) prev curr «use_reduce_extrapolate» (now (coefficients .entry)) (now (sign .entry))) × (now (sign .exit) ≡ decodeSigns (now («srl_data» .entry)) prev curr «use_reduce_extrapolate» (now (coefficients .entry)) (now (sign .entry))) ⌝ }
+{
+    if coefficients.len() < 4096 {
+        return Answer::Refused(1);
+    }
+    if sign.len() < 4096 {
+        return Answer::Refused(1);
+    }
+    if !upgrade_steps::positions::rows_ok(prev, curr) {
+        return Answer::Refused(2);
+    }
+    upgrade::upgrade_bands(
+        srl_data,
+        raw_data,
+        prev,
+        curr,
+        use_reduce_extrapolate,
+        coefficients,
+        sign,
+    );
+    Answer::Accepted
+}

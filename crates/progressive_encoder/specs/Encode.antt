@@ -1,0 +1,144 @@
+-- An upgrade pass over one component, written (docs/SCOPE.md, "Upgrade pass"; MS-RDPEGFX 3.2.8.1.5.2): the bytes of both streams. The steps, and where a place's
+-- value goes, are the reader's (`Upgrade`).
+use mathlib.Core.Bool.{Bool, cond, _&&_, _||_}
+use mathlib.Core.List.{List, [], _∷_, _++_}
+use Prim.Native.Nat.{ℕ, zero, suc, _-_, _/_, _^_}
+use lib.Dec.{ltb}
+use lib.IntN.{ℤ, natAbs, _-ℤ_}
+use lib.ListN.{length}
+use Rattle.fixed.specs.Fixed.{clampI16, floorShift}
+use Rattle.bands.specs.Positions.{rowInDomain}
+use Rattle.bits.specs.Written.{bitsOfAll, pack}
+use Rattle.srl_rules.specs.Rules.{stored}
+use Rattle.srl_encoder.specs.Encode.{valueZeros, valueFault, firstOf}
+use Rattle.srl_encoder.specs.Finish.{streamBits}
+use Rattle.upgrade_steps.specs.Steps.{Step, Source, skipped, srl, raw, source, steps, srlWidths, rawWidths, longEnough}
+use Rattle.progressive_encoder.specs.declared.Written.{Written}
+use Rattle.progressive_encoder.specs.declared.Written.the-variants.{Bytes, Refused}
+
+-- ════ the value of a place: q is the current position, c the coefficient and p the previous one ════
+
+-- "at a zero sign: both the coefficient and the previous coefficient are shifted right by the current position with floor, subtracted and clamped"
+abbrev pub srlDifference : ℕ → ℤ → ℤ → ℤ
+srlDifference q c p = clampI16 (floorShift c q -ℤ floorShift p q)
+
+-- "at other signs their magnitudes are shifted and subtracted, not below 0"
+abbrev pub rawDifference : ℕ → ℤ → ℤ → ℕ
+rawDifference q c p = natAbs c / 2 ^ q - natAbs p / 2 ^ q
+
+-- ════ all places ════
+
+-- the values for the SRL stream
+abbrev pub srlGiven : Source → ℤ → List ℤ → List ℤ
+srlGiven skipped v vs = vs
+srlGiven srl v vs = v ∷ vs
+srlGiven raw v vs = vs
+
+-- of all places, where all three lists have one
+unfoldable pub srlDifferences : List Step → List ℤ → List ℤ → List ℤ → List ℤ
+srlDifferences [] cs ps ss = []
+srlDifferences (t ∷ ts) [] ps ss = []
+srlDifferences (t ∷ ts) (c ∷ cs) [] ss = []
+srlDifferences (t ∷ ts) (c ∷ cs) (p ∷ ps) [] = []
+srlDifferences (t ∷ ts) (c ∷ cs) (p ∷ ps) (s ∷ ss) =
+    srlGiven (source t s) (srlDifference (t .position) c p) (srlDifferences ts cs ps ss)
+
+-- the numbers for the raw stream
+abbrev pub rawGiven : Source → ℕ → List ℕ → List ℕ
+rawGiven skipped m ms = ms
+rawGiven srl m ms = ms
+rawGiven raw m ms = m ∷ ms
+
+-- of all places, where all three lists have one
+unfoldable pub rawDifferences : List Step → List ℤ → List ℤ → List ℤ → List ℕ
+rawDifferences [] cs ps ss = []
+rawDifferences (t ∷ ts) [] ps ss = []
+rawDifferences (t ∷ ts) (c ∷ cs) [] ss = []
+rawDifferences (t ∷ ts) (c ∷ cs) (p ∷ ps) [] = []
+rawDifferences (t ∷ ts) (c ∷ cs) (p ∷ ps) (s ∷ ss) =
+    rawGiven (source t s) (rawDifference (t .position) c p) (rawDifferences ts cs ps ss)
+
+-- ════ the two streams ════
+
+-- the whole SRL stream of values with these widths. The source's `has_srl_values` is whether there is one: "where there is none, .. the writer gives no SRL bytes"
+abbrev pub srlStream : List ℕ → List ℤ → List ℕ
+srlStream ws [] = []
+srlStream ws (v ∷ vs) = pack 0 0 (streamBits 8 0 ws (v ∷ vs)) ++ (0 ∷ [])
+
+-- "the low width bits are written"; "the raw writer pads its last byte with zeros"
+abbrev pub rawStream : List ℕ → List ℕ → List ℕ
+rawStream ws ms = pack 0 0 (bitsOfAll ws ms)
+
+-- of a pass
+abbrev pub srlBytes : List Step → List ℤ → List ℤ → List ℤ → List ℕ
+srlBytes ts cs ps ss = srlStream (srlWidths ts ss) (srlDifferences ts cs ps ss)
+
+-- and its raw stream
+abbrev pub rawBytes : List Step → List ℤ → List ℤ → List ℤ → List ℕ
+rawBytes ts cs ps ss = rawStream (rawWidths ts ss) (rawDifferences ts cs ps ss)
+
+-- ════ refusals: 0 is none ════
+
+-- "5 or 6 by the earlier value", from z pending zeros on
+unfoldable pub valuesFault : ℕ → List ℕ → List ℤ → ℕ
+valuesFault z [] vs = 0
+valuesFault z (w ∷ ws) [] = 0
+valuesFault z (w ∷ ws) (v ∷ vs) = firstOf (valueFault w z v) (valuesFault (valueZeros z v) ws vs)
+
+-- of a pass, from none pending on
+abbrev pub passFault : List Step → List ℤ → List ℤ → List ℤ → ℕ
+passFault ts cs ps ss = valuesFault 0 (srlWidths ts ss) (srlDifferences ts cs ps ss)
+
+-- 7: "the answer exceeds an output slice"
+abbrev pub noRoomFor : List ℕ → List ℕ → List ℕ → List ℕ → ℕ
+noRoomFor srlBs srlOut rawBs rawOut =
+    cond (ltb (length srlOut) (length srlBs) || ltb (length rawOut) (length rawBs)) 7 0
+
+-- "order: .. 1, 2, .. then 5 or 6 by the earlier value, 7"
+abbrev pub encodeRefusal : List ℤ → List ℤ → List ℕ → List ℕ → List ℤ → Bool → List ℕ → List ℕ → ℕ
+encodeRefusal cs ps prev curr ss e srlOut rawOut =
+    cond (longEnough cs && (longEnough ps && longEnough ss))
+    (cond (rowInDomain prev && rowInDomain curr)
+    (firstOf (passFault (steps e prev curr) cs ps ss)
+    (noRoomFor (srlBytes (steps e prev curr) cs ps ss) srlOut (rawBytes (steps e prev curr) cs ps ss) rawOut))
+    2)
+    1
+
+-- ════ what `encode_upgrade_pass` answers, and what it leaves in the two outputs ════
+
+-- "a refusal gives its number, zero lengths and counts"
+abbrev pub written : ℕ → ℕ → ℕ → Written
+written zero n m = Bytes n m
+written (suc k) n m = Refused (suc k)
+
+-- the answer: how many bytes of each stream, or a refusal
+abbrev pub encodeAnswer : List ℤ → List ℤ → List ℕ → List ℕ → List ℤ → Bool → List ℕ → List ℕ → Written
+encodeAnswer cs ps prev curr ss e srlOut rawOut =
+    written (encodeRefusal cs ps prev curr ss e srlOut rawOut)
+    (length (srlBytes (steps e prev curr) cs ps ss))
+    (length (rawBytes (steps e prev curr) cs ps ss))
+
+-- the SRL output then; "on acceptance, elements past the answer are untouched"
+abbrev pub encodeSrlOut : List ℤ → List ℤ → List ℕ → List ℕ → List ℤ → Bool → List ℕ → List ℕ → List ℕ
+encodeSrlOut cs ps prev curr ss e srlOut rawOut =
+    stored (encodeRefusal cs ps prev curr ss e srlOut rawOut) (srlBytes (steps e prev curr) cs ps ss) srlOut
+
+-- the raw output then
+abbrev pub encodeRawOut : List ℤ → List ℤ → List ℕ → List ℕ → List ℤ → Bool → List ℕ → List ℕ → List ℕ
+encodeRawOut cs ps prev curr ss e srlOut rawOut =
+    stored (encodeRefusal cs ps prev curr ss e srlOut rawOut) (rawBytes (steps e prev curr) cs ps ss) rawOut
+
+-- the number and the counts of bytes of each case
+abbrev pub writtenNumber : Written → ℕ
+writtenNumber (Bytes n m) = 0
+writtenNumber (Refused k) = k
+
+-- the bytes of the SRL stream; "zero lengths" with a refusal
+abbrev pub srlCount : Written → ℕ
+srlCount (Bytes n m) = n
+srlCount (Refused k) = 0
+
+-- the bytes of the raw stream
+abbrev pub rawCount : Written → ℕ
+rawCount (Bytes n m) = m
+rawCount (Refused k) = 0

@@ -1,0 +1,52 @@
+// Upgrade passes over one component, written: a part of progressive.rs. `progressive` hands it on under the source's name.
+// Positions go in by value, a row of ten in band order; coefficients, signs and streams are slices that the caller lends.
+// A refusal has a number (docs/SCOPE.md, "Refusals") and alters nothing.
+
+ghost use mathlib.Core.Path.{_≡_};
+ghost use Rattle.progressive_encoder.specs.Encode.{encodeAnswer, encodeSrlOut, encodeRawOut};
+
+mod writer;
+
+// What `encode_upgrade_pass` answers: how many bytes of the SRL stream and of the raw stream it wrote, or a refusal.
+pub enum Written {
+    Bytes(usize, usize),
+    Refused(u8),
+}
+
+// Writes a pass: what brings a component from `prev_coefficients`, at the positions `prev`, nearer to `coefficients`, at the positions
+// `curr`. Nothing is stored before all of it is measured.
+pub fn encode_upgrade_pass(
+    coefficients: &[i16],
+    prev_coefficients: &[i16],
+    prev: [u8; 10],
+    curr: [u8; 10],
+    sign: &[i8],
+    use_reduce_extrapolate: bool,
+    srl_out: &mut [u8],
+    raw_out: &mut [u8],
+) -> Written
+    ensures { λ r. ⌜ (r ≡ encodeAnswer (now (coefficients .entry)) (now («prev_coefficients» .entry)) prev curr (now (sign .entry)) «use_reduce_extrapolate» (now («srl_out» .entry)) (now («raw_out» .entry))) × (now («srl_out» .exit) ≡ encodeSrlOut (now (coefficients .entry)) (now («prev_coefficients» .entry)) prev curr (now (sign .entry)) «use_reduce_extrapolate» (now («srl_out» .entry)) (now («raw_out» .entry))) × (now («raw_out» .exit) ≡ encodeRawOut (now (coefficients .entry)) (now («prev_coefficients» .entry)) prev curr (now (sign .entry)) «use_reduce_extrapolate» (now («srl_out» .entry)) (now («raw_out» .entry))) ⌝ }
+{
+    if coefficients.len() < 4096 {
+        return Written::Refused(1);
+    }
+    if prev_coefficients.len() < 4096 {
+        return Written::Refused(1);
+    }
+    if sign.len() < 4096 {
+        return Written::Refused(1);
+    }
+    if !upgrade_steps::positions::rows_ok(prev, curr) {
+        return Written::Refused(2);
+    }
+    writer::write_pass(
+        coefficients,
+        prev_coefficients,
+        prev,
+        curr,
+        sign,
+        use_reduce_extrapolate,
+        srl_out,
+        raw_out,
+    )
+}

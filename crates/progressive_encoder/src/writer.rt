@@ -1,0 +1,642 @@
+// The writer of a pass. A refusal alters nothing, so all places are surveyed before a byte is stored, and measured where the survey does not
+// show that there is room. Each of the three is a walk over the places, band by band.
+ghost use mathlib.Core.Path.{_≡_};
+ghost use mathlib.Core.Bool.{true, false, _||_};
+ghost use Prim.Native.Nat.{_+_, _-_, _*_, _/_, _^_, _≤_, _<_};
+ghost use lib.Dec.{ltb};
+ghost use lib.IntN.{pos};
+ghost use lib.ListN.{length};
+ghost use lib.Seq.{sets};
+ghost use Rattle.bands.specs.Positions.{rowInDomain};
+ghost use Rattle.srl_rules.specs.Rules.{Width};
+ghost use Rattle.srl_encoder.specs.EncodeInner.{Good};
+ghost use Rattle.upgrade_steps.specs.Steps.{steps, bandStep};
+ghost use Rattle.progressive_encoder.specs.Encode.{srlDifference, rawDifference, srlBytes, rawBytes, written};
+ghost use Rattle.progressive_encoder.specs.Writing.{passLists, placeLists, bandLists, Long, Lent, oneIf, onlyIf, surveyOf, Counts, Surveys, noTotal, Few, measuredOf, Measures, Measurable, sinksOf, freshSinks, outputs, Stores, Writable, endLength, endOut, listsAnswer, listsSrlOut, listsRawOut};
+use crate::Written;
+
+// What a band has for the SRL stream: how many values, the sum of their magnitudes, and the largest.
+pub struct Survey {
+    pub count: u32,
+    pub sum: u32,
+    pub largest: u16,
+}
+
+// What the bands have for both streams, and whether a value is larger than its width admits.
+pub struct Total {
+    pub count: usize,
+    pub sum: usize,
+    pub raw_bits: usize,
+    pub bad: bool,
+}
+
+// A writer for each stream.
+pub struct Sinks {
+    pub srl: srl_encoder::encoder::CallState,
+    pub raw: bits::writer::BitWriter,
+}
+
+// ---- one place
+
+// The value for the SRL stream.
+fn srl_difference(c: i16, p: i16, position: u8) -> i16
+    ensures { λ r. ⌜ r ≡ srlDifference position c p ⌝ }
+{
+    fixed::sub_clamp(
+        fixed::shift_right_floor(c, position),
+        fixed::shift_right_floor(p, position),
+    )
+}
+
+// Whether two coefficients are alike at a position: then there is no difference.
+fn alike(c: i16, p: i16, position: u8) -> bool
+    ensures { λ r. ⌜ (r ≡ true → srlDifference position c p ≡ pos 0) ⌝ }
+{
+    fixed::shift_right_floor(c, position) == fixed::shift_right_floor(p, position)
+}
+
+// The number for the raw stream.
+fn raw_difference(c: i16, p: i16, position: u8) -> u16
+    requires { ⌜ position ≤ 15 ⌝ }
+    ensures { λ r. ⌜ r ≡ rawDifference position c p ⌝ }
+{
+    let a = fixed::magnitude(c) >> position;
+    let b = fixed::magnitude(p) >> position;
+    if b < a { a - b } else { 0 }
+}
+
+// ---- surveying
+
+// A truth value as a count.
+fn one_if(b: bool) -> u32
+    ensures { λ r. ⌜ r ≡ oneIf b ⌝ }
+{
+    if b { 1 } else { 0 }
+}
+
+fn only_if(b: bool, m: u16) -> u16
+    ensures { λ r. ⌜ r ≡ onlyIf b m ⌝ }
+{
+    if b { m } else { 0 }
+}
+
+fn either(a: bool, b: bool) -> bool
+    ensures { λ r. ⌜ r ≡ (a || b) ⌝ }
+{
+    if a { true } else { b }
+}
+
+// Whether a magnitude is larger than a width admits.
+fn too_large(m: u16, width: u8) -> bool
+    requires { ⌜ Width width ⌝ }
+    ensures { λ r. ⌜ r ≡ ltb (2 ^ width - 1) m ⌝ }
+{
+    let most = (1u16 << width) - 1;
+    most < m
+}
+
+// The places of a band that is not skipped. There is no branch, so the compiler does several places at a time.
+fn survey_band(
+    coefficients: &[i16],
+    prev_coefficients: &[i16],
+    sign: &[i8],
+    t: upgrade_steps::BandStep,
+    from: usize,
+    to: usize,
+) -> Survey
+    requires { ⌜ Lent (now coefficients) (now «prev_coefficients») (now sign) from to × (1 ≤ t .width) ⌝ }
+    ensures { λ r. ⌜ Counts (bandLists (bandStep t) from to (now (coefficients .entry)) (now («prev_coefficients» .entry)) (now (sign .entry))) (surveyOf 0 0 0) r × (r .count ≤ to - from) × (r .sum ≤ 32768 * (to - from)) ⌝ }
+{
+    let mut count: u32 = 0;
+    let mut sum: u32 = 0;
+    let mut largest: u16 = 0;
+    let mut i = from;
+    while i < to {
+        let v = srl_difference(coefficients[i], prev_coefficients[i], t.position);
+        let given = upgrade_steps::from_srl(t, sign[i]);
+        let m = only_if(given, fixed::magnitude(v));
+        count += one_if(given);
+        sum += m as u32;
+        largest = srl_encoder::encoder::larger(largest, m);
+        i += 1;
+    }
+    Survey {
+        count,
+        sum,
+        largest,
+    }
+}
+
+// One band more: of width 0 it is skipped.
+fn survey_next(
+    coefficients: &[i16],
+    prev_coefficients: &[i16],
+    sign: &[i8],
+    t: upgrade_steps::BandStep,
+    from: usize,
+    to: usize,
+    done: Total,
+) -> Total
+    requires { ⌜ Lent (now coefficients) (now «prev_coefficients») (now sign) from to × (t .width ≤ 15) × Few done from ⌝ }
+    ensures { λ r. ⌜ Surveys (bandLists (bandStep t) from to (now (coefficients .entry)) (now («prev_coefficients» .entry)) (now (sign .entry))) done r × Few r to ⌝ }
+{
+    if t.width == 0 {
+        return done;
+    }
+    let s = survey_band(coefficients, prev_coefficients, sign, t, from, to);
+    let n = s.count as usize;
+    Total {
+        count: done.count + n,
+        sum: done.sum + (s.sum as usize),
+        raw_bits: done.raw_bits + (to - from - n) * (t.width as usize),
+        bad: either(done.bad, too_large(s.largest, t.width)),
+    }
+}
+
+// The ten bands.
+fn survey_bands(
+    coefficients: &[i16],
+    prev_coefficients: &[i16],
+    prev: [u8; 10],
+    curr: [u8; 10],
+    sign: &[i8],
+    use_reduce_extrapolate: bool,
+) -> Total
+    requires { ⌜ (rowInDomain prev ≡ true) × Long (now coefficients) × Long (now «prev_coefficients») × Long (now sign) ⌝ }
+    ensures { λ r. ⌜ Surveys (passLists (steps «use_reduce_extrapolate» prev curr) (now (coefficients .entry)) (now («prev_coefficients» .entry)) (now (sign .entry))) noTotal r × Few r 4096 ⌝ }
+{
+    let mut done = Total {
+        count: 0,
+        sum: 0,
+        raw_bits: 0,
+        bad: false,
+    };
+    let mut b: usize = 0;
+    while b < 10 {
+        let t = upgrade_steps::band_step(b, prev[b], curr[b]);
+        let place = upgrade_steps::span::band_span(use_reduce_extrapolate, b);
+        let from = place.from;
+        let to = place.to;
+        done = survey_next(coefficients, prev_coefficients, sign, t, from, to, done);
+        b += 1;
+    }
+    done
+}
+
+// ---- measuring
+
+// What is measured, by its parts.
+fn measured_of(at: usize, bit_count: u8, kp: u8, zeros: usize) -> srl_encoder::encoder::Measured
+    ensures { λ r. ⌜ r ≡ measuredOf at «bit_count» kp zeros ⌝ }
+{
+    srl_encoder::encoder::Measured {
+        at,
+        bit_count,
+        kp,
+        zeros,
+    }
+}
+
+// One place of a band that is not skipped. Most values are 0, so that is looked at first.
+fn measure_place(
+    start: srl_encoder::encoder::Measured,
+    t: upgrade_steps::BandStep,
+    c: i16,
+    p: i16,
+    s: i8,
+    i: usize,
+) -> srl_encoder::encoder::Measured
+    requires { ⌜ Width (t .width) × Measurable start i × (i < 4096) ⌝ }
+    ensures { λ r. ⌜ Measures (placeLists (bandStep t) c p s) start r × Measurable r (i + 1) ⌝ }
+{
+    if !upgrade_steps::from_srl(t, s) {
+        return start;
+    }
+    if alike(c, p, t.position) {
+        return measured_of(start.at, start.bit_count, start.kp, start.zeros + 1);
+    }
+    let v = srl_difference(c, p, t.position);
+    srl_encoder::encoder::measure_value(start, v, t.width)
+}
+
+// All places of a band that is not skipped. The loop keeps the parts of what is measured, as `upgrade_band` does.
+fn measure_band(
+    coefficients: &[i16],
+    prev_coefficients: &[i16],
+    sign: &[i8],
+    t: upgrade_steps::BandStep,
+    from: usize,
+    to: usize,
+    start: srl_encoder::encoder::Measured,
+) -> srl_encoder::encoder::Measured
+    requires { ⌜ Lent (now coefficients) (now «prev_coefficients») (now sign) from to × Width (t .width) × Measurable start from ⌝ }
+    ensures { λ r. ⌜ Measures (bandLists (bandStep t) from to (now (coefficients .entry)) (now («prev_coefficients» .entry)) (now (sign .entry))) start r × Measurable r to ⌝ }
+{
+    let mut at = start.at;
+    let mut bit_count = start.bit_count;
+    let mut kp = start.kp;
+    let mut zeros = start.zeros;
+    let mut i = from;
+    while i < to {
+        let c = coefficients[i];
+        let p = prev_coefficients[i];
+        let s = sign[i];
+        let next = measure_place(measured_of(at, bit_count, kp, zeros), t, c, p, s, i);
+        at = next.at;
+        bit_count = next.bit_count;
+        kp = next.kp;
+        zeros = next.zeros;
+        i += 1;
+    }
+    measured_of(at, bit_count, kp, zeros)
+}
+
+// One band more: of width 0 it is skipped.
+fn measure_next(
+    coefficients: &[i16],
+    prev_coefficients: &[i16],
+    sign: &[i8],
+    t: upgrade_steps::BandStep,
+    from: usize,
+    to: usize,
+    start: srl_encoder::encoder::Measured,
+) -> srl_encoder::encoder::Measured
+    requires { ⌜ Lent (now coefficients) (now «prev_coefficients») (now sign) from to × (t .width ≤ 15) × Measurable start from ⌝ }
+    ensures { λ r. ⌜ Measures (bandLists (bandStep t) from to (now (coefficients .entry)) (now («prev_coefficients» .entry)) (now (sign .entry))) start r × Measurable r to ⌝ }
+{
+    if t.width == 0 {
+        return start;
+    }
+    measure_band(coefficients, prev_coefficients, sign, t, from, to, start)
+}
+
+// The ten bands.
+fn measure_bands(
+    coefficients: &[i16],
+    prev_coefficients: &[i16],
+    prev: [u8; 10],
+    curr: [u8; 10],
+    sign: &[i8],
+    use_reduce_extrapolate: bool,
+) -> srl_encoder::encoder::Measured
+    requires { ⌜ (rowInDomain prev ≡ true) × Long (now coefficients) × Long (now «prev_coefficients») × Long (now sign) ⌝ }
+    ensures { λ r. ⌜ Measures (passLists (steps «use_reduce_extrapolate» prev curr) (now (coefficients .entry)) (now («prev_coefficients» .entry)) (now (sign .entry))) (measuredOf 0 0 8 0) r × Measurable r 4096 ⌝ }
+{
+    let mut cur = measured_of(0, 0, 8, 0);
+    let mut b: usize = 0;
+    while b < 10 {
+        let t = upgrade_steps::band_step(b, prev[b], curr[b]);
+        let place = upgrade_steps::span::band_span(use_reduce_extrapolate, b);
+        let from = place.from;
+        let to = place.to;
+        cur = measure_next(coefficients, prev_coefficients, sign, t, from, to, cur);
+        b += 1;
+    }
+    cur
+}
+
+// How many bytes the SRL stream takes, which has so many values.
+fn srl_length(
+    coefficients: &[i16],
+    prev_coefficients: &[i16],
+    prev: [u8; 10],
+    curr: [u8; 10],
+    sign: &[i8],
+    use_reduce_extrapolate: bool,
+    count: usize,
+) -> usize
+    requires { ⌜ (rowInDomain prev ≡ true) × Long (now coefficients) × Long (now «prev_coefficients») × Long (now sign) × (count ≡ length (passLists (steps «use_reduce_extrapolate» prev curr) (now coefficients) (now «prev_coefficients») (now sign) .values)) ⌝ }
+    ensures { λ r. ⌜ r ≡ length (srlBytes (steps «use_reduce_extrapolate» prev curr) (now (coefficients .entry)) (now («prev_coefficients» .entry)) (now (sign .entry))) ⌝ }
+{
+    if count == 0 {
+        return 0;
+    }
+    let m = measure_bands(
+        coefficients,
+        prev_coefficients,
+        prev,
+        curr,
+        sign,
+        use_reduce_extrapolate,
+    );
+    let n = srl_encoder::encoder::flush_length(m.kp, m.zeros);
+    m.at + ((m.bit_count as usize) + n + 7) / 8 + 1
+}
+
+// Whether the SRL stream exceeds the room. A value takes at most its magnitude and 12 bits more, whatever the others are.
+fn srl_exceeds(
+    coefficients: &[i16],
+    prev_coefficients: &[i16],
+    prev: [u8; 10],
+    curr: [u8; 10],
+    sign: &[i8],
+    use_reduce_extrapolate: bool,
+    total: Total,
+    room: usize,
+) -> bool
+    requires { ⌜ (rowInDomain prev ≡ true) × Long (now coefficients) × Long (now «prev_coefficients») × Long (now sign) × Surveys (passLists (steps «use_reduce_extrapolate» prev curr) (now coefficients) (now «prev_coefficients») (now sign)) noTotal total × Few total 4096 ⌝ }
+    ensures { λ r. ⌜ r ≡ ltb room (length (srlBytes (steps «use_reduce_extrapolate» prev curr) (now (coefficients .entry)) (now («prev_coefficients» .entry)) (now (sign .entry)))) ⌝ }
+{
+    let most = total.sum + 12 * total.count + 40;
+    if most / 8 < room {
+        return false;
+    }
+    let n = srl_length(
+        coefficients,
+        prev_coefficients,
+        prev,
+        curr,
+        sign,
+        use_reduce_extrapolate,
+        total.count,
+    );
+    room < n
+}
+
+// ---- storing
+
+// Both writers by their parts.
+fn sinks_of(
+    at: usize,
+    current: u8,
+    bit_count: u8,
+    kp: u8,
+    zeros: usize,
+    raw_at: usize,
+    raw_current: u8,
+    raw_count: u8,
+) -> Sinks
+    ensures { λ r. ⌜ r ≡ sinksOf at current «bit_count» kp zeros «raw_at» «raw_current» «raw_count» ⌝ }
+{
+    Sinks {
+        srl: srl_encoder::encoder::CallState {
+            sink: bits::writer::BitWriter {
+                at,
+                current,
+                bit_count,
+            },
+            kp,
+            zeros,
+        },
+        raw: bits::writer::BitWriter {
+            at: raw_at,
+            current: raw_current,
+            bit_count: raw_count,
+        },
+    }
+}
+
+// One place of a band that is not skipped. Most values are 0, so that is looked at first.
+fn write_place(
+    start: Sinks,
+    t: upgrade_steps::BandStep,
+    c: i16,
+    p: i16,
+    s: i8,
+    i: usize,
+    srl_out: &mut [u8],
+    raw_out: &mut [u8],
+) -> Sinks
+    requires { ⌜ Width (t .width) × (t .position ≤ 15) × Writable start i × (i < 4096) ⌝ }
+    ensures { λ r. ⌜ Stores (placeLists (bandStep t) c p s) (outputs (now («srl_out» .entry)) (now («raw_out» .entry)) start) (outputs (now («srl_out» .exit)) (now («raw_out» .exit)) r) × Writable r (i + 1) ⌝ }
+{
+    let a = start.srl;
+    let k = start.raw;
+    if !upgrade_steps::from_srl(t, s) {
+        let m = raw_difference(c, p, t.position);
+        return Sinks {
+            srl: a,
+            raw: bits::writer::put_bits(raw_out, k, m as usize, t.width),
+        };
+    }
+    if alike(c, p, t.position) {
+        let sink = a.sink;
+        return Sinks {
+            srl: srl_encoder::encoder::CallState {
+                sink,
+                kp: a.kp,
+                zeros: a.zeros + 1,
+            },
+            raw: k,
+        };
+    }
+    let v = srl_difference(c, p, t.position);
+    Sinks {
+        srl: srl_encoder::encoder::put_value(srl_out, a, v, t.width),
+        raw: k,
+    }
+}
+
+// All places of a band that is not skipped. The loop keeps the writers' parts, as `upgrade_band` does.
+fn write_band(
+    coefficients: &[i16],
+    prev_coefficients: &[i16],
+    sign: &[i8],
+    t: upgrade_steps::BandStep,
+    from: usize,
+    to: usize,
+    start: Sinks,
+    srl_out: &mut [u8],
+    raw_out: &mut [u8],
+) -> Sinks
+    requires { ⌜ Lent (now coefficients) (now «prev_coefficients») (now sign) from to × Width (t .width) × (t .position ≤ 15) × Writable start from ⌝ }
+    ensures { λ r. ⌜ Stores (bandLists (bandStep t) from to (now (coefficients .entry)) (now («prev_coefficients» .entry)) (now (sign .entry))) (outputs (now («srl_out» .entry)) (now («raw_out» .entry)) start) (outputs (now («srl_out» .exit)) (now («raw_out» .exit)) r) × Writable r to ⌝ }
+{
+    let a = start.srl;
+    let k = a.sink;
+    let r = start.raw;
+    let mut at = k.at;
+    let mut current = k.current;
+    let mut n = k.bit_count;
+    let mut kp = a.kp;
+    let mut zeros = a.zeros;
+    let mut raw_at = r.at;
+    let mut raw_current = r.current;
+    let mut raw_n = r.bit_count;
+    let mut i = from;
+    while i < to {
+        let cur = sinks_of(at, current, n, kp, zeros, raw_at, raw_current, raw_n);
+        let c = coefficients[i];
+        let p = prev_coefficients[i];
+        let s = sign[i];
+        let next = write_place(cur, t, c, p, s, i, srl_out, raw_out);
+        let b = next.srl;
+        let l = b.sink;
+        let q = next.raw;
+        at = l.at;
+        current = l.current;
+        n = l.bit_count;
+        kp = b.kp;
+        zeros = b.zeros;
+        raw_at = q.at;
+        raw_current = q.current;
+        raw_n = q.bit_count;
+        i += 1;
+    }
+    sinks_of(at, current, n, kp, zeros, raw_at, raw_current, raw_n)
+}
+
+// One band more: of width 0 it is skipped.
+fn write_next(
+    coefficients: &[i16],
+    prev_coefficients: &[i16],
+    sign: &[i8],
+    t: upgrade_steps::BandStep,
+    from: usize,
+    to: usize,
+    start: Sinks,
+    srl_out: &mut [u8],
+    raw_out: &mut [u8],
+) -> Sinks
+    requires { ⌜ Lent (now coefficients) (now «prev_coefficients») (now sign) from to × (t .width ≤ 15) × (t .position ≤ 15) × Writable start from ⌝ }
+    ensures { λ r. ⌜ Stores (bandLists (bandStep t) from to (now (coefficients .entry)) (now («prev_coefficients» .entry)) (now (sign .entry))) (outputs (now («srl_out» .entry)) (now («raw_out» .entry)) start) (outputs (now («srl_out» .exit)) (now («raw_out» .exit)) r) × Writable r to ⌝ }
+{
+    if t.width == 0 {
+        return start;
+    }
+    write_band(
+        coefficients,
+        prev_coefficients,
+        sign,
+        t,
+        from,
+        to,
+        start,
+        srl_out,
+        raw_out,
+    )
+}
+
+// The ten bands.
+fn write_bands(
+    coefficients: &[i16],
+    prev_coefficients: &[i16],
+    prev: [u8; 10],
+    curr: [u8; 10],
+    sign: &[i8],
+    use_reduce_extrapolate: bool,
+    srl_out: &mut [u8],
+    raw_out: &mut [u8],
+) -> Sinks
+    requires { ⌜ (rowInDomain prev ≡ true) × (rowInDomain curr ≡ true) × Long (now coefficients) × Long (now «prev_coefficients») × Long (now sign) ⌝ }
+    ensures { λ r. ⌜ Stores (passLists (steps «use_reduce_extrapolate» prev curr) (now (coefficients .entry)) (now («prev_coefficients» .entry)) (now (sign .entry))) (outputs (now («srl_out» .entry)) (now («raw_out» .entry)) freshSinks) (outputs (now («srl_out» .exit)) (now («raw_out» .exit)) r) × Writable r 4096 ⌝ }
+{
+    let mut cur = sinks_of(0, 0, 0, 8, 0, 0, 0, 0);
+    let mut b: usize = 0;
+    while b < 10 {
+        let t = upgrade_steps::band_step(b, prev[b], curr[b]);
+        let place = upgrade_steps::span::band_span(use_reduce_extrapolate, b);
+        let from = place.from;
+        let to = place.to;
+        cur = write_next(
+            coefficients,
+            prev_coefficients,
+            sign,
+            t,
+            from,
+            to,
+            cur,
+            srl_out,
+            raw_out,
+        );
+        b += 1;
+    }
+    cur
+}
+
+// The end of the SRL stream, which has so many values: how many bytes it has.
+fn end_srl(out: &mut [u8], c: srl_encoder::encoder::CallState, count: usize) -> usize
+    requires { ⌜ Good c × (c .sink .at + c .zeros ≤ 40000 * 4096) ⌝ }
+    ensures { λ r. ⌜ (r ≡ endLength count c) × (now (out .exit) ≡ endOut count (now (out .entry)) c) ⌝ }
+{
+    if count == 0 {
+        return 0;
+    }
+    let sink = srl_encoder::encoder::put_flush(out, c);
+    let n = bits::writer::put_pad(out, sink);
+    bits::writer::store(out, n, 0);
+    n + 1
+}
+
+// Both streams, with room for both; the SRL stream has so many values.
+fn write_streams(
+    coefficients: &[i16],
+    prev_coefficients: &[i16],
+    prev: [u8; 10],
+    curr: [u8; 10],
+    sign: &[i8],
+    use_reduce_extrapolate: bool,
+    count: usize,
+    srl_out: &mut [u8],
+    raw_out: &mut [u8],
+) -> Written
+    requires { ⌜ (rowInDomain prev ≡ true) × (rowInDomain curr ≡ true) × Long (now coefficients) × Long (now «prev_coefficients») × Long (now sign) × (count ≡ length (passLists (steps «use_reduce_extrapolate» prev curr) (now coefficients) (now «prev_coefficients») (now sign) .values)) ⌝ }
+    ensures { λ r. ⌜ (r ≡ written 0 (length (srlBytes (steps «use_reduce_extrapolate» prev curr) (now (coefficients .entry)) (now («prev_coefficients» .entry)) (now (sign .entry)))) (length (rawBytes (steps «use_reduce_extrapolate» prev curr) (now (coefficients .entry)) (now («prev_coefficients» .entry)) (now (sign .entry))))) × (now («srl_out» .exit) ≡ sets (now («srl_out» .entry)) 0 (srlBytes (steps «use_reduce_extrapolate» prev curr) (now (coefficients .entry)) (now («prev_coefficients» .entry)) (now (sign .entry)))) × (now («raw_out» .exit) ≡ sets (now («raw_out» .entry)) 0 (rawBytes (steps «use_reduce_extrapolate» prev curr) (now (coefficients .entry)) (now («prev_coefficients» .entry)) (now (sign .entry)))) ⌝ }
+{
+    let done = write_bands(
+        coefficients,
+        prev_coefficients,
+        prev,
+        curr,
+        sign,
+        use_reduce_extrapolate,
+        srl_out,
+        raw_out,
+    );
+    let n = end_srl(srl_out, done.srl, count);
+    let m = bits::writer::put_pad(raw_out, done.raw);
+    Written::Bytes(n, m)
+}
+
+// A pass over a component, at positions in the domain.
+pub fn write_pass(
+    coefficients: &[i16],
+    prev_coefficients: &[i16],
+    prev: [u8; 10],
+    curr: [u8; 10],
+    sign: &[i8],
+    use_reduce_extrapolate: bool,
+    srl_out: &mut [u8],
+    raw_out: &mut [u8],
+) -> Written
+    requires { ⌜ (rowInDomain prev ≡ true) × (rowInDomain curr ≡ true) × Long (now coefficients) × Long (now «prev_coefficients») × Long (now sign) ⌝ }
+    ensures { λ r. ⌜ (r ≡ listsAnswer (passLists (steps «use_reduce_extrapolate» prev curr) (now (coefficients .entry)) (now («prev_coefficients» .entry)) (now (sign .entry))) (now («srl_out» .entry)) (now («raw_out» .entry))) × (now («srl_out» .exit) ≡ listsSrlOut (passLists (steps «use_reduce_extrapolate» prev curr) (now (coefficients .entry)) (now («prev_coefficients» .entry)) (now (sign .entry))) (now («srl_out» .entry)) (now («raw_out» .entry))) × (now («raw_out» .exit) ≡ listsRawOut (passLists (steps «use_reduce_extrapolate» prev curr) (now (coefficients .entry)) (now («prev_coefficients» .entry)) (now (sign .entry))) (now («srl_out» .entry)) (now («raw_out» .entry))) ⌝ }
+{
+    let total = survey_bands(
+        coefficients,
+        prev_coefficients,
+        prev,
+        curr,
+        sign,
+        use_reduce_extrapolate,
+    );
+    if total.bad {
+        return Written::Refused(5);
+    }
+    if raw_out.len() < (total.raw_bits + 7) / 8 {
+        return Written::Refused(7);
+    }
+    if srl_exceeds(
+        coefficients,
+        prev_coefficients,
+        prev,
+        curr,
+        sign,
+        use_reduce_extrapolate,
+        total,
+        srl_out.len(),
+    ) {
+        return Written::Refused(7);
+    }
+    write_streams(
+        coefficients,
+        prev_coefficients,
+        prev,
+        curr,
+        sign,
+        use_reduce_extrapolate,
+        total.count,
+        srl_out,
+        raw_out,
+    )
+}

@@ -1,0 +1,5 @@
+-- Laws of the SRL decoder, for the proofs here and in the crates above.
+pub mod Codes
+pub mod Values
+pub mod Due
+pub mod States

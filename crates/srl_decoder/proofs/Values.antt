@@ -1,0 +1,132 @@
+-- Values one after another: the reader between them, and the reader as the decoder's state.
+use mathlib.Core.Path.{_≡_, refl, sym, ap, ap₂, _∙_}
+use mathlib.Core.Bool.{Bool, true, false, cond}
+use mathlib.Core.List.{List, [], _∷_, _++_}
+use Prim.Native.Nat.{ℕ, zero, suc, _+_, _-_, _/_, _^_, _≤_, _<_, min}
+use native.Mathlib.Numerals.{add-one}
+use lib.Dec.{ltb}
+use lib.IntN.{ℤ, pos}
+use lib.ListN.{length, drop, replicate, set, getD, length-replicate}
+use lib.Seq.{drop-cons, set-at, append-snoc}
+use Rattle.fixed.specs.Fixed.{withSign}
+use Rattle.bits.specs.Bits.{bitAt, num, zeros, bitsRead}
+use Rattle.bits.proofs.Places.{place-is, read-place}
+use Rattle.bits.proofs.Past.{Alike, alike-held, alike-trans, alike-on, held-alike, bit-alike, num-alike, zeros-alike}
+use Rattle.srl_decoder.specs.Srl.{Reader, reader, mostZeros, codeWord, value, past, readied, nextValue, nextReader, values, readerAfter}
+use Rattle.srl_decoder.specs.Decode.{opened}
+use Rattle.srl_decoder.specs.Inner.{shut, heldReader}
+use Rattle.srl_decoder.specs.declared.SrlState.{SrlState}
+
+-- ════ readers and states ════
+
+pub shut-opened : (st : SrlState) → st .reader .«bit_idx» ≤ 7 → st ≡ shut (opened st)
+shut-opened st h =
+    let e = place-is (st .reader .«byte_idx») (st .reader .«bit_idx») (bitsRead (st .reader)) h refl in
+    λ i. record { reader = e i; kp = st .kp; «zero_run_remaining» = st .«zero_run_remaining»; «nonzero_pending» = st .«nonzero_pending» }
+
+pub opened-shut : (r : Reader) → opened (shut r) ≡ r
+opened-shut r = ap (λ (n : ℕ). reader n (r .kp) (r .run) (r .pending)) (read-place (r .read))
+
+-- ════ past the end ════
+
+-- readers that differ in a count past the end
+pub data AlikeReader (s : List ℕ) : Reader → Reader → Type 0 where
+  alike : {m n : ℕ} {kp run : ℕ} {pending : Bool} → Alike s m n → AlikeReader s (reader m kp run pending) (reader n kp run pending)
+
+pub reader-held : (s : List ℕ) (r : Reader) → AlikeReader s (heldReader s r) r
+reader-held s r = alike (alike-held s (r .read))
+
+pub held-readers : (s : List ℕ) {r q : Reader} → AlikeReader s r q → heldReader s r ≡ heldReader s q
+held-readers s (alike {kp = kp} {run = run} {pending = pending} a) = ap (λ (n : ℕ). reader n kp run pending) (held-alike s a)
+
+pub reader-trans : (s : List ℕ) {p q r : Reader} → AlikeReader s p q → AlikeReader s q r → AlikeReader s p r
+reader-trans s (alike a) (alike b) = alike (alike-trans s a b)
+
+code-alike : (s : List ℕ) {m n : ℕ} (kp : ℕ) → Alike s m n → AlikeReader s (codeWord s m kp) (codeWord s n kp)
+code-alike s {m} {n} kp a = rw (← bit-alike s a, ← num-alike s (kp / 8) (alike-on s 1 a)) (by (bitAt s m) (num s (m + 1) (kp / 8)))
+  where
+    by : (b : Bool) (z : ℕ)
+        → AlikeReader s (cond b (reader (m + 1 + kp / 8) (kp - 6) z true) (reader (m + 1) (min (kp + 4) 80) (2 ^ (kp / 8)) false))
+        (cond b (reader (n + 1 + kp / 8) (kp - 6) z true) (reader (n + 1) (min (kp + 4) 80) (2 ^ (kp / 8)) false))
+    by true z = alike (alike-on s (kp / 8) (alike-on s 1 a))
+    by false z = alike (alike-on s 1 a)
+
+ready-alike : (s : List ℕ) {r q : Reader} → AlikeReader s r q → AlikeReader s (readied s r) (readied s q)
+ready-alike s (alike {run = suc z} {pending = pending} a) = alike a
+ready-alike s (alike {run = zero} {pending = true} a) = alike a
+ready-alike s (alike {kp = kp} {run = zero} {pending = false} a) = code-alike s kp a
+
+-- what a ready reader gives, and the reader after it
+abbrev gives : List ℕ → ℕ → Reader → ℤ
+gives s w r = value s w (r .read) (r .run)
+
+abbrev given : List ℕ → ℕ → Reader → Reader
+given s w r = past s w (r .read) (r .kp) (r .run) (r .pending)
+
+give-alike : (s : List ℕ) (w : ℕ) {r q : Reader} → AlikeReader s r q → (gives s w r ≡ gives s w q) × AlikeReader s (given s w r) (given s w q)
+give-alike s w (alike {run = suc z} a) = (refl, alike a)
+give-alike s w (alike {m = m} {n = n} {kp = kp} {run = zero} a) =
+    let z = zeros-alike s (mostZeros w) (alike-on s 1 a) in (
+      ap₂ (λ (b : Bool) (x : ℕ). withSign b (x + 1)) (bit-alike s a) z,
+      rw (← z) (alike (alike-on s (cond (ltb (zeros s (m + 1) (mostZeros w)) (mostZeros w)) (zeros s (m + 1) (mostZeros w) + 1) (mostZeros w)) (alike-on s 1 a))),
+    )
+
+pub next-alike : (s : List ℕ) (w : ℕ) {r q : Reader} → AlikeReader s r q → (nextValue s w r ≡ nextValue s w q) × AlikeReader s (nextReader s w r) (nextReader s w q)
+next-alike s w a = give-alike s w (ready-alike s a)
+
+pub value-held : (s : List ℕ) (w : ℕ) (r : Reader) → nextValue s w (heldReader s r) ≡ nextValue s w r
+value-held s w r = next-alike s w (reader-held s r) .0
+
+pub next-held : (s : List ℕ) (w : ℕ) (r : Reader) → heldReader s (nextReader s w (heldReader s r)) ≡ heldReader s (nextReader s w r)
+next-held s w r = held-readers s (next-alike s w (reader-held s r) .1)
+
+pub values-alike : (s ws : List ℕ) {r q : Reader} → AlikeReader s r q → (values s ws r ≡ values s ws q) × AlikeReader s (readerAfter s ws r) (readerAfter s ws q)
+unfolding values readerAfter
+values-alike s [] a = (refl, a)
+values-alike s (w ∷ ws) a =
+    let n = next-alike s w a in
+    let i = values-alike s ws (n .1) in
+    (ap₂ (λ (v : ℤ) (vs : List ℤ). v ∷ vs) (n .0) (i .0), i .1)
+
+-- ════ one value more ════
+
+pub after-append : (s : List ℕ) (a b : List ℕ) (r : Reader) → readerAfter s (a ++ b) r ≡ readerAfter s b (readerAfter s a r)
+unfolding readerAfter
+after-append s [] b r = refl
+after-append s (w ∷ a) b r = after-append s a b (nextReader s w r)
+
+pub values-append : (s : List ℕ) (a b : List ℕ) (r : Reader) → values s (a ++ b) r ≡ values s a r ++ values s b (readerAfter s a r)
+unfolding values readerAfter
+values-append s [] b r = refl
+values-append s (w ∷ a) b r = ap (λ (l : List ℤ). nextValue s w r ∷ l) (values-append s a b (nextReader s w r))
+
+pub length-values : (s ws : List ℕ) (r : Reader) → length (values s ws r) ≡ length ws
+unfolding values
+length-values s [] r = refl
+length-values s (w ∷ ws) r = ap suc (length-values s ws (nextReader s w r))
+
+replicate-snoc : (n w : ℕ) → replicate (n + 1) w ≡ replicate n w ++ (w ∷ [])
+replicate-snoc n w = ap (λ (i : ℕ). replicate i w) (add-one n) ∙ on n
+  where
+    on : (n : ℕ) → w ∷ replicate n w ≡ replicate n w ++ (w ∷ [])
+    on zero = refl
+    on (suc n) = ap (λ (l : List ℕ). w ∷ l) (on n)
+
+pub after-next : (s : List ℕ) (w n : ℕ) (r : Reader) → readerAfter s (replicate (n + 1) w) r ≡ nextReader s w (readerAfter s (replicate n w) r)
+unfolding readerAfter
+after-next s w n r = ap (λ (ws : List ℕ). readerAfter s ws r) (replicate-snoc n w) ∙ after-append s (replicate n w) (w ∷ []) r
+
+values-next : (s : List ℕ) (w n : ℕ) (r : Reader) → values s (replicate (n + 1) w) r ≡ values s (replicate n w) r ++ (nextValue s w (readerAfter s (replicate n w) r) ∷ [])
+unfolding values
+values-next s w n r = ap (λ (ws : List ℕ). values s ws r) (replicate-snoc n w) ∙ values-append s (replicate n w) (w ∷ []) r
+
+-- a store at the seam of what is stored and what is left
+store-next : {A : Type 0} (vs l : List A) (i : ℕ) (d a : A) → length vs ≡ i → i < length l → set (vs ++ drop i l) i a ≡ (vs ++ (a ∷ [])) ++ drop (suc i) l
+store-next vs l i d a e h = rw (drop-cons l i d h, set-at vs (getD l i d) (drop (suc i) l) a i e) (sym (append-snoc vs a (drop (suc i) l)))
+
+-- the next value stored after n values
+pub values-store : (s : List ℕ) (w n : ℕ) (r : Reader) (out : List ℤ) → n < length out
+    → set (values s (replicate n w) r ++ drop n out) n (nextValue s w (readerAfter s (replicate n w) r)) ≡ values s (replicate (n + 1) w) r ++ drop (n + 1) out
+values-store s w n r out h =
+    store-next (values s (replicate n w) r) out n (pos 0) (nextValue s w (readerAfter s (replicate n w) r)) (length-values s (replicate n w) r ∙ length-replicate n w) h
+    ∙ ap₂ (λ (l : List ℤ) (i : ℕ). l ++ drop i out) (sym (values-next s w n r)) (sym (add-one n))

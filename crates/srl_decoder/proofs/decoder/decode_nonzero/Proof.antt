@@ -1,0 +1,60 @@
+-- `srl_decoder::decoder::decode_nonzero` meets its contract: the zeros behind the sign bit, at most 2^w - 2. Assumes nothing.
+use mathlib.Core.Path.{_≡_, ap, _∙_}
+use mathlib.Core.Bool.{cond}
+use Prim.Native.Nat.{_+_, _-_, _<_}
+use native.Mathlib.Omega.{arith}
+use lib.Dec.{ltb}
+use mir.Syntax.{w16}
+use Rattle.fixed.proofs.Machine.{got}
+use Rattle.bits.specs.Bits.{zeros, bitsRead, placeOf}
+use Rattle.bits.proofs.Tops.{first-bit}
+use Rattle.srl_decoder.specs.Srl.{mostZeros}
+use Rattle.srl_rules.proofs.Widths.{pow-low}
+use Rattle.srl_decoder.proofs.Codes.{few-zeros, nonzero-is}
+use borrow.Author.Needs.{needs}
+use Rattle.srl_decoder.proofs.decoder.decode_nonzero.Statement.{statement}
+use Rattle.srl_decoder.proofs.decoder.decode_nonzero.Tie as tie
+
+-- the most zeros that there can be
+most : (c : tie.After-max-magnitude) → c .max-magnitude .result - 1 ≡ mostZeros (c .before .before .before .args .num-bits)
+most c = omega (arith, c .max-magnitude .ensures)
+
+found : (c : tie.After-zeros-behind-first)
+    → c .zeros-behind-first .result ≡ zeros (c .before .before .before .before .args .src .now) (bitsRead (c .before .before .before .before .args .reader) + 1) (mostZeros (c .before .before .before .before .args .num-bits))
+found c =
+    let a = c .before .before .before .before .args in
+    c .zeros-behind-first .ensures ∙ ap (zeros (a .src .now) (bitsRead (a .reader) + 1)) (most (c .before))
+
+few : (c : tie.After-zeros-behind-first) → c .zeros-behind-first .result + 1 < 32768
+few c =
+    let k = c .before .before .before .before in
+    omega (arith, found c, few-zeros (k .args .src .now) (bitsRead (k .args .reader) + 1) (k .args .num-bits) (k .pre .2))
+
+sub-limit : tie.Need-sub-limit
+sub-limit c =
+    let k = c .before .before .before in
+    omega (arith, c .max-magnitude .ensures, pow-low (k .args .num-bits) (k .pre .2))
+
+add-with-sign : tie.Need-add-with-sign
+add-with-sign c = record { fits = omega (arith, few (c .before)) }
+
+cast-with-sign : tie.Need-cast-with-sign
+cast-with-sign c = record { fits = omega (arith, few (c .before)) }
+
+returns : tie.Need-returns
+returns c =
+    let k = c .before .before .before .before .before .before .before in
+    let s = k .args .src .now in
+    let n = bitsRead (k .args .reader) in
+    let w = k .args .num-bits in
+    let h = c .before .before .before .before .before .ahead in
+    let z = found (c .before .before .before) in
+    let m = most (c .before .before .before .before) in
+    let b = first-bit _ _ s n (h .ensures) (omega (arith, k .pre .0)) in
+    let t = c .before .before .zeros-length in
+    let e : n + (1 + t .result) ≡ n + 1 + cond (ltb (zeros s (n + 1) (mostZeros w)) (mostZeros w)) (zeros s (n + 1) (mostZeros w) + 1) (mostZeros w) =
+    omega (arith, rw (m, z) at (t .ensures)) in
+    (got w16 (c .before .with-sign .ok) (c .before .with-sign .ensures ∙ nonzero-is s n w _ _ (k .pre .2) b z), c .skip .ensures ∙ ap placeOf e)
+
+pub decode-nonzero-spec : {M : Type 1} → statement M
+decode-nonzero-spec = tie.close (tie.spec (λ c κs. search needs) (λ c κs. search needs) sub-limit (λ c. search needs) (λ c κs. search needs) (λ c κs. search needs) add-with-sign cast-with-sign (λ c κs. search needs) (λ c. search needs) (λ c. search needs) (λ c κs. search needs) returns)

@@ -1,0 +1,77 @@
+-- What a call of `decode` answers and stores, for every state, stream, output, count and width (docs/SCOPE.md, "SRL", "Refusals").
+use mathlib.Core.Bool.{Bool, true, false, cond, _&&_}
+use mathlib.Core.List.{List}
+use Prim.Native.Nat.{ℕ, zero, suc}
+use lib.Dec.{leb}
+use lib.IntN.{ℤ}
+use lib.ListN.{length, replicate}
+use Rattle.bits.specs.Bits.{bitsRead, placeAt}
+use Rattle.srl_rules.specs.Rules.{widthOk, noRoom, stored}
+use Rattle.srl_decoder.specs.Srl.{Reader, reader, readied, nextReader, values, readerAfter}
+use Rattle.srl_decoder.specs.declared.SrlState.{SrlState}
+use Rattle.srl_decoder.specs.declared.Decoded.{Decoded}
+use Rattle.srl_decoder.specs.declared.Decoded.the-variants.{Values, Refused}
+
+-- ════ the public state ════
+
+-- the state at the start of a stream
+abbrev pub startState : SrlState
+startState = record { reader = record { «byte_idx» = 0; «bit_idx» = 0 }; kp = 8; «zero_run_remaining» = 0; «nonzero_pending» = false }
+
+-- the reader that a state is
+abbrev pub opened : SrlState → Reader
+opened st = reader (bitsRead (st .reader)) (st .kp) (st .«zero_run_remaining») (st .«nonzero_pending»)
+
+-- the state that a reader is, where st was handed in
+abbrev pub closed : List ℕ → SrlState → Reader → SrlState
+closed s st r = record { reader = placeAt s (st .reader) (r .read); kp = r .kp; «zero_run_remaining» = r .run; «nonzero_pending» = r .pending }
+
+-- ════ refusals: 0 is none ════
+
+-- 8: "a coder state with kp above 80, a bit place above 7, a run above 1,024"
+abbrev pub stateOk : SrlState → Bool
+stateOk st = leb (st .kp) 80 && (leb (st .reader .«bit_idx») 7 && leb (st .«zero_run_remaining») 1024)
+
+-- the next value is nonzero where no zero of a run is left once the reader is ready
+abbrev pub due : ℕ → Bool
+due zero = true
+due (suc run) = false
+
+-- "where a nonzero value is due": one of the next n values is. A zero is passed alike at every width, so the 0 here says nothing
+abbrev pub dueAmong : List ℕ → Reader → ℕ → Bool
+dueAmong s r zero = false
+dueAmong s r (suc n) = cond (due (readied s r .run)) true (dueAmong s (nextReader s 0 r) n)
+
+-- "order: 8, .. 4, .. 7"; "`decode` [refuses a bad width] only where a nonzero value is due"
+abbrev pub decodeRefusal : List ℕ → SrlState → ℕ → ℕ → ℕ → ℕ
+decodeRefusal s st room n w =
+    cond (stateOk st) (cond (widthOk w) (noRoom room n) (cond (dueAmong s (opened st) n) 4 (noRoom room n))) 8
+
+-- ════ the answer, and what `out` holds then ════
+
+-- "a refusal gives its number, zero lengths and counts, and the state handed in, and alters no lent element"
+abbrev pub decoded : ℕ → ℕ → SrlState → SrlState → Decoded
+decoded zero n next st = Values n next
+decoded (suc k) n next st = Refused (suc k) st
+
+-- what `decode` answers
+abbrev pub decodeAnswer : List ℕ → SrlState → ℕ → ℕ → ℕ → Decoded
+decodeAnswer s st room n w =
+    decoded (decodeRefusal s st room n w) n (closed s st (readerAfter s (replicate n w) (opened st))) st
+
+-- what `out` holds after it
+abbrev pub decodeOut : List ℕ → SrlState → List ℤ → ℕ → ℕ → List ℤ
+decodeOut s st out n w = stored (decodeRefusal s st (length out) n w) (values s (replicate n w) (opened st)) out
+
+-- the number, the count of values and the state of each case
+abbrev pub numberOf : Decoded → ℕ
+numberOf (Values n st) = 0
+numberOf (Refused k st) = k
+
+abbrev pub valueCount : Decoded → ℕ
+valueCount (Values n st) = n
+valueCount (Refused k st) = 0
+
+abbrev pub stateOf : Decoded → SrlState
+stateOf (Values n st) = st
+stateOf (Refused k st) = st

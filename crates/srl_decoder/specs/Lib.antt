@@ -1,0 +1,4 @@
+-- What the contracts of `srl_decoder` cite.
+pub mod Srl
+pub mod Decode
+pub mod Inner

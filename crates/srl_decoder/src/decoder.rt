@@ -1,0 +1,222 @@
+// The decoder, value by value. One value takes at most one code word.
+ghost use mathlib.Core.Path.{_≡_};
+ghost use mathlib.Core.List.{_++_};
+ghost use Prim.Native.Nat.{_*_, _^_, _+_, _≤_};
+ghost use lib.ListN.{length, drop, replicate};
+ghost use Rattle.bits.specs.Bits.{bitsRead, placeOf};
+ghost use Rattle.srl_decoder.specs.Srl.{nonzero, behind, codeWord, readied, nextValue, nextReader, values, readerAfter};
+ghost use Rattle.srl_decoder.specs.Decode.{opened, closed, stateOk, dueAmong, decoded};
+ghost use Rattle.srl_rules.specs.Rules.{noRoom, stored, Width};
+ghost use Rattle.srl_decoder.specs.Inner.{Sound, shut, heldReader, handed};
+use crate::Decoded;
+use crate::SrlState;
+
+// A nonzero value and the place behind it.
+pub struct NonzeroRead {
+    pub value: i16,
+    pub next: bits::reader::BitReader,
+}
+
+// A value and the state after it.
+pub struct NextRead {
+    pub value: i16,
+    pub state: SrlState,
+}
+
+// Whether a decoder can have the state.
+pub fn state_ok(st: SrlState) -> bool
+    ensures { λ r. ⌜ r ≡ stateOk st ⌝ }
+{
+    if srl_rules::MAX_KP < st.kp {
+        return false;
+    }
+    let reader = st.reader;
+    if 7 < reader.bit_idx {
+        return false;
+    }
+    st.zero_run_remaining <= 1024
+}
+
+// ---- one value
+
+// One code word.
+fn code_word(src: &[u8], st: SrlState) -> SrlState
+    requires { ⌜ Sound st ⌝ }
+    ensures { λ r. ⌜ r ≡ shut (codeWord (now (src .entry)) (bitsRead (st .reader)) (st .kp)) ⌝ }
+{
+    let reader = st.reader;
+    let kp = st.kp;
+    let k = kp / 8;
+    let a = bits::reader::ahead(src, reader);
+    if a < 0x8000_0000_0000_0000 {
+        return SrlState {
+            reader: bits::reader::skip(reader, 1),
+            kp: srl_rules::raised(kp),
+            zero_run_remaining: srl_rules::run_size(kp),
+            nonzero_pending: false,
+        };
+    }
+    let zeros = bits::reader::top(bits::reader::behind_first(a), k);
+    SrlState {
+        reader: bits::reader::skip(reader, 1 + k as usize),
+        kp: srl_rules::lowered(kp),
+        zero_run_remaining: zeros as usize,
+        nonzero_pending: true,
+    }
+}
+
+// The state with a run or a nonzero value at hand: a code word is read where nothing is left of the last one.
+fn ready(src: &[u8], st: SrlState) -> SrlState
+    requires { ⌜ Sound st ⌝ }
+    ensures { λ r. ⌜ r ≡ shut (readied (now (src .entry)) (opened st)) ⌝ }
+{
+    if st.zero_run_remaining != 0 {
+        return st;
+    }
+    if st.nonzero_pending {
+        return st;
+    }
+    code_word(src, st)
+}
+
+// The nonzero value at a place.
+fn decode_nonzero(src: &[u8], reader: bits::reader::BitReader, num_bits: u8) -> NonzeroRead
+    requires { ⌜ (reader .«bit_idx» ≤ 7) × (reader .«byte_idx» ≤ 2 ^ 63 + 2) × Width «num_bits» ⌝ }
+    ensures { λ r. ⌜ (r .value ≡ nonzero (now (src .entry)) (bitsRead reader) «num_bits») × (r .next ≡ placeOf (behind (now (src .entry)) (bitsRead reader) «num_bits»)) ⌝ }
+{
+    let a = bits::reader::ahead(src, reader);
+    let limit = (srl_rules::max_magnitude(num_bits) - 1) as u32;
+    let zeros = bits::reader::zeros_behind_first(src, reader, a, limit);
+    let taken = bits::reader::zeros_length(zeros, limit);
+    NonzeroRead {
+        value: fixed::with_sign((zeros + 1) as u16, 0x8000_0000_0000_0000 <= a),
+        next: bits::reader::skip(reader, 1 + taken as usize),
+    }
+}
+
+// The next value.
+pub fn next_value(src: &[u8], st: SrlState, num_bits: u8) -> NextRead
+    requires { ⌜ Sound st × Width «num_bits» ⌝ }
+    ensures { λ r. ⌜ (r .value ≡ nextValue (now (src .entry)) «num_bits» (opened st)) × (r .state ≡ shut (nextReader (now (src .entry)) «num_bits» (opened st))) ⌝ }
+{
+    let at_hand = ready(src, st);
+    let reader = at_hand.reader;
+    if at_hand.zero_run_remaining != 0 {
+        return NextRead {
+            value: 0,
+            state: SrlState {
+                reader,
+                kp: at_hand.kp,
+                zero_run_remaining: at_hand.zero_run_remaining - 1,
+                nonzero_pending: at_hand.nonzero_pending,
+            },
+        };
+    }
+    let v = decode_nonzero(src, reader, num_bits);
+    let next = v.next;
+    NextRead {
+        value: v.value,
+        state: SrlState {
+            reader: next,
+            kp: at_hand.kp,
+            zero_run_remaining: 0,
+            nonzero_pending: false,
+        },
+    }
+}
+
+// ---- a call
+
+// The state with its place held at the stream's end.
+fn hold(src: &[u8], st: SrlState) -> SrlState
+    requires { ⌜ st .reader .«bit_idx» ≤ 7 ⌝ }
+    ensures { λ r. ⌜ r ≡ shut (heldReader (now (src .entry)) (opened st)) ⌝ }
+{
+    let reader = st.reader;
+    SrlState {
+        reader: bits::reader::hold(src, reader),
+        kp: st.kp,
+        zero_run_remaining: st.zero_run_remaining,
+        nonzero_pending: st.nonzero_pending,
+    }
+}
+
+// Stores the next `num_values` values at the front of `out`.
+fn store_values(
+    src: &[u8],
+    st: SrlState,
+    out: &mut [i16],
+    num_values: usize,
+    num_bits: u8,
+) -> SrlState
+    requires { ⌜ (st .reader .«bit_idx» ≤ 7) × (st .kp ≤ 80) × (bitsRead (st .reader) ≤ 8 * length (now src)) × Width «num_bits» × («num_values» ≤ length (now out)) ⌝ }
+    ensures { λ r. ⌜ (r ≡ shut (heldReader (now (src .entry)) (readerAfter (now (src .entry)) (replicate «num_values» «num_bits») (opened st)))) × (now (out .exit) ≡ values (now (src .entry)) (replicate «num_values» «num_bits») (opened st) ++ drop «num_values» (now (out .entry))) ⌝ }
+{
+    let mut cur = st;
+    let mut i: usize = 0;
+    while i < num_values {
+        let v = next_value(src, cur, num_bits);
+        let value = v.value;
+        let state = v.state;
+        out[i] = value;
+        cur = hold(src, state);
+        i += 1;
+    }
+    cur
+}
+
+// The state that goes back to the caller: a place that was handed in at or past the end stays as it is.
+fn hand_back(src: &[u8], st: SrlState, done: SrlState) -> SrlState
+    ensures { λ r. ⌜ r ≡ handed (now (src .entry)) st done ⌝ }
+{
+    let reader = st.reader;
+    if reader.byte_idx < src.len() {
+        return done;
+    }
+    SrlState {
+        reader,
+        kp: done.kp,
+        zero_run_remaining: done.zero_run_remaining,
+        nonzero_pending: done.nonzero_pending,
+    }
+}
+
+// Whether one of the next `num_values` values is nonzero. Each turn reads a code word, and past the stream's end no nonzero value comes,
+// so the turns are no more than the stream's bits.
+pub fn any_due(src: &[u8], st: SrlState, num_values: usize) -> bool
+    requires { ⌜ (st .reader .«bit_idx» ≤ 7) × (st .kp ≤ 80) ⌝ }
+    ensures { λ r. ⌜ r ≡ dueAmong (now (src .entry)) (opened st) «num_values» ⌝ }
+{
+    let mut cur = st;
+    let mut left = num_values;
+    while cur.zero_run_remaining < left {
+        if cur.nonzero_pending {
+            return true;
+        }
+        let reader = cur.reader;
+        if src.len() <= reader.byte_idx {
+            return false;
+        }
+        left -= cur.zero_run_remaining;
+        cur = code_word(src, cur);
+    }
+    false
+}
+
+// Stores the next `num_values` values if there is room for them, and refuses with 7 if not.
+pub fn store_if_room(
+    src: &[u8],
+    st: SrlState,
+    out: &mut [i16],
+    num_values: usize,
+    num_bits: u8,
+) -> Decoded
+    requires { ⌜ (st .reader .«bit_idx» ≤ 7) × (st .kp ≤ 80) × Width «num_bits» ⌝ }
+    ensures { λ r. ⌜ (r ≡ decoded (noRoom (length (now (out .entry))) «num_values») «num_values» (closed (now (src .entry)) st (readerAfter (now (src .entry)) (replicate «num_values» «num_bits») (opened st))) st) × (now (out .exit) ≡ stored (noRoom (length (now (out .entry))) «num_values») (values (now (src .entry)) (replicate «num_values» «num_bits») (opened st)) (now (out .entry))) ⌝ }
+{
+    if out.len() < num_values {
+        return Decoded::Refused(7, st);
+    }
+    let done = store_values(src, hold(src, st), out, num_values, num_bits);
+    Decoded::Values(num_values, hand_back(src, st, done))
+}

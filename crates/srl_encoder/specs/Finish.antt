@@ -1,0 +1,53 @@
+-- The end of an SRL stream: what `finish` answers and stores (docs/SCOPE.md, "SRL", "Refusals").
+use mathlib.Core.Bool.{Bool, cond}
+use mathlib.Core.List.{List, [], _∷_, _++_}
+use Prim.Native.Nat.{ℕ, zero, suc}
+use lib.IntN.{ℤ}
+use lib.ListN.{length}
+use Rattle.bits.specs.Written.{pack}
+use Rattle.srl_rules.specs.Rules.{noRoom, stored}
+use Rattle.srl_encoder.specs.Encode.{runBits, valueBits, valueKp, valueZeros, writerOk}
+use Rattle.srl_encoder.specs.declared.SrlWriter.{SrlWriter}
+use Rattle.srl_encoder.specs.declared.Finished.{Finished}
+use Rattle.srl_encoder.specs.declared.Finished.the-variants.{Stream, Refused}
+
+-- "`finish` writes a pending run as if a value followed"
+abbrev pub flush : ℕ → ℕ → List Bool
+flush kp zero = []
+flush kp (suc z) = runBits (suc (suc z)) kp (suc z)
+
+-- "`finish` writes a pending run as if a value followed, pads with zeros, and appends one byte 0"
+abbrev pub finishBytes : SrlWriter → List ℕ
+finishBytes st = pack (st .current) (st .«bit_count») (flush (st .kp) (st .«pending_zeros»)) ++ (0 ∷ [])
+
+-- the bits of a whole stream, from kp and the pending zeros on: values, each with its width, and then the end
+unfoldable pub streamBits : ℕ → ℕ → List ℕ → List ℤ → List Bool
+streamBits kp z ws [] = flush kp z
+streamBits kp z [] (v ∷ vs) = []
+streamBits kp z (w ∷ ws) (v ∷ vs) = valueBits w kp z v ++ streamBits (valueKp kp z v) (valueZeros z v) ws vs
+
+-- "order: 8, .. 7"
+abbrev pub finishRefusal : SrlWriter → ℕ → ℕ
+finishRefusal st room = cond (writerOk st) (noRoom room (length (finishBytes st))) 8
+
+-- "a refusal gives its number, zero lengths and counts, and the state handed in": after the end of a stream there is no state
+abbrev pub finished : ℕ → ℕ → SrlWriter → Finished
+finished zero n st = Stream n
+finished (suc k) n st = Refused (suc k) st
+
+-- what `finish` answers
+abbrev pub finishAnswer : SrlWriter → ℕ → Finished
+finishAnswer st room = finished (finishRefusal st room) (length (finishBytes st)) st
+
+-- what `out` holds after it
+abbrev pub finishOut : SrlWriter → List ℕ → List ℕ
+finishOut st out = stored (finishRefusal st (length out)) (finishBytes st) out
+
+-- the number and the count of bytes of each case
+abbrev pub finishedNumber : Finished → ℕ
+finishedNumber (Stream n) = 0
+finishedNumber (Refused k st) = k
+
+abbrev pub finishedCount : Finished → ℕ
+finishedCount (Stream n) = n
+finishedCount (Refused k st) = 0

@@ -1,0 +1,4 @@
+-- What the contracts of `srl_encoder` cite.
+pub mod Encode
+pub mod Finish
+pub mod EncodeInner

@@ -1,0 +1,2 @@
+-- Laws for both SRL coders.
+pub mod Widths

@@ -1,0 +1,2 @@
+-- What the contracts of both SRL coders cite.
+pub mod Rules

@@ -1,0 +1,34 @@
+-- The places of a band, as `span` has them: its part of a slice, and one band more of what each place has.
+use mathlib.Core.Path.{_≡_, ap, _∙_}
+use mathlib.Core.Bool.{Bool}
+use mathlib.Core.List.{List, _++_}
+use Prim.Native.Nat.{ℕ, _+_, _-_, _≤_, _<_}
+use native.Mathlib.Omega.{arith}
+use borrow.Rule.Slice.PartMut.{midOf}
+use lib.ListN.{length, drop, replicate, length-append, length-drop, length-replicate}
+use lib.Seq.{length-take-le}
+use Rattle.bands.specs.Bands.{countOf, bandAt}
+use Rattle.bands.proofs.Laid.{band-within}
+use Rattle.bands.proofs.Spread.{perPlaceTo, place-next}
+
+-- the places of a band, as the code has them
+pub record Lies (e : Bool) (b from to : ℕ) : Type 0 where
+  pub number : b < 10
+  pub begins : from ≡ bandAt e b .offset
+  pub ends : to ≡ from + countOf (bandAt e b)
+
+-- how long the part is that is lent
+pub part-length : {A : Type 0} (e : Bool) (b from to : ℕ) (l : List A) → Lies e b from to → 4096 ≤ length l → length (midOf from (to - from) l) ≡ to - from
+part-length e b from to l p h = length-take-le (to - from) (drop from l) (omega (arith, length-drop from l, p .begins, p .ends, band-within e b))
+
+-- the places of one band more
+pub place-more : {A : Type 0} (e : Bool) (f : ℕ → A) (b from to : ℕ) → Lies e b from to → perPlaceTo e f (b + 1) ≡ perPlaceTo e f b ++ replicate (to - from) (f b)
+place-more e f b from to p =
+    let k : countOf (bandAt e b) ≡ to - from = omega (arith, p .ends) in
+    place-next e f b (p .number) ∙ ap (λ (n : ℕ). perPlaceTo e f b ++ replicate n (f b)) k
+
+pub more-length : {A : Type 0} (e : Bool) (f : ℕ → A) (b from to : ℕ) → Lies e b from to → length (perPlaceTo e f (b + 1)) ≡ length (perPlaceTo e f b) + (to - from)
+more-length e f b from to p =
+    ap length (place-more e f b from to p)
+    ∙ length-append (perPlaceTo e f b) (replicate (to - from) (f b))
+    ∙ ap (λ (n : ℕ). length (perPlaceTo e f b) + n) (length-replicate (to - from) (f b))

@@ -1,0 +1,47 @@
+// The steps of an upgrade pass: what it does in each band, and from which stream a place has its value. The reader and the writer of a pass
+// share it.
+
+ghost use mathlib.Core.Path.{_≡_};
+ghost use Prim.Native.Nat.{_-_};
+ghost use Rattle.upgrade_steps.specs.Steps.{stepAt, bandStep, fromSrl};
+
+pub mod positions;
+pub mod span;
+
+// What a pass does in a band.
+pub struct BandStep {
+    pub bottom: bool,
+    pub width: u8,
+    pub position: u8,
+}
+
+// The width of a band.
+fn band_width(prev: u8, curr: u8) -> u8
+    ensures { λ r. ⌜ r ≡ prev - curr ⌝ }
+{
+    if curr < prev {
+        return prev - curr;
+    }
+    0
+}
+
+// What a pass does in the band numbered `b`.
+pub fn band_step(b: usize, prev: u8, curr: u8) -> BandStep
+    ensures { λ r. ⌜ bandStep r ≡ stepAt b prev curr ⌝ }
+{
+    BandStep {
+        bottom: b == 9,
+        width: band_width(prev, curr),
+        position: curr,
+    }
+}
+
+// Whether a place of a band that is not skipped has an SRL value.
+pub fn from_srl(t: BandStep, s: i8) -> bool
+    ensures { λ r. ⌜ r ≡ fromSrl (bandStep t) s ⌝ }
+{
+    if t.bottom {
+        return false;
+    }
+    fixed::is_zero_sign(s)
+}
