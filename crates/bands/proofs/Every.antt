@@ -1,13 +1,13 @@
--- `every` seen from a place on: what a loop with an early return wants.
+-- `every` seen from a place on, what a loop with an early return wants, and of parts of a list.
 -- Assumes nothing.
 use mathlib.Core.Bool.{Bool, true, false, _&&_, true≢false}
-use mathlib.Core.List.{List, [], _∷_}
+use mathlib.Core.List.{List, [], _∷_, _++_}
 use mathlib.Core.Path.{_≡_, refl, sym}
 use Prim.Native.Nat.{ℕ, zero, suc, _+_, _<_, _≤_}
 use native.Mathlib.Numerals.{add-one}
 use native.Mathlib.Omega.{arith}
 use borrow.Author.Tests.{leb-true}
-use lib.ListN.{length, getD, drop, drop-of-length-le}
+use lib.ListN.{length, getD, take, drop, drop-of-length-le}
 use lib.Seq.{drop-cons}
 use Rattle.bands.specs.Positions.{every, inDomain, rowInDomain}
 
@@ -30,6 +30,33 @@ pub at : {A : Type 0} (f : A → Bool) (l : List A) (i : ℕ) (d : A) → every 
 at f [] i d e h = absurd (omega arith)
 at f (x ∷ xs) zero d e h = both-true (f x) (every f xs) e .0
 at f (x ∷ xs) (suc i) d e h = at f xs i d (both-true (f x) (every f xs) e .1) (omega arith)
+
+-- so do those of a part, and those of two lists one after another
+both-pass : (a b : Bool) → a ≡ true → b ≡ true → (a && b) ≡ true
+both-pass true b p q = q
+both-pass false b p q = p
+
+module _ {A : Type 0} (f : A → Bool) where
+  take-passes : (n : ℕ) (l : List A) → every f l ≡ true → every f (take n l) ≡ true
+  take-passes zero l e = refl
+  take-passes (suc n) [] e = refl
+  take-passes (suc n) (x ∷ xs) e =
+      let p = both-true (f x) (every f xs) e in
+      both-pass (f x) (every f (take n xs)) (p .0) (take-passes n xs (p .1))
+
+  drop-passes : (n : ℕ) (l : List A) → every f l ≡ true → every f (drop n l) ≡ true
+  drop-passes zero l e = e
+  drop-passes (suc n) [] e = refl
+  drop-passes (suc n) (x ∷ xs) e = drop-passes n xs (both-true (f x) (every f xs) e .1)
+
+  pub part-passes : (n i : ℕ) (l : List A) → every f l ≡ true → every f (take n (drop i l)) ≡ true
+  part-passes n i l e = take-passes n (drop i l) (drop-passes i l e)
+
+  pub append-passes : (a b : List A) → every f a ≡ true → every f b ≡ true → every f (a ++ b) ≡ true
+  append-passes [] b h k = k
+  append-passes (x ∷ a) b h k =
+      let p = both-true (f x) (every f a) h in
+      both-pass (f x) (every f (a ++ b)) (p .0) (append-passes a b (p .1) k)
 
 -- a position of a row that is in the domain
 pub low-position : (row : List ℕ) (b : ℕ) → rowInDomain row ≡ true → b < length row → getD row b 0 ≤ 15

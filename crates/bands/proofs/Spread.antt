@@ -1,8 +1,8 @@
 -- What each place has of its band: the bands one after another, up to one of them and behind it.
 use mathlib.Core.Bool.{Bool}
-use mathlib.Core.List.{List, [], _∷_, _++_, append-assoc, append-nil}
-use mathlib.Core.Path.{_≡_, refl, sym, ap, _∙_}
-use Prim.Native.Nat.{ℕ, zero, suc, _+_, _<_}
+use mathlib.Core.List.{List, [], _∷_, _++_, map, append-assoc, append-nil}
+use mathlib.Core.Path.{_≡_, refl, sym, ap, ap₂, _∙_}
+use Prim.Native.Nat.{ℕ, zero, suc, _+_, _≤_, _<_}
 use native.Mathlib.Numerals.{add-one}
 use native.Mathlib.Omega.{arith}
 use lib.ListN.{length, getD, replicate, length-append, length-replicate}
@@ -67,3 +67,37 @@ place-count e f b h = length-to f 0 (layout e) b ∙ sym (running-sum 0 (layout 
 
 pub place-whole : {A : Type 0} (e : Bool) (f : ℕ → A) → length (perPlace e f) ≡ 4096
 place-whole e f = ap length (sym (to-all f 0 (layout e))) ∙ length-to f 0 (layout e) (length (layout e)) ∙ omega (arith, whole-sum 0 (layout e) 4096 (layout-laid e))
+
+-- ════ a function of what each place has ════
+
+map-append : {A B : Type 0} (g : A → B) (a b : List A) → map g (a ++ b) ≡ map g a ++ map g b
+map-append g [] b = refl
+map-append {A} {B} g (x ∷ a) b = ap (λ (l : List B). g x ∷ l) (map-append g a b)
+
+map-replicate : {A B : Type 0} (g : A → B) (n : ℕ) (x : A) → map g (replicate n x) ≡ replicate n (g x)
+map-replicate g zero x = refl
+map-replicate {A} {B} g (suc n) x = ap (λ (l : List B). g x ∷ l) (map-replicate g n x)
+
+spread-map : {A B : Type 0} (g : A → B) (f : ℕ → A) (b : ℕ) (l : List BandInfo) → spread (λ b. g (f b)) b l ≡ map g (spread f b l)
+unfolding spread
+spread-map g f b [] = refl
+spread-map {A} {B} g f b (i ∷ is) =
+    ap₂ (λ (x y : List B). x ++ y) (sym (map-replicate g (countOf i) (f b))) (spread-map g f (suc b) is)
+    ∙ sym (map-append g (replicate (countOf i) (f b)) (spread f (suc b) is))
+
+pub place-map : {A B : Type 0} (e : Bool) (g : A → B) (f : ℕ → A) → perPlace e (λ b. g (f b)) ≡ map g (perPlace e f)
+place-map e g f = spread-map g f 0 (layout e)
+
+-- the number of a place's band is one of ten
+spread-below : (b n : ℕ) (l : List BandInfo) → b + length l ≤ n → 0 < n → (i : ℕ) → getD (spread (λ b. b) b l) i 0 < n
+unfolding spread
+spread-below b n [] h p i = p
+spread-below b n (x ∷ l) h p i = front (countOf x) i (spread-below (suc b) n l (omega (arith, h)) p)
+  where
+    front : (m i : ℕ) → ((i : ℕ) → getD (spread (λ b. b) (suc b) l) i 0 < n) → getD (replicate m b ++ spread (λ b. b) (suc b) l) i 0 < n
+    front zero i r = r i
+    front (suc m) zero r = omega (arith, h)
+    front (suc m) (suc i) r = front m i r
+
+pub one-of-ten : (e : Bool) (i : ℕ) → getD (perPlace e (λ b. b)) i 0 < 10
+one-of-ten e i = spread-below 0 10 (layout e) (omega (arith, ten-bands e)) (omega arith) i

@@ -2,15 +2,17 @@
 use mathlib.Core.Path.{_≡_, refl, ap, sym, _∙_}
 use mathlib.Core.Bool.{Bool, true, false, cond}
 use mathlib.Core.List.{List, [], _∷_, _++_, append-nil}
-use Prim.Native.Nat.{ℕ, suc, _+_, _-_, _*_, _/_, _%_, _^_, _≤_}
-use native.Mathlib.Nat.{add-zero, zero-add}
+use Prim.Native.Nat.{ℕ, zero, suc, _+_, _-_, _*_, _/_, _%_, _^_, _≤_, _<_}
+use native.Mathlib.Nat.{add-zero, zero-add, mul-lt-mul-of-pos-right}
 use native.Mathlib.Numerals.{add-one}
 use native.Mathlib.Omega.{arith}
 use lib.Dec.{eqb}
 use lib.ListN.{length, set, drop, length-append}
+use lib.Pow.{pow-pos, pow-add}
 use lib.Seq.{sets, sets-eq}
 use borrow.Author.Tests.{eqb-true, eqb-false}
 use Rattle.bits.specs.Bits.{bitOf}
+use Rattle.bits.proofs.Numbers.{Bytes, bit-le}
 use Rattle.bits.specs.Written.{whole, pack, writer, after, write, padCount, padOut, countOf, counted}
 use Rattle.bits.specs.declared.writer.BitWriter.{BitWriter}
 use Rattle.bits.specs.declared.writer.BitCount.{BitCount}
@@ -157,3 +159,41 @@ counted-none p h =
     let a : p .at ≡ p .at + (p .«bit_count» + 0) / 8 = omega arith in
     let b : p .«bit_count» ≡ (p .«bit_count» + 0) % 8 = omega arith in
     λ i. record { at = a i; «bit_count» = b i }
+
+-- ════ every element is a byte ════
+
+-- a byte in front of bytes, and bytes one after another
+pub bytes-cons : (b : ℕ) (s : List ℕ) → b < 256 → Bytes s → Bytes (b ∷ s)
+bytes-cons b s h k zero = h
+bytes-cons b s h k (suc i) = k i
+
+pub bytes-none : Bytes []
+bytes-none i = omega arith
+
+pub bytes-append : (a b : List ℕ) → Bytes a → Bytes b → Bytes (a ++ b)
+bytes-append [] b h k = k
+bytes-append (x ∷ a) b h k = bytes-cons x (a ++ b) (h 0) (bytes-append a b (λ i. h (suc i)) k)
+
+-- packed bits are bytes
+pub pack-bytes : (bs : List Bool) (cur n : ℕ) → n ≤ 7 → cur < 2 ^ n → Bytes (pack cur n bs)
+pack-bytes [] cur n h l = by (eqb n 0)
+  where
+    sum : n + (8 - n) ≡ 8
+    sum = omega arith
+
+    last : cur * 2 ^ (8 - n) < 256
+    last = omega (arith, mul-lt-mul-of-pos-right l (pow-pos (8 - n)), pow-add 2 n (8 - n), ap (λ (k : ℕ). 2 ^ k) sum)
+
+    by : (e : Bool) → Bytes (cond e [] ((cur * 2 ^ (8 - n)) ∷ []))
+    by true = bytes-none
+    by false = bytes-cons (cur * 2 ^ (8 - n)) [] last bytes-none
+pack-bytes (b ∷ bs) cur n h l = by (eqb n 7) refl (pack-bytes bs)
+  where
+    by : (e : Bool) → eqb n 7 ≡ e → ((cur n : ℕ) → n ≤ 7 → cur < 2 ^ n → Bytes (pack cur n bs))
+        → Bytes (cond e ((cur * 2 + bitOf b) ∷ pack 0 0 bs) (pack (cur * 2 + bitOf b) (n + 1) bs))
+    by true q ih =
+        let s : n ≡ 7 = eqb-true _ _ q in
+        bytes-cons (cur * 2 + bitOf b) (pack 0 0 bs) (omega (arith, bit-le b, rw s at l)) (ih 0 0 (omega arith) (omega arith))
+    by false q ih =
+        let s : (n ≡ 7 → ⊥) = eqb-false _ _ q in
+        ih (cur * 2 + bitOf b) (n + 1) (omega arith) (omega (arith, bit-le b, pow-add 2 n 1))

@@ -1,6 +1,6 @@
 -- Signs and magnitudes. Assumes nothing.
-use mathlib.Core.Path.{_≡_, refl, ap}
-use mathlib.Core.Bool.{Bool, true, false}
+use mathlib.Core.Path.{_≡_, refl, sym, ap}
+use mathlib.Core.Bool.{Bool, true, false, true≢false}
 use Prim.Native.Nat.{ℕ, zero, suc}
 use native.Mathlib.Omega.{arith}
 use borrow.Author.Tests.{ltb-true, ltb-false}
@@ -35,6 +35,12 @@ one-no w (negsuc n) f = refl
 
 -- ---- the sign of a value
 
+pub zero-is : (v : ℤ) → isZero v ≡ true → v ≡ pos 0
+unfolding isZero
+zero-is (pos zero) e = refl
+zero-is (pos (suc n)) e = absurd (true≢false (sym e))
+zero-is (negsuc n) e = absurd (true≢false (sym e))
+
 pub sign-zero : (v : ℤ) → v ≡ pos 0 → pos 0 ≡ signOf v
 unfolding signOf
 sign-zero v e = cc
@@ -59,6 +65,10 @@ abs-pos (negsuc n) e = cc
 pub abs-neg : (v : ℤ) → ltZ v (pos 0) ≡ true → pos 0 -ℤ v ≡ pos (natAbs v)
 abs-neg (pos n) e = absurd (omega (arith, ltb-true))
 abs-neg (negsuc n) e = ap pos (omega arith)
+
+pub abs-minus : (m : ℕ) → natAbs (negℤ (pos m)) ≡ m
+abs-minus zero = refl
+abs-minus (suc m) = refl
 
 -- a magnitude with a sign, as the code makes it
 pub with-minus : (m : ℕ) (b : Bool) → b ≡ true → pos 0 -ℤ pos m ≡ withSign b m

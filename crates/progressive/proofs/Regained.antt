@@ -12,7 +12,7 @@ use lib.Pow.{pow-pos, pow-add}
 use lib.Signed.{mag}
 use Rattle.fixed.specs.Fixed.{clampI16, floorShift, isZero, signOf, addScaled, subScaled, withSign}
 use Rattle.fixed.proofs.Clamp.{clamp-same}
-use Rattle.fixed.proofs.Sign.{with-minus}
+use Rattle.fixed.proofs.Sign.{with-minus, abs-minus}
 use Rattle.bands.specs.Positions.{rowInDomain}
 use Rattle.bands.proofs.Every.{both-true}
 use Rattle.bands.proofs.Spread.{place-whole}
@@ -86,10 +86,6 @@ gained q far near l e =
     let sum : b ≡ a + (b - a) = omega (arith, more) in
     sym (ap (λ (k : ℕ). k * 2 ^ q) sum ∙ add-mul a (b - a) (2 ^ q) ∙ ap (λ (k : ℕ). k + (b - a) * 2 ^ q) e)
 
-abs-neg : (n : ℕ) → natAbs (negℤ (pos n)) ≡ n
-abs-neg zero = refl
-abs-neg (suc n) = refl
-
 toward-pos : (q n : ℕ) → towardZero q (pos n) ≡ pos (n / 2 ^ q * 2 ^ q)
 toward-pos q n = ap (λ (b : Bool). withSign b (n / 2 ^ q * 2 ^ q)) (le-ltb n 0 (omega arith))
 
@@ -122,7 +118,7 @@ raw-cut true q c p o =
     ∙ sym (ap (towardZero q) (o .goal) ∙ toward-pos q (o .far))
 raw-cut false q c p o =
     ap₂ (λ (c p : ℤ). rawCoefficient false q (rawDifference q c p) p) (o .goal) (o .from)
-    ∙ ap₂ (λ (a b : ℕ). subScaled (negℤ (pos (o .near))) (a / 2 ^ q - b / 2 ^ q) q) (abs-neg (o .far)) (abs-neg (o .near))
+    ∙ ap₂ (λ (a b : ℕ). subScaled (negℤ (pos (o .near))) (a / 2 ^ q - b / 2 ^ q) q) (abs-minus (o .far)) (abs-minus (o .near))
     ∙ raw-down q (o .far) (o .near) (neg-range (o .far) (subst (λ (c : ℤ). mag c < 32768) (o .goal) (o .range))) (o .further) (o .clean)
     ∙ sym (ap (towardZero q) (o .goal) ∙ toward-neg q (o .far))
 

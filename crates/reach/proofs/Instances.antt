@@ -2,18 +2,16 @@
 use mathlib.Core.Path.{_≡_, refl, sym, ap, _∙_}
 use mathlib.Core.Bool.{Bool, true, false, cond, _&&_}
 use mathlib.Core.List.{List, [], _∷_, _++_, map}
-use Prim.Native.Nat.{ℕ, zero, suc, _+_, _*_, _≤_, _<_}
+use Prim.Native.Nat.{ℕ, zero, suc, _*_, _≤_, _<_}
 use native.Mathlib.Omega.{arith}
 use lib.IntN.{ℤ, pos, negsuc}
 use lib.ListN.{length, getD, take, replicate, length-replicate, getD-replicate, replicate-append-replicate}
 use lib.Seq.{take-all}
 use Rattle.fixed.specs.Fixed.{signOf}
-use Rattle.bands.specs.declared.BandInfo.{BandInfo}
-use Rattle.bands.specs.Bands.{spread, perPlace, layout, countOf}
+use Rattle.bands.specs.Bands.{perPlace}
 use Rattle.bands.specs.Positions.{every, rowsInDomain}
 use Rattle.bands.proofs.Every.{both-true}
-use Rattle.bands.proofs.Laid.{ten-bands}
-use Rattle.bands.proofs.Spread.{place-whole}
+use Rattle.bands.proofs.Spread.{place-whole, place-map, one-of-ten}
 use Rattle.upgrade_steps.specs.Steps.{longEnough}
 use Rattle.tile.specs.Tile.{component, joined, three, of, fresh, taken, loaded, loadRefusal}
 use Rattle.tile.proofs.Joined.{Long, joined-long, component-joined, row-joined}
@@ -21,7 +19,7 @@ use Rattle.reach.specs.Place.{Multiple, Fits, Gains}
 use Rattle.reach.specs.Component.{bandsOf, isBottom, positionOf, ComponentFits, ComponentGains}
 use Rattle.reach.specs.Reach.{TileFits, ThreeRows, AllRows, Lower, NoRaise, lastRows, TileGains}
 use Rattle.reach.specs.Corollaries.{rowsAt, dark, sharpening, darker, HypothesesMet}
-use Rattle.reach.proofs.Tiles.{spread-map, given-row, rows-in-domain}
+use Rattle.reach.proofs.Tiles.{given-row, rows-in-domain}
 use Rattle.reach.proofs.AnyList.{reachable-pictures}
 
 -- ════ a loaded tile ════
@@ -53,20 +51,6 @@ loaded-fits cs ss rows quants e w v a f =
     }
 
 -- ════ the same coefficient and sign everywhere ════
-
--- the band of a place is one of ten
-spread-below : (b n : ℕ) (l : List BandInfo) → b + length l ≤ n → 0 < n → (i : ℕ) → getD (spread (λ b. b) b l) i 0 < n
-unfolding spread
-spread-below b n [] h p i = p
-spread-below b n (x ∷ l) h p i = front (countOf x) i (spread-below (suc b) n l (omega (arith, h)) p)
-  where
-    front : (m i : ℕ) → ((i : ℕ) → getD (spread (λ b. b) (suc b) l) i 0 < n) → getD (replicate m b ++ spread (λ b. b) (suc b) l) i 0 < n
-    front zero i r = r i
-    front (suc m) zero r = omega (arith, h)
-    front (suc m) (suc i) r = front m i r
-
-one-of-ten : (e : Bool) (i : ℕ) → getD (bandsOf e) i 0 < 10
-one-of-ten e i = spread-below 0 10 (layout e) (omega (arith, ten-bands e)) (omega arith) i
 
 same-position : (e : Bool) (p i : ℕ) → positionOf (replicate 10 p) (getD (bandsOf e) i 0) ≡ p
 same-position e p i = getD-replicate 10 (getD (bandsOf e) i 0) p 0 (one-of-ten e i)
@@ -177,7 +161,7 @@ deep e = perPlace e (λ b. cond (isBottom b) (negsuc 1) (negsuc 13))
 deep-at : (e : Bool) (i : ℕ) → i < length (bandsOf e) → getD (deep e) i (pos 0) ≡ cond (isBottom (getD (bandsOf e) i 0)) (negsuc 1) (negsuc 13)
 unfolding deep
 deep-at e i h =
-    ap (λ (l : List ℤ). getD l i (pos 0)) (spread-map (λ b. cond (isBottom b) (negsuc 1) (negsuc 13)) (λ b. b) 0 (layout e))
+    ap (λ (l : List ℤ). getD l i (pos 0)) (place-map e (λ b. cond (isBottom b) (negsuc 1) (negsuc 13)) (λ b. b))
     ∙ getD-map (λ b. cond (isBottom b) (negsuc 1) (negsuc 13)) (bandsOf e) i 0 (pos 0) h
 
 component-darker : (e : Bool) → ComponentGains (bandsOf e) (replicate 10 3) (replicate 10 1) (replicate 4096 (negsuc 7)) (replicate 4096 (negsuc 0)) (deep e) (replicate 4096 (negsuc 0))

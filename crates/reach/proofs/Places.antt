@@ -13,6 +13,7 @@ use lib.Signed.{mag}
 use lib.Pow.{pow-pos, pow-mono}
 use Rattle.reach.proofs.Level.{multiple-down, multiple-add, multiple-diff, multiple-times, add-small, small-add, room, cut, cut-multiple, cut-rest}
 use Rattle.fixed.proofs.Clamp.{clamp-same}
+use Rattle.fixed.proofs.Sign.{abs-minus}
 use Rattle.fixed.specs.Fixed.{clampI16, isZero, isOne, signOf, addScaled, subScaled}
 use Rattle.progressive_decoder.specs.Upgrade.{srlCoefficient, srlSign, rawCoefficient}
 use Rattle.reach.specs.Place.{Place, Multiple, Fits, Kept, More, Gains}
@@ -52,10 +53,6 @@ sub-case P a b f g = go (ltb a b) (λ t. f (ltb→lt a b t)) (λ t. g (nltb→le
 clamp-id : (z : ℤ) → mag z < 32768 → clampI16 z ≡ z
 clamp-id z h = sym (clamp-same z h)
 
-abs-neg : (m : ℕ) → natAbs (negℤ (pos m)) ≡ m
-abs-neg zero = refl
-abs-neg (suc m) = refl
-
 mag-neg : (m : ℕ) → m < 32769 → mag (negℤ (pos m)) < 32768
 mag-neg zero h = omega arith
 mag-neg (suc m) h = omega arith
@@ -85,7 +82,7 @@ floor-fits p m s h l k = record {
 
 pub level-fits : (f : Family) (p m : ℕ) → p ≤ 15 → m < top f → Multiple (2 ^ p) m → Fits (bottom f) p (placeAt f m)
 level-fits plus p m h l k = record { low = h; range = l; multiple = k; own = refl }
-level-fits minus p m h l k = record { low = h; range = mag-neg m l; multiple = rw (abs-neg m) k; own = refl }
+level-fits minus p m h l k = record { low = h; range = mag-neg m l; multiple = rw (abs-minus m) k; own = refl }
 level-fits (floor s) p m h l k = floor-fits p m s h l k
 
 -- ---- and rises to any greater one
@@ -105,7 +102,7 @@ more-floor a d = +ℤ-assoc (pos a) (pos d) (negsuc 32767) ∙ ap (λ (z : ℤ).
 
 pub level-gain : (f : Family) (p q a d : ℕ) → q ≤ 15 → d < 2 ^ p → a + d < top f → Multiple (2 ^ q) (a + d) → Gains (bottom f) p q (placeAt f a) (placeAt f (a + d))
 level-gain plus p q a d h l t k = record { fits = level-fits plus q (a + d) h t k; kept = kept-plus a d; added = d; more = refl; less = l }
-level-gain minus p q a d h l t k = record { fits = level-fits minus q (a + d) h t k; kept = kept-minus a d; added = d; more = abs-neg (a + d) ∙ ap (λ (x : ℕ). x + d) (sym (abs-neg a)); less = l }
+level-gain minus p q a d h l t k = record { fits = level-fits minus q (a + d) h t k; kept = kept-minus a d; added = d; more = abs-minus (a + d) ∙ ap (λ (x : ℕ). x + d) (sym (abs-minus a)); less = l }
 level-gain (floor s) p q a d h l t k = record { fits = level-fits (floor s) q (a + d) h t k; kept = refl; added = d; more = more-floor a d; less = l }
 
 -- ---- every place that fits is at a level, and what it may become is a greater level of the same family

@@ -7,6 +7,7 @@ use Prim.Native.Nat.{ℕ, zero, suc, _<_}
 use native.Mathlib.Omega.{arith}
 use lib.IntN.{ℤ, pos, negsuc, natAbs, pos-ne-negsuc}
 use lib.ListN.{length, getD}
+use Rattle.fixed.proofs.Sign.{zero-is}
 use Rattle.fixed.specs.Fixed.{isZero, signOf}
 use Rattle.bands.proofs.Spread.{place-whole}
 use Rattle.upgrade_steps.specs.Steps.{Step, Source, skipped, srl, raw, source, sourceOf}
@@ -28,12 +29,6 @@ abbrev ZeroIf : Source → ℤ → Type 0
 ZeroIf skipped s = Unit {0}
 ZeroIf srl s = s ≡ pos 0
 ZeroIf raw s = Unit {0}
-
-zero-is : (s : ℤ) → isZero s ≡ true → s ≡ pos 0
-unfolding isZero
-zero-is (pos zero) e = refl
-zero-is (pos (suc n)) e = absurd (true≢false (sym e))
-zero-is (negsuc n) e = absurd (true≢false (sym e))
 
 zero-if : (b : Bool) (w : ℕ) (s : ℤ) → ZeroIf (sourceOf b w (isZero s)) s
 zero-if b zero s = tt

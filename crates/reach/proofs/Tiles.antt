@@ -1,19 +1,17 @@
 -- One pass over a tile: what it gives, and that all of that is given by some streams. A tile by its three components.
 use mathlib.Core.Path.{_≡_, refl, sym, ap, ap₂, _∙_, subst}
-use mathlib.Core.Bool.{Bool, true, _&&_}
-use mathlib.Core.List.{List, [], _∷_, _++_, map}
+use mathlib.Core.Bool.{Bool, true}
+use mathlib.Core.List.{List, [], _++_, map}
 use Prim.Native.Nat.{ℕ, zero, suc, _+_, _*_, _≤_, _<_}
 use native.Mathlib.Bridge.{le-prop}
 use native.Mathlib.Decide.{decLt}
 use native.Mathlib.Omega.{arith}
 use lib.IntN.{ℤ}
-use lib.ListN.{length, getD, drop, replicate, length-take, List·getD-eq-default}
+use lib.ListN.{length, getD, drop, length-take, List·getD-eq-default}
 use lib.Seq.{getD-take, getD-drop}
-use Rattle.bands.specs.declared.BandInfo.{BandInfo}
-use Rattle.bands.specs.Bands.{spread, layout, countOf}
-use Rattle.bands.specs.Positions.{every, rowInDomain, rowsInDomain}
-use Rattle.bands.proofs.Every.{at, both-true}
-use Rattle.bands.proofs.Spread.{place-whole}
+use Rattle.bands.specs.Positions.{inDomain, rowInDomain, rowsInDomain}
+use Rattle.bands.proofs.Every.{at, append-passes}
+use Rattle.bands.proofs.Spread.{place-whole, place-map}
 use Rattle.upgrade_steps.specs.Steps.{Step, stepOf, steps}
 use Rattle.progressive_decoder.specs.Upgrade.{upgradedCoefficients, upgradedSigns}
 use Rattle.tile.specs.Tile.{component, rowOf, joined, three, of, stepsOf, passCoefficients, passSigns, upgraded}
@@ -27,22 +25,8 @@ use Rattle.reach.proofs.Components.{component-fits, component-sound, co
 
 -- ════ the steps of a pass, by the band of each place ════
 
-map-append : {A B : Type 0} (f : A → B) (a b : List A) → map f (a ++ b) ≡ map f a ++ map f b
-map-append f [] b = refl
-map-append {A} {B} f (x ∷ a) b = ap (λ (l : List B). f x ∷ l) (map-append f a b)
-
-map-replicate : {A B : Type 0} (f : A → B) (n : ℕ) (x : A) → map f (replicate n x) ≡ replicate n (f x)
-map-replicate f zero x = refl
-map-replicate {A} {B} f (suc n) x = ap (λ (l : List B). f x ∷ l) (map-replicate f n x)
-
-pub spread-map : {A B : Type 0} (g : A → B) (f : ℕ → A) (b : ℕ) (l : List BandInfo) → spread (λ b. g (f b)) b l ≡ map g (spread f b l)
-unfolding spread
-spread-map g f b [] = refl
-spread-map g f b (i ∷ is) =
-    ap₂ (λ (x y : List _). x ++ y) (sym (map-replicate g (countOf i) (f b))) (spread-map g f (suc b) is) ∙ sym (map-append g (replicate (countOf i) (f b)) (spread f (suc b) is))
-
 steps-map : (e : Bool) (p q : List ℕ) → map (stepOf p q) (bandsOf e) ≡ steps e p q
-steps-map e p q = sym (spread-map (stepOf p q) (λ b. b) 0 (layout e))
+steps-map e p q = sym (place-map e (stepOf p q) (λ b. b))
 
 -- ════ rows ════
 
@@ -63,14 +47,10 @@ lower-row p q l k h b = by (decLt b 10)
 pub given-row : (rows : List (List ℕ)) → ThreeRows rows → (k : ℕ) → k < 3 → rowOf k (joined (of rows)) ≡ of rows k
 given-row rows h = row-joined (of rows) (h .ten)
 
-every-append : {A : Type 0} (f : A → Bool) (a b : List A) → every f a ≡ true → every f b ≡ true → every f (a ++ b) ≡ true
-every-append f [] b h k = k
-every-append f (x ∷ a) b h k = let r = both-true (f x) (every f a) h in ap₂ (λ (x y : Bool). x && y) (r .0) (every-append f a b (r .1) k)
-
 pub rows-in-domain : (rows : List (List ℕ)) → ThreeRows rows → rowsInDomain rows ≡ true → rowInDomain (joined (of rows)) ≡ true
 rows-in-domain rows h d =
     let r : (k : ℕ) → k < 3 → rowInDomain (of rows k) ≡ true = λ k l. at rowInDomain rows k [] d (omega (arith, h .three)) in
-    every-append _ (of rows 0) (of rows 1 ++ of rows 2) (r 0 (omega arith)) (every-append _ (of rows 1) (of rows 2) (r 1 (omega arith)) (r 2 (omega arith)))
+    append-passes inDomain (of rows 0) (of rows 1 ++ of rows 2) (r 0 (omega arith)) (append-passes inDomain (of rows 1) (of rows 2) (r 1 (omega arith)) (r 2 (omega arith)))
 
 -- ════ a tile from its positions to the same ones, and by positions between ════
 

@@ -1,5 +1,4 @@
--- Rows: their elements written out one by one, how long a row of an array of rows is, and a row that is cut out of a list.
-use mathlib.Core.Bool.{Bool, true, false, _&&_}
+-- Rows: their elements written out one by one, and how long a row of an array of rows is.
 use mathlib.Core.Path.{_≡_, refl, sym, ap, _∙_}
 use mathlib.Core.List.{List, [], _∷_}
 use Prim.Native.Nat.{ℕ, zero, suc, _+_, _<_, _≤_}
@@ -12,8 +11,6 @@ use denote.Shadow.{shadow}
 use denote.Plain.{UInt}
 use lib.ListN.{length, getD, take, drop}
 use lib.Seq.{drop-cons, take-all}
-use Rattle.bands.specs.Positions.{every}
-use Rattle.bands.proofs.Every.{both-true}
 
 -- ════ written out ════
 
@@ -45,26 +42,3 @@ row-long w n [] us i p h = absurd (not-suc-le-zero h)
 row-long w n (x ∷ xs) [] i p h = absurd p
 row-long w n (x ∷ xs) (u ∷ us) zero p h = p .0 .1 .0 .1
 row-long w n (x ∷ xs) (u ∷ us) (suc i) p h = row-long w n xs us i (p .1) (le-of-suc-le-suc h)
-
--- ════ a row cut out ════
-
-both-pass : (a b : Bool) → a ≡ true → b ≡ true → (a && b) ≡ true
-both-pass true b p q = q
-both-pass false b p q = p
-
-module _ {A : Type 0} (f : A → Bool) where
-  take-passes : (n : ℕ) (l : List A) → every f l ≡ true → every f (take n l) ≡ true
-  take-passes zero l e = refl
-  take-passes (suc n) [] e = refl
-  take-passes (suc n) (x ∷ xs) e =
-      let p = both-true (f x) (every f xs) e in
-      both-pass (f x) (every f (take n xs)) (p .0) (take-passes n xs (p .1))
-
-  drop-passes : (n : ℕ) (l : List A) → every f l ≡ true → every f (drop n l) ≡ true
-  drop-passes zero l e = e
-  drop-passes (suc n) [] e = refl
-  drop-passes (suc n) (x ∷ xs) e = drop-passes n xs (both-true (f x) (every f xs) e .1)
-
-  -- a test that every element passes is passed by those of a part
-  pub part-passes : (n i : ℕ) (l : List A) → every f l ≡ true → every f (take n (drop i l)) ≡ true
-  part-passes n i l e = take-passes n (drop i l) (drop-passes i l e)
