@@ -1,5 +1,5 @@
 -- An upgrade pass over one component, read (docs/SCOPE.md, "Upgrade pass"; MS-RDPEGFX 3.3.8.2.1.2): the coefficients and signs after it.
--- A pass is a list of steps, one for each place (`Steps`). Everything below holds for every list of steps; what a slice has past them stays.
+-- A pass is a list of steps, one for each place (`Steps` of `upgrade_steps`). Everything below holds for every list of steps; what a slice has past them stays.
 use mathlib.Core.Bool.{Bool, true, false, cond, _&&_, _||_}
 use mathlib.Core.List.{List, [], _∷_}
 use Prim.Native.Nat.{ℕ, zero, suc}

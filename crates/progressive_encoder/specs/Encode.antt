@@ -1,5 +1,5 @@
 -- An upgrade pass over one component, written (docs/SCOPE.md, "Upgrade pass"; MS-RDPEGFX 3.2.8.1.5.2): the bytes of both streams. The steps, and where a place's
--- value goes, are the reader's (`Upgrade`).
+-- value goes, are the reader's too (`Steps` of `upgrade_steps`).
 use mathlib.Core.Bool.{Bool, cond, _&&_, _||_}
 use mathlib.Core.List.{List, [], _∷_, _++_}
 use Prim.Native.Nat.{ℕ, zero, suc, _-_, _/_, _^_}

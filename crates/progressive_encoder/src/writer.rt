@@ -219,7 +219,7 @@ fn measure_place(
     srl_encoder::encoder::measure_value(start, v, t.width)
 }
 
-// All places of a band that is not skipped. The loop keeps the parts of what is measured, as `upgrade_band` does.
+// All places of a band that is not skipped. The loop keeps the parts of what is measured, as the reader's `upgrade_band` does.
 fn measure_band(
     coefficients: &[i16],
     prev_coefficients: &[i16],
@@ -427,7 +427,7 @@ fn write_place(
     }
 }
 
-// All places of a band that is not skipped. The loop keeps the writers' parts, as `upgrade_band` does.
+// All places of a band that is not skipped. The loop keeps the writers' parts, as the reader's `upgrade_band` does.
 fn write_band(
     coefficients: &[i16],
     prev_coefficients: &[i16],
