@@ -1,8 +1,8 @@
 // Kinds 36 to 38: a pass over one component that is read, one that is written and read back, and a component that is dequantized.
-use crate::component;
-use crate::number;
-use crate::srl_encode;
-use crate::srl_exhaustive;
+use replay_input::component;
+use replay_input::digests;
+use replay_input::number;
+use replay_kinds::srl_encode;
 ghost use Prim.Native.Nat.{_≤_};
 
 // What a writer answers: the refusal or 0, and the counts of bytes.
@@ -40,8 +40,8 @@ fn refusal(answer: progressive::Answer) -> u8 {
 
 // The coefficients and the signs as one number.
 fn digest(befores: &[i16], signs: &[i8]) -> u64 {
-    let d = srl_exhaustive::with_values(0, befores, befores.len());
-    component::with_signs(d, signs)
+    let d = digests::with_values(0, befores, befores.len());
+    digests::with_signs(d, signs)
 }
 
 // How many elements a case lends of a list: the number at a place, and no more than there are.
@@ -171,7 +171,7 @@ fn same_written(c: &[u8], counts: Counts, srl_out: &[u8], raw_out: &[u8]) -> boo
     if counts.raw != number::u16_at(c, 46) as usize {
         return false;
     }
-    component::with_bytes(component::with_bytes(0, srl_out), raw_out) == number::u64_at(c, 48)
+    digests::with_bytes(digests::with_bytes(0, srl_out), raw_out) == number::u64_at(c, 48)
 }
 
 // Kind 37: whether the port agrees with a case. A pass that is written is read back.
@@ -227,5 +227,5 @@ pub fn dequantize_agrees(c: &[u8]) -> bool {
     if dequantize(c, &mut targets) != number::u8_at(c, 39) {
         return false;
     }
-    srl_exhaustive::with_values(0, &targets, 4352) == number::u64_at(c, 40)
+    digests::with_values(0, &targets, 4352) == number::u64_at(c, 40)
 }
