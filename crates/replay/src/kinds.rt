@@ -1,4 +1,6 @@
 // Whether the port agrees with a case, by its kind. oracle/README.md lists the kinds.
+use crate::ladder;
+use crate::tiles;
 use crate::upgrade;
 use replay_input::number;
 use replay_input::sizes;
@@ -16,6 +18,8 @@ fn same(kind: u8, c: &[u8]) -> bool {
         36 => upgrade::decode_agrees(c),
         37 => upgrade::encode_agrees(c),
         38 => upgrade::dequantize_agrees(c),
+        39 => tiles::load_agrees(c),
+        40 => ladder::agrees(c),
         _ => leaves::agrees(kind, c),
     }
 }
@@ -43,7 +47,7 @@ fn wrong_case(c: &[u8]) -> bool {
     let kind = c[0];
     let from: usize = 1;
     match kind {
-        32 | 33 | 36 | 37 | 38 => !same(kind, &c[from..]),
+        32 | 33 | 36 | 37 | 38 | 39 | 40 => !same(kind, &c[from..]),
         _ => false,
     }
 }

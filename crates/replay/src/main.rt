@@ -6,6 +6,8 @@ use replay_input::report;
 use replay_input::sizes;
 
 mod kinds;
+mod ladder;
+mod tiles;
 mod upgrade;
 
 // What the input has at the start of a record.

@@ -12,26 +12,8 @@ struct Counts {
     raw: usize,
 }
 
-// The row of ten at a place.
-fn row_at(c: &[u8], at: usize) -> [u8; 10]
-    requires { ⌜ at ≤ 1048576 ⌝ }
-{
-    [
-        number::u8_at(c, at),
-        number::u8_at(c, at + 1),
-        number::u8_at(c, at + 2),
-        number::u8_at(c, at + 3),
-        number::u8_at(c, at + 4),
-        number::u8_at(c, at + 5),
-        number::u8_at(c, at + 6),
-        number::u8_at(c, at + 7),
-        number::u8_at(c, at + 8),
-        number::u8_at(c, at + 9),
-    ]
-}
-
 // The number of an answer, 0 where there is no refusal.
-fn refusal(answer: progressive::Answer) -> u8 {
+pub fn refusal(answer: progressive::Answer) -> u8 {
     match answer {
         progressive::Answer::Accepted => 0,
         progressive::Answer::Refused(k) => k,
@@ -63,8 +45,8 @@ fn read(c: &[u8], srl_data: &[u8], raw_data: &[u8], befores: &mut [i16], signs: 
     refusal(progressive::decode_upgrade_pass(
         srl_data,
         raw_data,
-        row_at(c, 13),
-        row_at(c, 23),
+        number::row_at(c, 13),
+        number::row_at(c, 23),
         number::flag_at(c, 12),
         &mut befores[..n],
         &mut signs[..m],
@@ -129,8 +111,8 @@ fn write(
     in_numbers(progressive::encode_upgrade_pass(
         &targets[..l],
         &befores[..n],
-        row_at(c, 13),
-        row_at(c, 23),
+        number::row_at(c, 13),
+        number::row_at(c, 23),
         &signs[..m],
         number::flag_at(c, 12),
         &mut srl_out[..srl_room],
@@ -210,7 +192,7 @@ fn dequantize(c: &[u8], targets: &mut [i16]) -> u8 {
     let n = lent(c, 33, targets.len());
     refusal(progressive::dequantize_component_ccq(
         &mut targets[..n],
-        row_at(c, 23),
+        number::row_at(c, 23),
         number::flag_at(c, 12),
     ))
 }

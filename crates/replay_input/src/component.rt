@@ -1,16 +1,16 @@
-// The components of kinds 36 to 38: what a case's seed and shape give. oracle/README.md has the rule.
+// The components of kinds 36 to 40: what a seed and a case's shape give. oracle/README.md has the rule.
 use crate::number;
 ghost use Prim.Native.Nat.{_≤_};
 ghost use lib.ListN.{length};
 
 // The next word: a step of xorshift64.
-fn next(word: u64) -> u64 {
+pub fn next(word: u64) -> u64 {
     let a = word ^ (word << 13);
     let b = a ^ (a >> 7);
     b ^ (b << 17)
 }
 
-fn shifted(magnitude: u16, shift: u8) -> u16 {
+pub fn shifted(magnitude: u16, shift: u8) -> u16 {
     if shift > 15 {
         return 0;
     }
@@ -97,20 +97,37 @@ fn fill_band(
     word
 }
 
-// Makes the places of a case: those of the ten bands, and the others behind them.
-pub fn fill(c: &[u8], targets: &mut [i16], befores: &mut [i16], signs: &mut [i8])
+// Makes the places of a component: those of the ten bands, each with its positions, and the others behind them.
+pub fn fill_rows(
+    c: &[u8],
+    seed: u64,
+    extrapolate: bool,
+    prev: [u8; 10],
+    curr: [u8; 10],
+    targets: &mut [i16],
+    befores: &mut [i16],
+    signs: &mut [i8],
+)
     requires { ⌜ (4352 ≤ length (now targets)) × (4352 ≤ length (now befores)) × (4352 ≤ length (now signs)) ⌝ }
 {
-    let extrapolate = number::flag_at(c, 12);
-    let mut word = number::u64_at(c, 0);
+    let mut word = seed;
     let mut b: usize = 0;
     while b < 10 {
         let from = bands::band(extrapolate, b).offset;
         let to = from + bands::band_count(extrapolate, b);
-        let prev = number::u8_at(c, 13 + b);
-        let curr = number::u8_at(c, 23 + b);
-        word = fill_band(c, from, to, prev, curr, word, targets, befores, signs);
+        word = fill_band(c, from, to, prev[b], curr[b], word, targets, befores, signs);
         b += 1;
     }
     fill_band(c, 4096, 4352, 0, 0, word, targets, befores, signs);
+}
+
+// Makes the places of a case of kinds 36 to 38.
+pub fn fill(c: &[u8], targets: &mut [i16], befores: &mut [i16], signs: &mut [i8])
+    requires { ⌜ (4352 ≤ length (now targets)) × (4352 ≤ length (now befores)) × (4352 ≤ length (now signs)) ⌝ }
+{
+    let seed = number::u64_at(c, 0);
+    let extrapolate = number::flag_at(c, 12);
+    let prev = number::row_at(c, 13);
+    let curr = number::row_at(c, 23);
+    fill_rows(c, seed, extrapolate, prev, curr, targets, befores, signs);
 }

@@ -21,6 +21,24 @@ pub fn u8_at(s: &[u8], at: usize) -> u8 {
     0
 }
 
+// The row of ten at a place.
+pub fn row_at(s: &[u8], at: usize) -> [u8; 10]
+    requires { ⌜ at ≤ 1048576 ⌝ }
+{
+    [
+        u8_at(s, at),
+        u8_at(s, at + 1),
+        u8_at(s, at + 2),
+        u8_at(s, at + 3),
+        u8_at(s, at + 4),
+        u8_at(s, at + 5),
+        u8_at(s, at + 6),
+        u8_at(s, at + 7),
+        u8_at(s, at + 8),
+        u8_at(s, at + 9),
+    ]
+}
+
 pub fn flag_at(s: &[u8], at: usize) -> bool {
     u8_at(s, at) != 0
 }
