@@ -1,7 +1,7 @@
 -- A tile: made, loaded and upgraded (docs/SCOPE.md, "Tile"). Its arrays are flat: three components of 4,096, three rows of ten.
-use mathlib.Core.Bool.{Bool, true, false, cond, _&&_}
+use mathlib.Core.Bool.{Bool, false, cond, _&&_}
 use mathlib.Core.List.{List, [], _∷_, _++_}
-use Prim.Native.Nat.{ℕ, zero, suc, _+_, _*_, min}
+use Prim.Native.Nat.{ℕ, _+_, _*_, min}
 use lib.IntN.{ℤ, pos}
 use lib.ListN.{getD, replicate, take, drop}
 use Rattle.bands.specs.Positions.{every, rowInDomain, rowsInDomain}

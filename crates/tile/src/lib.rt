@@ -6,7 +6,7 @@ ghost use mathlib.Core.Bool.{true, _&&_};
 ghost use Prim.Native.Nat.{_≤_, _<_};
 ghost use lib.Dec.{leb};
 ghost use lib.ListN.{length};
-ghost use Rattle.bands.specs.Positions.{rowInDomain, rowsInDomain};
+ghost use Rattle.bands.specs.Positions.{every, rowInDomain, rowsInDomain};
 ghost use Rattle.tile.specs.Tile.{three, fresh, loaded, loadedBy, load, nextPass, upgraded, decodeUpgrade};
 
 mod flat;
@@ -62,7 +62,7 @@ fn in_domain(rows: [[u8; 10]; 3], positions: [u8; 30], quants: [u8; 30]) -> bool
 
 // Whether three slices of these lengths have a component each.
 fn long_enough(y: usize, cb: usize, cr: usize) -> bool
-    ensures { λ r. ⌜ r ≡ (leb 4096 y && (leb 4096 cb && leb 4096 cr)) ⌝ }
+    ensures { λ r. ⌜ r ≡ every (leb 4096) (three y cb cr) ⌝ }
 {
     if y < 4096 {
         return false;
@@ -70,7 +70,10 @@ fn long_enough(y: usize, cb: usize, cr: usize) -> bool
     if cb < 4096 {
         return false;
     }
-    cr >= 4096
+    if cr < 4096 {
+        return false;
+    }
+    true
 }
 
 // A load that is refused.

@@ -1,0 +1,22 @@
+-- `tile::TileState::upgraded` meets its contract. Assumes nothing.
+use borrow.Author.Needs.{needs}
+use Rattle.tile.specs.Tile.{upgraded}
+use Rattle.tile.proofs.TileState.upgraded.Statement.{statement}
+use Rattle.tile.proofs.TileState.upgraded.Tie as tie
+
+returns : tie.Need-returns
+unfolding upgraded
+returns c =
+    let done = c .before .before .before .before .before .before .upgrade-components .ensures in
+    rw (done .0, done .1, c .before .before .before .flat-rows .ensures, c .next-pass .ensures)
+
+pub upgraded-spec : {M : Type 1} → statement M
+upgraded-spec =
+    tie.close
+    (tie.spec
+    (λ c. search needs)
+    (λ c. search needs)
+    (λ c κs. search needs)
+    (λ c κs. search needs)
+    (λ c κs. search needs)
+    returns)
