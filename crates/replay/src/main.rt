@@ -8,7 +8,6 @@ use replay_input::sizes;
 mod kinds;
 mod ladder;
 mod tiles;
-mod upgrade;
 
 // What the input has at the start of a record.
 enum Found {

@@ -1,26 +1,10 @@
 // The tiles of kinds 39 and 40: what a case's seed, shape and other fields give; and kind 39, a tile that is loaded.
-use crate::upgrade;
 use replay_input::component;
 use replay_input::digests;
 use replay_input::number;
+use replay_passes::upgrade;
 ghost use Prim.Native.Nat.{_≤_};
 ghost use lib.ListN.{length};
-
-// A seed that the case's seed gives, by its number.
-pub fn seed(c: &[u8], n: u64) -> u64 {
-    let a = digests::mixed(number::u64_at(c, 0), n);
-    digests::mixed(digests::mixed(a, n), n)
-}
-
-// A number, and no more than there are.
-pub fn at_most(n: usize, most: usize) -> usize
-    ensures { λ r. ⌜ r ≤ most ⌝ }
-{
-    if n > most {
-        return most;
-    }
-    n
-}
 
 // The three rows at a place.
 fn rows_at(c: &[u8], at: usize) -> [[u8; 10]; 3]
@@ -56,7 +40,7 @@ fn thirty_at(c: &[u8], at: usize) -> [u8; 30]
 fn make(c: &[u8], k: usize, targets: &mut [i16], befores: &mut [i16], signs: &mut [i8])
     requires { ⌜ (k ≤ 2) × (4352 ≤ length (now targets)) × (4352 ≤ length (now befores)) × (4352 ≤ length (now signs)) ⌝ }
 {
-    let s = seed(c, k as u64);
+    let s = component::seed(c, k as u64);
     let extrapolate = number::flag_at(c, 79);
     let prev = number::row_at(c, 12 + 10 * k);
     component::fill_rows(c, s, extrapolate, prev, [0; 10], targets, befores, signs);
@@ -75,12 +59,12 @@ fn load(
     base_quants: [[u8; 10]; 3],
     extrapolate: bool,
 ) -> tile::Loaded {
-    let a = at_most(lengths[0], y.len());
-    let b = at_most(lengths[1], y_sign.len());
-    let d = at_most(lengths[2], cb.len());
-    let e = at_most(lengths[3], cb_sign.len());
-    let f = at_most(lengths[4], cr.len());
-    let g = at_most(lengths[5], cr_sign.len());
+    let a = number::at_most(lengths[0], y.len());
+    let b = number::at_most(lengths[1], y_sign.len());
+    let d = number::at_most(lengths[2], cb.len());
+    let e = number::at_most(lengths[3], cb_sign.len());
+    let f = number::at_most(lengths[4], cr.len());
+    let g = number::at_most(lengths[5], cr_sign.len());
     tile::TileState::load(
         &y[..a],
         &y_sign[..b],

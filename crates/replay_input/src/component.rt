@@ -1,4 +1,5 @@
 // The components of kinds 36 to 40: what a seed and a case's shape give. oracle/README.md has the rule.
+use crate::digests;
 use crate::number;
 ghost use Prim.Native.Nat.{_≤_};
 ghost use lib.ListN.{length};
@@ -8,6 +9,12 @@ pub fn next(word: u64) -> u64 {
     let a = word ^ (word << 13);
     let b = a ^ (a >> 7);
     b ^ (b << 17)
+}
+
+// A seed that the case's seed gives, by its number.
+pub fn seed(c: &[u8], n: u64) -> u64 {
+    let a = digests::mixed(number::u64_at(c, 0), n);
+    digests::mixed(digests::mixed(a, n), n)
 }
 
 pub fn shifted(magnitude: u16, shift: u8) -> u16 {

@@ -14,6 +14,16 @@ pub fn ahead(at: usize, n: usize) -> usize
     at + n
 }
 
+// The smaller of two numbers.
+pub fn at_most(n: usize, most: usize) -> usize
+    ensures { λ r. ⌜ r ≤ most ⌝ }
+{
+    if n > most {
+        return most;
+    }
+    n
+}
+
 pub fn u8_at(s: &[u8], at: usize) -> u8 {
     if at < s.len() {
         return s[at];

@@ -1,5 +1,6 @@
 // Kind 33: calls of `srl::encode`, each from the state that the one before handed back, and then of `srl::finish`.
 use replay_input::number;
+use replay_input::outputs;
 ghost use Prim.Native.Nat.{_≤_};
 
 // What became of a call: whether the port agrees, and the state that it handed back.
@@ -33,24 +34,11 @@ fn same_state(a: srl::SrlWriter, b: srl::SrlWriter) -> bool {
     a.bit_count == b.bit_count
 }
 
-// What an output holds at a place before a call.
-fn pattern(i: usize) -> u8 {
-    (i % 200) as u8 + 55
-}
-
-pub fn fill(out: &mut [u8]) {
-    let mut i: usize = 0;
-    while i < out.len() {
-        out[i] = pattern(i);
-        i += 1;
-    }
-}
-
 // Whether an output is as it was from a place on.
 fn is_untouched(out: &[u8], from: usize) -> bool {
     let mut i = from;
     while i < out.len() {
-        if out[i] != pattern(i) {
+        if out[i] != outputs::pattern(i) {
             return false;
         }
         i += 1;
@@ -134,7 +122,7 @@ fn call_with(
 ) -> Called
     requires { ⌜ at ≤ 1048576 ⌝ }
 {
-    fill(out);
+    outputs::fill(out);
     match srl::encode(values, state, out, num_bits) {
         srl::Encoded::Bytes(count, next) => Called {
             same: same_answer(c, at, 0, count, next, out),
@@ -194,7 +182,7 @@ fn call_at(c: &[u8], at: usize, values: &mut [i16], state: srl::SrlWriter, out: 
 fn finish_with(c: &[u8], at: usize, state: srl::SrlWriter, out: &mut [u8]) -> bool
     requires { ⌜ at ≤ 1048592 ⌝ }
 {
-    fill(out);
+    outputs::fill(out);
     let refusal = number::u8_at(c, at);
     let count = number::u16_at(c, at + 1) as usize;
     if at + 3 + count != c.len() {

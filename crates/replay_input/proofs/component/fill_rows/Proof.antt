@@ -22,7 +22,7 @@ within : {i : BandInfo} {n : ℕ} (e : Bool) (b : ℕ) → i ≡ bandAt e b → 
 within e b p q = rw (p, q) (band-within e b)
 
 ends : (c : tie.After-band-count Inv-loop μ-loop) → c .before .band .result .offset + c .band-count .result ≤ 4096
-ends c = within _ _ (c .before .band .ensures) (c .band-count .ensures)
+ends c = within (c .before .before .before .before .before .args .extrapolate) (c .before .before .before .loop .b) (c .before .band .ensures) (c .band-count .ensures)
 
 add-to : tie.Need-add-to Inv-loop μ-loop
 add-to c = omega (arith, ends c)

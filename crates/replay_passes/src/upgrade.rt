@@ -2,7 +2,7 @@
 use replay_input::component;
 use replay_input::digests;
 use replay_input::number;
-use replay_kinds::srl_encode;
+use replay_input::outputs;
 ghost use Prim.Native.Nat.{_≤_};
 
 // What a writer answers: the refusal or 0, and the counts of bytes.
@@ -31,11 +31,7 @@ fn lent(c: &[u8], at: usize, most: usize) -> usize
     requires { ⌜ at ≤ 1048576 ⌝ }
     ensures { λ r. ⌜ r ≤ most ⌝ }
 {
-    let n = number::u16_at(c, at) as usize;
-    if n > most {
-        return most;
-    }
-    n
+    number::at_most(number::u16_at(c, at) as usize, most)
 }
 
 // Reads a pass into the elements that the case lends: the refusal.
@@ -167,8 +163,8 @@ pub fn encode_agrees(c: &[u8]) -> bool {
     component::fill(c, &mut targets, &mut befores, &mut signs);
     let mut srl_out = [0u8; 16384];
     let mut raw_out = [0u8; 16384];
-    srl_encode::fill(&mut srl_out);
-    srl_encode::fill(&mut raw_out);
+    outputs::fill(&mut srl_out);
+    outputs::fill(&mut raw_out);
     let done = write(c, &targets, &befores, &signs, &mut srl_out, &mut raw_out);
     if !same_written(c, done, &srl_out, &raw_out) {
         return false;

@@ -1,11 +1,11 @@
--- `replay_kinds::srl_encode::fill` is safe and ends. Assumes nothing.
+-- `replay_input::outputs::fill` is safe and ends. Assumes nothing.
 use Prim.Native.Nat.{_≤_, _-_}
 use mathlib.Core.Path.{_≡_}
 use native.Mathlib.Omega.{arith}
 use lib.ListN.{length, length-set}
 use borrow.Author.Needs.{needs}
-use Rattle.replay_kinds.proofs.srl_encode.fill.Statement.{statement}
-use Rattle.replay_kinds.proofs.srl_encode.fill.Tie as tie
+use Rattle.replay_input.proofs.outputs.fill.Statement.{statement}
+use Rattle.replay_input.proofs.outputs.fill.Tie as tie
 
 abbrev Inv-loop : tie.InvT-loop
 Inv-loop out₀ i₀ out i = (i ≤ length out) × (length out ≡ length out₀)
