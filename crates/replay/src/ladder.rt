@@ -2,7 +2,9 @@
 use crate::tiles;
 use replay_input::number;
 use replay_passes::steps;
+ghost use mathlib.Core.Path.{_≡_};
 ghost use Prim.Native.Nat.{_≤_};
+ghost use lib.ListN.{length};
 
 // What became of an upgrade: whether the port agrees, and the tile then.
 struct Stepped {
@@ -10,94 +12,55 @@ struct Stepped {
     tile: tile::TileState,
 }
 
-// Upgrades a tile by the streams that outputs begin with.
+// Upgrades a tile by its streams, which begin at every 16,384th byte.
 fn upgrade(
     t: tile::TileState,
-    y: steps::Lengths,
-    y_srl: &[u8],
-    y_raw: &[u8],
-    cb: steps::Lengths,
-    cb_srl: &[u8],
-    cb_raw: &[u8],
-    cr: steps::Lengths,
-    cr_srl: &[u8],
-    cr_raw: &[u8],
+    srl: &[u8],
+    raw: &[u8],
+    lengths: [usize; 6],
     rows: [[u8; 10]; 3],
     quality: u8,
-) -> tile::Upgraded {
-    let a = number::at_most(y.srl, y_srl.len());
-    let b = number::at_most(y.raw, y_raw.len());
-    let d = number::at_most(cb.srl, cb_srl.len());
-    let e = number::at_most(cb.raw, cb_raw.len());
-    let f = number::at_most(cr.srl, cr_srl.len());
-    let g = number::at_most(cr.raw, cr_raw.len());
-    t.decode_upgrade(
-        &y_srl[..a],
-        &y_raw[..b],
-        &cb_srl[..d],
-        &cb_raw[..e],
-        &cr_srl[..f],
-        &cr_raw[..g],
-        rows,
-        quality,
-    )
-}
-
-// The upgrade at a place, with rows.
-fn upgraded(
-    c: &[u8],
-    at: usize,
-    i: usize,
-    t: tile::TileState,
-    y: [u8; 10],
-    cb: [u8; 10],
-    cr: [u8; 10],
 ) -> tile::Upgraded
-    requires { ⌜ (at ≤ 65536) × (i ≤ 255) ⌝ }
+    requires { ⌜ (length (now srl) ≡ 49152) × (length (now raw) ≡ 49152) ⌝ }
 {
-    let mut y_srl = [0u8; 16384];
-    let mut y_raw = [0u8; 16384];
-    let mut cb_srl = [0u8; 16384];
-    let mut cb_raw = [0u8; 16384];
-    let mut cr_srl = [0u8; 16384];
-    let mut cr_raw = [0u8; 16384];
-    let e = t.use_reduce_extrapolate;
-    let positions = t.prog_quant;
-    let cs = t.coefficients;
-    let ss = t.sign;
-    let p = steps::row_of(positions, 0);
-    let q = steps::row_of(positions, 1);
-    let r = steps::row_of(positions, 2);
-    let l = steps::streams(c, at, i, 0, e, p, y, &cs, &ss, &mut y_srl, &mut y_raw);
-    let m = steps::streams(c, at, i, 1, e, q, cb, &cs, &ss, &mut cb_srl, &mut cb_raw);
-    let n = steps::streams(c, at, i, 2, e, r, cr, &cs, &ss, &mut cr_srl, &mut cr_raw);
-    let rows = [y, cb, cr];
-    let quality = (steps::word(c, i, 3) % 256) as u8;
-    upgrade(
-        t,
-        l,
-        &y_srl,
-        &y_raw,
-        m,
-        &cb_srl,
-        &cb_raw,
-        n,
-        &cr_srl,
-        &cr_raw,
+    let y_srl = number::at_most(lengths[0], 16384);
+    let y_raw = number::at_most(lengths[1], 16384);
+    let cb_srl = 16384 + number::at_most(lengths[2], 16384);
+    let cb_raw = 16384 + number::at_most(lengths[3], 16384);
+    let cr_srl = 32768 + number::at_most(lengths[4], 16384);
+    let cr_raw = 32768 + number::at_most(lengths[5], 16384);
+    t.decode_upgrade(
+        &srl[..y_srl],
+        &raw[..y_raw],
+        &srl[16384..cb_srl],
+        &raw[16384..cb_raw],
+        &srl[32768..cr_srl],
+        &raw[32768..cr_raw],
         rows,
         quality,
     )
 }
 
 // Makes the upgrade at a place.
+fn upgraded(c: &[u8], at: usize, i: usize, t: tile::TileState) -> tile::Upgraded
+    requires { ⌜ (at ≤ 65536) × (i ≤ 255) ⌝ }
+{
+    let mut srl = [0u8; 49152];
+    let mut raw = [0u8; 49152];
+    let e = t.use_reduce_extrapolate;
+    let positions = t.prog_quant;
+    let cs = t.coefficients;
+    let ss = t.sign;
+    let rows = steps::rows(c, at, i, positions);
+    let lengths = steps::all_streams(c, at, i, e, positions, rows, &cs, &ss, &mut srl, &mut raw);
+    upgrade(t, &srl, &raw, lengths, rows, steps::quality(c, i))
+}
+
+// Makes the upgrade at a place, and compares.
 fn step(c: &[u8], at: usize, i: usize, t: tile::TileState) -> Stepped
     requires { ⌜ (at ≤ 65536) × (i ≤ 255) ⌝ }
 {
-    let positions = t.prog_quant;
-    let y = steps::row(c, at, i, 0, steps::row_of(positions, 0));
-    let cb = steps::row(c, at, i, 1, steps::row_of(positions, 1));
-    let cr = steps::row(c, at, i, 2, steps::row_of(positions, 2));
-    let done = upgraded(c, at, i, t, y, cb, cr);
+    let done = upgraded(c, at, i, t);
     let answer = done.answer;
     let tile = done.tile;
     Stepped {

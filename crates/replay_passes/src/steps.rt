@@ -6,13 +6,13 @@ ghost use Prim.Native.Nat.{_≤_};
 ghost use lib.ListN.{length};
 
 // How long the two streams of a component are.
-pub struct Lengths {
-    pub srl: usize,
-    pub raw: usize,
+struct Lengths {
+    srl: usize,
+    raw: usize,
 }
 
 // The word of an upgrade and a number: 0 to 2 for a component, 3 for the upgrade itself.
-pub fn word(c: &[u8], i: usize, k: usize) -> u64
+fn word(c: &[u8], i: usize, k: usize) -> u64
     requires { ⌜ (i ≤ 255) × (k ≤ 3) ⌝ }
 {
     component::next(component::seed(c, (4 * (i + 1) + k) as u64))
@@ -55,7 +55,7 @@ fn move_row(sort: u8, word: u64, row: &mut [u8]) {
 }
 
 // The row that an upgrade gives to the component with a number. The upgrade is at a place; it may have a number above 15 in one of its rows.
-pub fn row(c: &[u8], at: usize, i: usize, k: usize, before: [u8; 10]) -> [u8; 10]
+fn row(c: &[u8], at: usize, i: usize, k: usize, before: [u8; 10]) -> [u8; 10]
     requires { ⌜ (at ≤ 65536) × (i ≤ 255) × (k ≤ 2) ⌝ }
 {
     let mut r = before;
@@ -73,7 +73,7 @@ pub fn row(c: &[u8], at: usize, i: usize, k: usize, before: [u8; 10]) -> [u8; 10
 }
 
 // The positions of the component with a number.
-pub fn row_of(positions: [u8; 30], k: usize) -> [u8; 10]
+fn row_of(positions: [u8; 30], k: usize) -> [u8; 10]
     requires { ⌜ k ≤ 2 ⌝ }
 {
     let at = 10 * k;
@@ -141,7 +141,7 @@ fn any(word: u64, count: usize, out: &mut [u8]) -> u64 {
 }
 
 // Makes the streams of the component with a number.
-pub fn streams(
+fn streams(
     c: &[u8],
     at: usize,
     i: usize,
@@ -186,4 +186,115 @@ pub fn streams(
         srl: number::at_most(whole.srl, srl),
         raw: number::at_most(whole.raw, raw),
     }
+}
+
+// The same, in the outputs of all three components, which have 16,384 bytes each.
+fn streams_at(
+    c: &[u8],
+    at: usize,
+    i: usize,
+    k: usize,
+    extrapolate: bool,
+    positions: [u8; 30],
+    curr: [u8; 10],
+    coefficients: &[i16],
+    signs: &[i8],
+    srl_out: &mut [u8],
+    raw_out: &mut [u8],
+) -> Lengths
+    requires { ⌜ (at ≤ 65536) × (i ≤ 255) × (k ≤ 2) × (length (now coefficients) ≡ 12288) × (length (now signs) ≡ 12288) × (length (now «srl_out») ≡ 49152) × (length (now «raw_out») ≡ 49152) ⌝ }
+{
+    let from = 16384 * k;
+    let to = from + 16384;
+    let prev = row_of(positions, k);
+    streams(
+        c,
+        at,
+        i,
+        k,
+        extrapolate,
+        prev,
+        curr,
+        coefficients,
+        signs,
+        &mut srl_out[from..to],
+        &mut raw_out[from..to],
+    )
+}
+
+// Makes the streams of an upgrade at a place: how long the two of each component are.
+pub fn all_streams(
+    c: &[u8],
+    at: usize,
+    i: usize,
+    extrapolate: bool,
+    positions: [u8; 30],
+    rows: [[u8; 10]; 3],
+    coefficients: &[i16],
+    signs: &[i8],
+    srl_out: &mut [u8],
+    raw_out: &mut [u8],
+) -> [usize; 6]
+    requires { ⌜ (at ≤ 65536) × (i ≤ 255) × (length (now coefficients) ≡ 12288) × (length (now signs) ≡ 12288) × (length (now «srl_out») ≡ 49152) × (length (now «raw_out») ≡ 49152) ⌝ }
+{
+    let e = extrapolate;
+    let ps = positions;
+    let y = streams_at(
+        c,
+        at,
+        i,
+        0,
+        e,
+        ps,
+        rows[0],
+        coefficients,
+        signs,
+        srl_out,
+        raw_out,
+    );
+    let cb = streams_at(
+        c,
+        at,
+        i,
+        1,
+        e,
+        ps,
+        rows[1],
+        coefficients,
+        signs,
+        srl_out,
+        raw_out,
+    );
+    let cr = streams_at(
+        c,
+        at,
+        i,
+        2,
+        e,
+        ps,
+        rows[2],
+        coefficients,
+        signs,
+        srl_out,
+        raw_out,
+    );
+    [y.srl, y.raw, cb.srl, cb.raw, cr.srl, cr.raw]
+}
+
+// The rows of an upgrade at a place, from the tile's positions.
+pub fn rows(c: &[u8], at: usize, i: usize, positions: [u8; 30]) -> [[u8; 10]; 3]
+    requires { ⌜ (at ≤ 65536) × (i ≤ 255) ⌝ }
+{
+    [
+        row(c, at, i, 0, row_of(positions, 0)),
+        row(c, at, i, 1, row_of(positions, 1)),
+        row(c, at, i, 2, row_of(positions, 2)),
+    ]
+}
+
+// The quality byte of an upgrade.
+pub fn quality(c: &[u8], i: usize) -> u8
+    requires { ⌜ i ≤ 255 ⌝ }
+{
+    (word(c, i, 3) % 256) as u8
 }
