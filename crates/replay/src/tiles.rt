@@ -178,7 +178,7 @@ fn digest(t: tile::TileState) -> u64 {
 
 // Whether an answer and the tile are those at a place.
 pub fn same_answer(c: &[u8], at: usize, answer: progressive::Answer, t: tile::TileState) -> bool
-    requires { ⌜ at ≤ 65536 ⌝ }
+    requires { ⌜ at ≤ 1048576 ⌝ }
 {
     if upgrade::refusal(answer) != number::u8_at(c, at) {
         return false;
