@@ -2,18 +2,18 @@
 use mathlib.Core.Path.{_≡_, refl, sym, ap, ap₂, _∙_}
 use mathlib.Core.Bool.{Bool, true}
 use mathlib.Core.List.{List, [], _∷_}
-use Prim.Native.Nat.{ℕ, suc, _+_, _*_, _<_, _≤_}
+use Prim.Native.Nat.{ℕ, suc, _*_, _<_}
 use native.Mathlib.Omega.{arith}
 use borrow.Author.Tests.{le-leb}
 use borrow.Rule.Slice.PartMut.{putMid, midOf}
 use lib.IntN.{ℤ}
-use lib.ListN.{length, drop, length-drop}
-use lib.Seq.{length-take-le}
-use Rattle.bands.specs.Positions.{rowInDomain}
+use lib.ListN.{length}
+use Rattle.bands.specs.Positions.{inDomain, rowInDomain}
 use Rattle.progressive.specs.Upgrade.{Step, Source, skipped, srl, raw, source, steps, signThen, signsAfter, coefficientThen, coefficientsAfter, upgradedCoefficients, upgradedSigns, longEnough, passRefusal, unlessRefused}
 use Rattle.tile.specs.Tile.{component, rowOf, joined, of, stepsOf, passCoefficients, passSigns}
-use Rattle.tile.specs.Flat.{part, withPart, upgradedFrom, signsFrom}
-use Rattle.tile.proofs.Joined.{Long, upTo, joined-components, parts-long, here, next}
+use Rattle.tile.specs.Flat.{withComponent, coefficientsPast, signsPast}
+use Rattle.tile.proofs.Joined.{Long, upTo, component-joined, joined-components, parts-long, here, next}
+use Rattle.tile.proofs.Rows.{part-passes}
 
 -- ════ lengths ════
 
@@ -46,57 +46,72 @@ signs-long (t ∷ ts) (s ∷ ss) vs = sign-longer (source t s) s vs (signsAfter 
 
 -- ════ one component, where it lies ════
 
-module _ (prev curr : List ℕ) (at k : ℕ) (cs ss : List ℤ) (whole : k ≡ 4096) (low : rowInDomain prev ≡ true) (low′ : rowInDomain curr ≡ true) where
-  -- it is not refused
-  accepted : at + 4096 ≤ length cs → at + 4096 ≤ length ss → passRefusal prev curr (part at cs) (part at ss) ≡ 0
-  accepted h j =
-      let long : longEnough (part at cs) ≡ true = le-leb 4096 (length (part at cs)) (omega (arith, length-take-le 4096 (drop at cs) (omega (arith, length-drop at cs)))) in
-      let long′ : longEnough (part at ss) ≡ true = le-leb 4096 (length (part at ss)) (omega (arith, length-take-le 4096 (drop at ss) (omega (arith, length-drop at ss)))) in
-      simp (long, long′, low, low′)
+-- it is not refused
+accepted : (prev curr : List ℕ) (c s : List ℤ) → rowInDomain prev ≡ true → rowInDomain curr ≡ true → length c ≡ 4096 → length s ≡ 4096 → passRefusal prev curr c s ≡ 0
+accepted prev curr c s p q h j =
+    let long : longEnough c ≡ true = le-leb 4096 (length c) (omega arith) in
+    let long′ : longEnough s ≡ true = le-leb 4096 (length s) (omega arith) in
+    simp (long, long′, p, q)
 
-  -- what a function of both parts gives goes where one of them lies
-  pub put : at + 4096 ≤ length cs → at + 4096 ≤ length ss → (f : List ℤ → List ℤ → List ℤ) (l old y : List ℤ)
-      → y ≡ unlessRefused (passRefusal prev curr (midOf at k cs) (midOf at k ss)) (f (midOf at k cs) (midOf at k ss)) old → putMid at k l y ≡ withPart at (f (part at cs) (part at ss)) l
-  put h j f l old y e =
-      ap (putMid at k l) e ∙ ap (λ (n : ℕ). putMid at n l (unlessRefused (passRefusal prev curr (midOf at n cs) (midOf at n ss)) (f (midOf at n cs) (midOf at n ss)) old)) whole
-      ∙ ap (λ (r : ℕ). withPart at (unlessRefused r (f (part at cs) (part at ss)) old) l) (accepted h j)
+module _ (e : Bool) (positions : List ℕ) (rows : List (List ℕ)) (k n : ℕ) (cs ss : List ℤ) (low : rowInDomain positions ≡ true) (low′ : rowInDomain (of rows k) ≡ true)
+    (third : k < 3) (longC : length cs ≡ 12288) (longS : length ss ≡ 12288) (whole : n ≡ 4096) where
+  -- what a function of the steps and of both parts gives goes where one of them lies; n is the length of a part as the code has it
+  pub put : (prev : List ℕ) → prev ≡ rowOf k positions → (f : List Step → List ℤ → List ℤ → List ℤ) (l old y : List ℤ)
+      → y ≡ unlessRefused (passRefusal prev (of rows k) (midOf (k * 4096) n cs) (midOf (k * 4096) n ss)) (f (steps e prev (of rows k)) (midOf (k * 4096) n cs) (midOf (k * 4096) n ss)) old
+      → putMid (k * 4096) n l y ≡ withComponent k (f (stepsOf e positions rows k) (component k cs) (component k ss)) l
+  put prev row f l old y d =
+      let c = component k cs in
+      let s = component k ss in
+      ap (putMid (k * 4096) n l) d
+      ∙ ap₂ (λ (n : ℕ) (prev : List ℕ). putMid (k * 4096) n l (unlessRefused (passRefusal prev (of rows k) (midOf (k * 4096) n cs) (midOf (k * 4096) n ss)) (f (steps e prev (of rows k)) (midOf (k * 4096) n cs) (midOf (k * 4096) n ss)) old)) whole row
+      ∙ ap (λ (r : ℕ). withComponent k (unlessRefused r (f (stepsOf e positions rows k) c s) old) l)
+      (accepted (rowOf k positions) (of rows k) c s (part-passes inDomain 10 (k * 10) positions low) low′ (parts-long 4096 cs longC k third) (parts-long 4096 ss longS k third))
 
 -- ════ all three ════
 
 module _ (e : Bool) (positions : List ℕ) (rows srlData rawData : List (List ℕ)) (cs ss : List ℤ) (longC : length cs ≡ 12288) (longS : length ss ≡ 12288) where
   -- component k after the pass
-  abbrev coefficientsOf : ℕ → List ℤ
+  abbrev pub coefficientsOf : ℕ → List ℤ
   coefficientsOf k = upgradedCoefficients (stepsOf e positions rows k) (of srlData k) (of rawData k) (component k cs) (component k ss)
 
-  abbrev signsOf : ℕ → List ℤ
+  abbrev pub signsOf : ℕ → List ℤ
   signsOf k = upgradedSigns (stepsOf e positions rows k) (of srlData k) (component k ss)
 
-  long-coefficients : Long 4096 coefficientsOf
+  pub long-coefficients : Long 4096 coefficientsOf
   long-coefficients k h = coefficients-long (stepsOf e positions rows k) (component k cs) (component k ss) _ _ ∙ parts-long 4096 cs longC k h
 
-  long-signs : Long 4096 signsOf
+  pub long-signs : Long 4096 signsOf
   long-signs k h = signs-long (stepsOf e positions rows k) (component k ss) _ ∙ parts-long 4096 ss longS k h
 
   -- the first k components are done
-  abbrev pub Reached : ℕ → List ℤ → List ℤ → Type 0
+  abbrev Reached : ℕ → List ℤ → List ℤ → Type 0
   Reached k c s = (c ≡ joined (upTo k coefficientsOf (λ j. component j cs))) × (s ≡ joined (upTo k signsOf (λ j. component j ss)))
 
-  pub starts : Reached 0 cs ss
-  starts = (sym (joined-components cs longC), sym (joined-components ss longS))
+  -- component k is done, from one pair of lists to another
+  abbrev Past : ℕ → List ℤ → List ℤ → List ℤ → List ℤ → Type 0
+  Past k c s c′ s′ = (c′ ≡ coefficientsPast k e positions rows (of srlData k) (of rawData k) c s) × (s′ ≡ signsPast k e positions rows (of srlData k) s)
 
-  -- one component more
-  pub turns : (k : ℕ) → k < 3 → (prev : List ℕ) (c s c′ s′ : List ℤ) → prev ≡ rowOf k positions → Reached k c s
-      → (c′ ≡ upgradedFrom (k * 4096) e prev (of rows k) (of srlData k) (of rawData k) c s) × (s′ ≡ signsFrom (k * 4096) e prev (of rows k) (of srlData k) s) → Reached (suc k) c′ s′
-  unfolding upgradedFrom signsFrom
-  turns k h prev c s c′ s′ q r d =
+  one-more : (k : ℕ) → k < 3 → {c s c′ s′ : List ℤ} → Reached k c s → Past k c s c′ s′ → Reached (suc k) c′ s′
+  unfolding coefficientsPast signsPast
+  one-more k h {c} {s} r d =
       let hereC : component k c ≡ component k cs = here 4096 coefficientsOf (λ j. component j cs) long-coefficients (parts-long 4096 cs longC) k h c (r .0) in
-      let hereS : component k s ≡ component k ss = here 4096 signsOf (λ j. component j ss) long-signs (parts-long 4096 ss longS) k h s (r .1) in
-      let step : steps e prev (of rows k) ≡ stepsOf e positions rows k = ap (λ (row : List ℕ). steps e row (of rows k)) q in (
-        d .0 ∙ next 4096 coefficientsOf (λ j. component j cs) long-coefficients (parts-long 4096 cs longC) k h c _ (r .0)
-            (ap (λ ts. upgradedCoefficients ts (of srlData k) (of rawData k) (component k c) (component k s)) step ∙ ap₂ (upgradedCoefficients (stepsOf e positions rows k) (of srlData k) (of rawData k)) hereC hereS),
-        d .1 ∙ next 4096 signsOf (λ j. component j ss) long-signs (parts-long 4096 ss longS) k h s _ (r .1) (ap₂ (λ ts. upgradedSigns ts (of srlData k)) step hereS),
+      let hereS : component k s ≡ component k ss = here 4096 signsOf (λ j. component j ss) long-signs (parts-long 4096 ss longS) k h s (r .1) in (
+        d .0 ∙ next 4096 coefficientsOf (λ j. component j cs) long-coefficients (parts-long 4096 cs longC) k h c _ (r .0) (ap₂ (upgradedCoefficients (stepsOf e positions rows k) (of srlData k) (of rawData k)) hereC hereS),
+        d .1 ∙ next 4096 signsOf (λ j. component j ss) long-signs (parts-long 4096 ss longS) k h s _ (r .1) (ap (upgradedSigns (stepsOf e positions rows k) (of srlData k)) hereS),
       )
 
-  pub ends : (c s : List ℤ) → Reached 3 c s → (c ≡ passCoefficients e positions rows srlData rawData cs ss) × (s ≡ passSigns e positions rows srlData ss)
+  pub passed : {c₁ s₁ c₂ s₂ c₃ s₃ : List ℤ} → Past 0 cs ss c₁ s₁ → Past 1 c₁ s₁ c₂ s₂ → Past 2 c₂ s₂ c₃ s₃
+      → (c₃ ≡ passCoefficients e positions rows srlData rawData cs ss) × (s₃ ≡ passSigns e positions rows srlData ss)
   unfolding passCoefficients passSigns
-  ends c s r = r
+  passed y cb cr =
+      let none : Reached 0 cs ss = (sym (joined-components cs longC), sym (joined-components ss longS)) in
+      one-more 2 (omega arith) (one-more 1 (omega arith) (one-more 0 (omega arith) none y) cb) cr
+
+  -- a component of the tile after a pass is the component upgraded
+  pub pass-coefficients : (k : ℕ) → k < 3 → component k (passCoefficients e positions rows srlData rawData cs ss) ≡ coefficientsOf k
+  unfolding passCoefficients
+  pass-coefficients = component-joined coefficientsOf long-coefficients
+
+  pub pass-signs : (k : ℕ) → k < 3 → component k (passSigns e positions rows srlData ss) ≡ signsOf k
+  unfolding passSigns
+  pass-signs = component-joined signsOf long-signs

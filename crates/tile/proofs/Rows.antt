@@ -48,17 +48,17 @@ row-long w n (x ∷ xs) (u ∷ us) (suc i) p h = row-long w n xs us i (p .1) (le
 
 -- ════ a row cut out ════
 
-module _ {A : Type 0} (f : A → Bool) where
-  and-true : (a b : Bool) → a ≡ true → b ≡ true → (a && b) ≡ true
-  and-true true b p q = q
-  and-true false b p q = p
+both-pass : (a b : Bool) → a ≡ true → b ≡ true → (a && b) ≡ true
+both-pass true b p q = q
+both-pass false b p q = p
 
+module _ {A : Type 0} (f : A → Bool) where
   take-passes : (n : ℕ) (l : List A) → every f l ≡ true → every f (take n l) ≡ true
   take-passes zero l e = refl
   take-passes (suc n) [] e = refl
   take-passes (suc n) (x ∷ xs) e =
       let p = both-true (f x) (every f xs) e in
-      and-true (f x) (every f (take n xs)) (p .0) (take-passes n xs (p .1))
+      both-pass (f x) (every f (take n xs)) (p .0) (take-passes n xs (p .1))
 
   drop-passes : (n : ℕ) (l : List A) → every f l ≡ true → every f (drop n l) ≡ true
   drop-passes zero l e = e

@@ -1,24 +1,21 @@
--- What the inner functions of `tile` do on flat arrays.
+-- What the inner functions of `tile` do on flat arrays: one component after another.
 use mathlib.Core.Bool.{Bool}
 use mathlib.Core.List.{List, _++_}
-use Prim.Native.Nat.{ℕ}
+use Prim.Native.Nat.{ℕ, _*_}
 use lib.IntN.{ℤ}
 use lib.ListN.{take, drop}
-use Rattle.progressive.specs.Upgrade.{steps, upgradedCoefficients, upgradedSigns}
+use Rattle.progressive.specs.Upgrade.{upgradedCoefficients, upgradedSigns}
+use Rattle.tile.specs.Tile.{component, stepsOf}
 
--- 4,096 elements from a place on
-abbrev pub part : {A : Type 0} → ℕ → List A → List A
-part at l = take 4096 (drop at l)
+-- a list with another component k
+abbrev pub withComponent : {A : Type 0} → ℕ → List A → List A → List A
+withComponent k y l = take (k * 4096) l ++ (y ++ drop 4096 (drop (k * 4096) l))
 
--- a list with others in their place
-abbrev pub withPart : {A : Type 0} → ℕ → List A → List A → List A
-withPart at y l = take at l ++ (y ++ drop 4096 (drop at l))
-
--- the coefficients after a pass over the component that starts at a place
-unfoldable pub upgradedFrom : ℕ → Bool → List ℕ → List ℕ → List ℕ → List ℕ → List ℤ → List ℤ → List ℤ
-upgradedFrom at e prev curr srlData rawData cs ss =
-    withPart at (upgradedCoefficients (steps e prev curr) srlData rawData (part at cs) (part at ss)) cs
+-- the coefficients after a pass over component k alone, with its two streams
+unfoldable pub coefficientsPast : ℕ → Bool → List ℕ → List (List ℕ) → List ℕ → List ℕ → List ℤ → List ℤ → List ℤ
+coefficientsPast k e positions rows srlData rawData cs ss =
+    withComponent k (upgradedCoefficients (stepsOf e positions rows k) srlData rawData (component k cs) (component k ss)) cs
 
 -- and the signs
-unfoldable pub signsFrom : ℕ → Bool → List ℕ → List ℕ → List ℕ → List ℤ → List ℤ
-signsFrom at e prev curr srlData ss = withPart at (upgradedSigns (steps e prev curr) srlData (part at ss)) ss
+unfoldable pub signsPast : ℕ → Bool → List ℕ → List (List ℕ) → List ℕ → List ℤ → List ℤ
+signsPast k e positions rows srlData ss = withComponent k (upgradedSigns (stepsOf e positions rows k) srlData (component k ss)) ss

@@ -2,11 +2,11 @@
 
 ghost use mathlib.Core.Path.{_≡_};
 ghost use mathlib.Core.Bool.{true};
-ghost use Prim.Native.Nat.{_≤_};
+ghost use Prim.Native.Nat.{_≤_, _<_};
 ghost use lib.ListN.{length, take, drop};
 ghost use Rattle.bands.specs.Positions.{rowInDomain, rowsInDomain};
 ghost use Rattle.tile.specs.Tile.{three, joined, of, taken, passCoefficients, passSigns};
-ghost use Rattle.tile.specs.Flat.{upgradedFrom, signsFrom};
+ghost use Rattle.tile.specs.Flat.{coefficientsPast, signsPast};
 
 // Ten of thirty, from a place on.
 pub fn row_at(rows: [u8; 30], at: usize) -> [u8; 10]
@@ -112,20 +112,23 @@ pub fn load_signs(y: &[i8], cb: &[i8], cr: &[i8], into: &mut [i8])
     copy_signs(cr, &mut into[8192..12288]);
 }
 
-// The component that starts at a place of the flat arrays.
-fn upgrade_at(
+// One component of the flat arrays, by its number.
+fn upgrade_component(
+    k: usize,
     srl_data: &[u8],
     raw_data: &[u8],
-    prev: [u8; 10],
-    curr: [u8; 10],
+    positions: [u8; 30],
+    rows: [[u8; 10]; 3],
     use_reduce_extrapolate: bool,
-    at: usize,
     coefficients: &mut [i16],
     sign: &mut [i8],
 )
-    requires { ⌜ (at ≤ 8192) × (rowInDomain prev ≡ true) × (rowInDomain curr ≡ true) × (length (now coefficients) ≡ 12288) × (length (now sign) ≡ 12288) ⌝ }
-    ensures { λ _. ⌜ (now (coefficients .exit) ≡ upgradedFrom at «use_reduce_extrapolate» prev curr (now («srl_data» .entry)) (now («raw_data» .entry)) (now (coefficients .entry)) (now (sign .entry))) × (now (sign .exit) ≡ signsFrom at «use_reduce_extrapolate» prev curr (now («srl_data» .entry)) (now (sign .entry))) ⌝ }
+    requires { ⌜ (k < 3) × (rowInDomain positions ≡ true) × (rowsInDomain rows ≡ true) × (length (now coefficients) ≡ 12288) × (length (now sign) ≡ 12288) ⌝ }
+    ensures { λ _. ⌜ (now (coefficients .exit) ≡ coefficientsPast k «use_reduce_extrapolate» positions rows (now («srl_data» .entry)) (now («raw_data» .entry)) (now (coefficients .entry)) (now (sign .entry))) × (now (sign .exit) ≡ signsPast k «use_reduce_extrapolate» positions rows (now («srl_data» .entry)) (now (sign .entry))) ⌝ }
 {
+    let prev = row_at(positions, k * 10);
+    let curr = rows[k];
+    let at = k * 4096;
     let end = at + 4096;
     progressive::decode_upgrade_pass(
         srl_data,
@@ -156,10 +159,7 @@ pub fn upgrade_components(
     ensures { λ _. ⌜ (now (coefficients .exit) ≡ passCoefficients «use_reduce_extrapolate» positions rows (three (now («y_srl» .entry)) (now («cb_srl» .entry)) (now («cr_srl» .entry))) (three (now («y_raw» .entry)) (now («cb_raw» .entry)) (now («cr_raw» .entry))) (now (coefficients .entry)) (now (sign .entry))) × (now (sign .exit) ≡ passSigns «use_reduce_extrapolate» positions rows (three (now («y_srl» .entry)) (now («cb_srl» .entry)) (now («cr_srl» .entry))) (now (sign .entry))) ⌝ }
 {
     let e = use_reduce_extrapolate;
-    let y = row_at(positions, 0);
-    let cb = row_at(positions, 10);
-    let cr = row_at(positions, 20);
-    upgrade_at(y_srl, y_raw, y, rows[0], e, 0, coefficients, sign);
-    upgrade_at(cb_srl, cb_raw, cb, rows[1], e, 4096, coefficients, sign);
-    upgrade_at(cr_srl, cr_raw, cr, rows[2], e, 8192, coefficients, sign);
+    upgrade_component(0, y_srl, y_raw, positions, rows, e, coefficients, sign);
+    upgrade_component(1, cb_srl, cb_raw, positions, rows, e, coefficients, sign);
+    upgrade_component(2, cr_srl, cr_raw, positions, rows, e, coefficients, sign);
 }

@@ -259,7 +259,7 @@ impl TileState {
                 tile: self,
             };
         }
-        let tile = self.upgraded(
+        let next = self.upgraded(
             y_srl,
             y_raw,
             cb_srl,
@@ -271,7 +271,7 @@ impl TileState {
         );
         Upgraded {
             answer: progressive::Answer::Accepted,
-            tile: tile,
+            tile: next,
         }
     }
 }
