@@ -68,7 +68,7 @@ fn row(c: &[u8], at: usize, i: usize, k: usize, before: [u8; 10]) -> [u8; 10]
     if place - first >= 10 {
         return r;
     }
-    r[place - first] = (16 + word(c, i, 3) / 256 % 240) as u8;
+    r[place - first] = (16 + word(c, i, 3) / 256 % 256 % 240) as u8;
     r
 }
 
@@ -78,6 +78,23 @@ fn row_of(positions: [u8; 30], k: usize) -> [u8; 10]
 {
     let at = 10 * k;
     number::row_at(&positions, at)
+}
+
+// Makes the target of the component with a number, between positions.
+fn fill_target(
+    c: &[u8],
+    k: usize,
+    extrapolate: bool,
+    prev: [u8; 10],
+    curr: [u8; 10],
+    targets: &mut [i16],
+)
+    requires { ⌜ 4352 ≤ length (now targets) ⌝ }
+{
+    let seed = component::seed(c, k as u64);
+    let mut bs = [0i16; 4352];
+    let mut ss = [0i8; 4352];
+    component::fill_rows(c, seed, extrapolate, prev, curr, targets, &mut bs, &mut ss);
 }
 
 // The streams that the port writes from a component of the tile to its target; none if it refuses.
@@ -97,19 +114,7 @@ fn written(
     let from = 4096 * k;
     let to = from + 4096;
     let mut targets = [0i16; 4352];
-    let mut befores = [0i16; 4352];
-    let mut others = [0i8; 4352];
-    let seed = component::seed(c, k as u64);
-    component::fill_rows(
-        c,
-        seed,
-        extrapolate,
-        prev,
-        curr,
-        &mut targets,
-        &mut befores,
-        &mut others,
-    );
+    fill_target(c, k, extrapolate, prev, curr, &mut targets);
     match progressive::encode_upgrade_pass(
         &targets,
         &coefficients[from..to],
@@ -146,15 +151,15 @@ fn streams(
     at: usize,
     i: usize,
     k: usize,
-    extrapolate: bool,
+    e: bool,
     prev: [u8; 10],
     curr: [u8; 10],
-    coefficients: &[i16],
-    signs: &[i8],
+    cs: &[i16],
+    ss: &[i8],
     srl_out: &mut [u8],
     raw_out: &mut [u8],
 ) -> Lengths
-    requires { ⌜ (at ≤ 65536) × (i ≤ 255) × (k ≤ 2) × (length (now coefficients) ≡ 12288) × (length (now signs) ≡ 12288) ⌝ }
+    requires { ⌜ (at ≤ 65536) × (i ≤ 255) × (k ≤ 2) × (length (now cs) ≡ 12288) × (length (now ss) ≡ 12288) ⌝ }
 {
     let shift = number::u8_at(c, at + 3);
     let w = component::next(word(c, i, k));
@@ -168,17 +173,7 @@ fn streams(
         any(any(w, srl, srl_out), raw, raw_out);
         return Lengths { srl, raw };
     }
-    let whole = written(
-        c,
-        k,
-        extrapolate,
-        prev,
-        curr,
-        coefficients,
-        signs,
-        srl_out,
-        raw_out,
-    );
+    let whole = written(c, k, e, prev, curr, cs, ss, srl_out, raw_out);
     if sort == 1 {
         return whole;
     }
@@ -194,15 +189,15 @@ fn streams_at(
     at: usize,
     i: usize,
     k: usize,
-    extrapolate: bool,
+    e: bool,
     positions: [u8; 30],
     curr: [u8; 10],
-    coefficients: &[i16],
-    signs: &[i8],
-    srl_out: &mut [u8],
-    raw_out: &mut [u8],
+    cs: &[i16],
+    ss: &[i8],
+    srl: &mut [u8],
+    raw: &mut [u8],
 ) -> Lengths
-    requires { ⌜ (at ≤ 65536) × (i ≤ 255) × (k ≤ 2) × (length (now coefficients) ≡ 12288) × (length (now signs) ≡ 12288) × (length (now «srl_out») ≡ 49152) × (length (now «raw_out») ≡ 49152) ⌝ }
+    requires { ⌜ (at ≤ 65536) × (i ≤ 255) × (k ≤ 2) × (length (now cs) ≡ 12288) × (length (now ss) ≡ 12288) × (length (now srl) ≡ 49152) × (length (now raw) ≡ 49152) ⌝ }
 {
     let from = 16384 * k;
     let to = from + 16384;
@@ -212,72 +207,34 @@ fn streams_at(
         at,
         i,
         k,
-        extrapolate,
+        e,
         prev,
         curr,
-        coefficients,
-        signs,
-        &mut srl_out[from..to],
-        &mut raw_out[from..to],
+        cs,
+        ss,
+        &mut srl[from..to],
+        &mut raw[from..to],
     )
 }
 
-// Makes the streams of an upgrade at a place: how long the two of each component are.
+// Makes the streams of an upgrade of a tile with coefficients `cs` and signs `ss`, in the layout `e`: how long the two of each component are.
 pub fn all_streams(
     c: &[u8],
     at: usize,
     i: usize,
-    extrapolate: bool,
+    e: bool,
     positions: [u8; 30],
     rows: [[u8; 10]; 3],
-    coefficients: &[i16],
-    signs: &[i8],
-    srl_out: &mut [u8],
-    raw_out: &mut [u8],
+    cs: &[i16],
+    ss: &[i8],
+    srl: &mut [u8],
+    raw: &mut [u8],
 ) -> [usize; 6]
-    requires { ⌜ (at ≤ 65536) × (i ≤ 255) × (length (now coefficients) ≡ 12288) × (length (now signs) ≡ 12288) × (length (now «srl_out») ≡ 49152) × (length (now «raw_out») ≡ 49152) ⌝ }
+    requires { ⌜ (at ≤ 65536) × (i ≤ 255) × (length (now cs) ≡ 12288) × (length (now ss) ≡ 12288) × (length (now srl) ≡ 49152) × (length (now raw) ≡ 49152) ⌝ }
 {
-    let e = extrapolate;
-    let ps = positions;
-    let y = streams_at(
-        c,
-        at,
-        i,
-        0,
-        e,
-        ps,
-        rows[0],
-        coefficients,
-        signs,
-        srl_out,
-        raw_out,
-    );
-    let cb = streams_at(
-        c,
-        at,
-        i,
-        1,
-        e,
-        ps,
-        rows[1],
-        coefficients,
-        signs,
-        srl_out,
-        raw_out,
-    );
-    let cr = streams_at(
-        c,
-        at,
-        i,
-        2,
-        e,
-        ps,
-        rows[2],
-        coefficients,
-        signs,
-        srl_out,
-        raw_out,
-    );
+    let y = streams_at(c, at, i, 0, e, positions, rows[0], cs, ss, srl, raw);
+    let cb = streams_at(c, at, i, 1, e, positions, rows[1], cs, ss, srl, raw);
+    let cr = streams_at(c, at, i, 2, e, positions, rows[2], cs, ss, srl, raw);
     [y.srl, y.raw, cb.srl, cb.raw, cr.srl, cr.raw]
 }
 
