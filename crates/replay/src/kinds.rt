@@ -1,207 +1,33 @@
-// The kinds of cases: how many bytes a case has, and whether the port agrees with what the Rust answered. oracle/README.md lists them.
-use crate::number;
-use crate::srl_decode;
-use crate::srl_encode;
-use crate::srl_exhaustive;
-use crate::upgrade;
-
-// The size of a case; 0 for a kind whose cases differ in size, or that is not known.
-pub fn case_size(kind: u8) -> usize {
-    match kind {
-        1 | 3 | 9 => 6,
-        2 => 9,
-        4 | 5 | 6 | 11 => 5,
-        7 | 8 => 7,
-        10 => 4,
-        12 | 21 => 3,
-        15 => 2,
-        13 => 12,
-        14 => 14,
-        20 => 10,
-        31 => 16,
-        34 => 12,
-        _ => 0,
-    }
-}
-
-// Whether a record of a kind is one case, whatever its size.
-pub fn is_one_case(kind: u8) -> bool {
-    match kind {
-        32 | 33 | 35 | 36 | 37 | 38 => true,
-        _ => false,
-    }
-}
-
-pub fn is_known(kind: u8) -> bool {
-    if is_one_case(kind) {
-        return true;
-    }
-    case_size(kind) != 0
-}
-
-// Kinds 1 and 3: thirty-two bits to sixteen.
-fn narrowed(kind: u8, c: &[u8]) -> bool {
-    let value = number::i32_at(c, 0);
-    let answer = number::i16_at(c, 4);
-    if kind == 1 {
-        return fixed::clamp_i16(value) == answer;
-    }
-    fixed::t(value) == answer
-}
-
-fn clamp_u8(c: &[u8]) -> bool {
-    fixed::clamp_u8(number::i64_at(c, 0)) == number::u8_at(c, 8)
-}
-
-// Kinds 4 to 6: a value and a shift.
-fn shifted(kind: u8, c: &[u8]) -> bool {
-    let value = number::i16_at(c, 0);
-    let shift = number::u8_at(c, 2);
-    let answer = number::i16_at(c, 3);
-    if kind == 4 {
-        return fixed::round_shift_right(value, shift) == answer;
-    }
-    if kind == 5 {
-        return fixed::shift_left_clamp(value, shift) == answer;
-    }
-    fixed::shift_right_floor(value, shift) == answer
-}
-
-// Kinds 7 and 8: one coefficient's upgrade.
-fn scaled(kind: u8, c: &[u8]) -> bool {
-    let coefficient = number::i16_at(c, 0);
-    let magnitude = number::u16_at(c, 2);
-    let shift = number::u8_at(c, 4);
-    let answer = number::i16_at(c, 5);
-    if kind == 7 {
-        return fixed::add_scaled(coefficient, magnitude, shift) == answer;
-    }
-    fixed::sub_scaled(coefficient, magnitude, shift) == answer
-}
-
-fn sub_clamp(c: &[u8]) -> bool {
-    fixed::sub_clamp(number::i16_at(c, 0), number::i16_at(c, 2)) == number::i16_at(c, 4)
-}
-
-fn magnitude(c: &[u8]) -> bool {
-    fixed::magnitude(number::i16_at(c, 0)) == number::u16_at(c, 2)
-}
-
-fn with_sign(c: &[u8]) -> bool {
-    fixed::with_sign(number::u16_at(c, 0), number::flag_at(c, 2)) == number::i16_at(c, 3)
-}
-
-// The sign, and the three tests that go with it.
-fn sign_of(c: &[u8]) -> bool {
-    let value = number::i16_at(c, 0);
-    let sign = number::i8_at(c, 2);
-    if fixed::is_zero(value) != (sign == 0) {
-        return false;
-    }
-    if fixed::is_positive(value) != (sign == 1) {
-        return false;
-    }
-    if fixed::is_negative(value) != (sign == -1) {
-        return false;
-    }
-    fixed::sign_of(value) == sign
-}
-
-fn halves(c: &[u8]) -> bool {
-    let value = number::i32_at(c, 0);
-    if fixed::half_toward_zero(value) != number::i32_at(c, 4) {
-        return false;
-    }
-    fixed::half_floor(value) == number::i32_at(c, 8)
-}
-
-fn widen(c: &[u8]) -> bool {
-    let value = number::i16_at(c, 0);
-    if fixed::widen(value) != number::i32_at(c, 2) {
-        return false;
-    }
-    fixed::widen_i64(value) == number::i64_at(c, 6)
-}
-
-// What a pass does at a sign: 0 reads the SRL stream, 1 adds raw bits, 2 subtracts them.
-fn sign_use(c: &[u8]) -> bool {
-    let sign = number::i8_at(c, 0);
-    let answer = number::u8_at(c, 1);
-    if fixed::is_zero_sign(sign) {
-        return answer == 0;
-    }
-    if fixed::is_positive_sign(sign) {
-        return answer == 1;
-    }
-    answer == 2
-}
-
-fn same_band(a: bands::BandInfo, b: bands::BandInfo) -> bool {
-    if a.width != b.width {
-        return false;
-    }
-    if a.height != b.height {
-        return false;
-    }
-    a.offset == b.offset
-}
-
-// One band, by itself and as a row of its whole table, and the number of its coefficients.
-fn band(c: &[u8]) -> bool {
-    let extrapolate = number::flag_at(c, 0);
-    let index = number::u8_at(c, 1) as usize;
-    let answer = bands::BandInfo {
-        width: number::u16_at(c, 2) as usize,
-        height: number::u16_at(c, 4) as usize,
-        offset: number::u16_at(c, 6) as usize,
-    };
-    if !same_band(bands::band(extrapolate, index), answer) {
-        return false;
-    }
-    if index >= bands::NUM_BANDS {
-        return false;
-    }
-    let table = bands::get_band_layout(extrapolate);
-    if !same_band(table[index], answer) {
-        return false;
-    }
-    bands::band_count(extrapolate, index) == number::u16_at(c, 8) as usize
-}
-
-fn ll3_offset(c: &[u8]) -> bool {
-    bands::ll3_offset(number::flag_at(c, 0)) == number::u16_at(c, 1) as usize
-}
+// Whether the port agrees with a case, by its kind. oracle/README.md lists the kinds.
+use crate::ladder;
+use crate::tiles;
+use replay_input::number;
+use replay_input::sizes;
+use replay_kinds::leaves;
+use replay_kinds::srl_decode;
+use replay_kinds::srl_encode;
+use replay_kinds::srl_exhaustive;
+use replay_passes::upgrade;
 
 // Whether the port's answer to a case is the recorded one.
 fn same(kind: u8, c: &[u8]) -> bool {
     match kind {
-        1 | 3 => narrowed(kind, c),
-        2 => clamp_u8(c),
-        4 | 5 | 6 => shifted(kind, c),
-        7 | 8 => scaled(kind, c),
-        9 => sub_clamp(c),
-        10 => magnitude(c),
-        11 => with_sign(c),
-        12 => sign_of(c),
-        13 => halves(c),
-        14 => widen(c),
-        15 => sign_use(c),
-        20 => band(c),
-        21 => ll3_offset(c),
         32 => srl_decode::agrees(c),
         33 => srl_encode::agrees(c),
         34 => srl_exhaustive::agrees(c),
         36 => upgrade::decode_agrees(c),
         37 => upgrade::encode_agrees(c),
         38 => upgrade::dequantize_agrees(c),
-        _ => false,
+        39 => tiles::load_agrees(c),
+        40 => ladder::agrees(c),
+        _ => leaves::agrees(kind, c),
     }
 }
 
 // A case of another kind, after the kind's number, with a wrong answer: the port must not agree with it.
 fn wrong_answer(c: &[u8]) -> bool {
     let kind = number::u8_at(c, 0);
-    let size = case_size(kind);
+    let size = sizes::case_size(kind);
     if size == 0 {
         return false;
     }
@@ -221,7 +47,7 @@ fn wrong_case(c: &[u8]) -> bool {
     let kind = c[0];
     let from: usize = 1;
     match kind {
-        32 | 33 | 36 | 37 | 38 => !same(kind, &c[from..]),
+        32 | 33 | 36 | 37 | 38 | 39 | 40 => !same(kind, &c[from..]),
         _ => false,
     }
 }

@@ -1,15 +1,13 @@
 // Replays recorded answers of the Rust. Reads recorded cases from standard input (oracle/README.md has the format), calls the port on each and
 // compares; writes a line for each kind with the number of cases and of differences, and shows the first case of each kind that differs.
 use libc::STDIN_FILENO;
+use replay_input::number;
+use replay_input::report;
+use replay_input::sizes;
 
-mod component;
 mod kinds;
-mod number;
-mod report;
-mod srl_decode;
-mod srl_encode;
-mod srl_exhaustive;
-mod upgrade;
+mod ladder;
+mod tiles;
 
 // What the input has at the start of a record.
 enum Found {
@@ -45,11 +43,11 @@ fn replay_cases(
     cases: &mut [u64; 256],
     differences: &mut [u64; 256],
 ) -> bool {
-    if kinds::is_one_case(kind) {
+    if sizes::is_one_case(kind) {
         replay_case(kind, payload, cases, differences);
         return true;
     }
-    let size = kinds::case_size(kind);
+    let size = sizes::case_size(kind);
     if size == 0 {
         return false;
     }
@@ -98,7 +96,7 @@ fn replay_record(
         return Found::End;
     }
     let len = number::u32_at(&head, 1);
-    if !kinds::is_known(kind) {
+    if !sizes::is_known(kind) {
         return Found::Unknown;
     }
     if len > 65536 {

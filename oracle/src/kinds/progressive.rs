@@ -1,9 +1,12 @@
-//! Kinds 36 to 38: a pass over one component, read and written, and dequantizing.
+//! Kinds 36 to 40: a pass over one component, read and written; dequantizing; a tile, loaded and upgraded.
 
 mod component;
 mod decode;
 mod dequantize;
 mod encode;
+mod ladder;
+mod load;
+mod tile;
 
 use std::io;
 
@@ -32,6 +35,8 @@ pub fn record_all(recording: &mut Recording<'_>) -> io::Result<Vec<(u8, Case)>> 
     let mut models = decode::record_all(recording)?;
     models.extend(encode::record_all(recording)?);
     models.extend(dequantize::record_all(recording)?);
+    models.extend(load::record_all(recording)?);
+    models.extend(ladder::record_all(recording)?);
     Ok(models)
 }
 

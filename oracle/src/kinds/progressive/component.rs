@@ -76,18 +76,7 @@ pub struct Made {
 impl Given {
     /// As fields of a case.
     pub fn fields(&self) -> Vec<u8> {
-        let Shape {
-            seed,
-            density,
-            drop,
-            spread,
-            before,
-            signs,
-            cut,
-        } = self.shape;
-        let mode = before as u8 + 4 * signs as u8 + 16 * u8::from(cut);
-        let mut fields = seed.to_le_bytes().to_vec();
-        fields.extend([density, drop, spread, mode]);
+        let mut fields = self.shape.fields().to_vec();
         fields.push(u8::from(self.use_reduce_extrapolate));
         fields.extend(self.prev);
         fields.extend(self.curr);
@@ -136,6 +125,24 @@ impl Given {
 }
 
 impl Shape {
+    /// As fields of a case.
+    pub fn fields(&self) -> [u8; 12] {
+        let Self {
+            seed,
+            density,
+            drop,
+            spread,
+            before,
+            signs,
+            cut,
+        } = *self;
+        let mode = before as u8 + 4 * signs as u8 + 16 * u8::from(cut);
+        let mut fields = [0; 12];
+        fields[..8].copy_from_slice(&seed.to_le_bytes());
+        fields[8..].copy_from_slice(&[density, drop, spread, mode]);
+        fields
+    }
+
     fn target(&self, word: u64, curr: u8) -> i16 {
         if word as u8 > self.density {
             return 0;
@@ -173,7 +180,7 @@ impl Shape {
 }
 
 /// The next word: a step of xorshift64.
-fn next(mut word: u64) -> u64 {
+pub fn next(mut word: u64) -> u64 {
     word ^= word << 13;
     word ^= word >> 7;
     word ^ word << 17
@@ -183,7 +190,7 @@ fn bit(word: u64, place: u32) -> bool {
     word >> place & 1 == 1
 }
 
-fn shifted(magnitude: u16, shift: u8) -> u16 {
+pub fn shifted(magnitude: u16, shift: u8) -> u16 {
     magnitude.checked_shr(shift.into()).unwrap_or(0)
 }
 

@@ -1,0 +1,6 @@
+// Kinds 1 to 34: whether the port agrees with what the Rust answered, of `fixed`, `bands` and `srl`. oracle/README.md lists the kinds.
+// Each function is proved safe and to end.
+pub mod leaves;
+pub mod srl_decode;
+pub mod srl_encode;
+pub mod srl_exhaustive;

@@ -1,0 +1,3 @@
+// Kinds 36 to 38, and what an upgrade of kind 40 is made of: all that takes `progressive` and no tile. Each function is proved safe and to end.
+pub mod steps;
+pub mod upgrade;

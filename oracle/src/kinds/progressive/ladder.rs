@@ -1,0 +1,420 @@
+//! Kind 40: a tile, and upgrades of it one after another by `TileState::decode_upgrade`.
+
+use std::io;
+
+use oracle::codecs::rfx::progressive::ComponentCodecQuant;
+use oracle::progressive::TileState;
+use oracle::random::Random;
+
+use super::component::{Made, Row, next, shifted};
+use super::tile::{Fields, Start, bad_fields, digest, random_start, typical};
+use super::{
+    Before, COMPONENT, GREATEST, LAYOUTS, Shape, Signs, encode, load, record_kind, refusal,
+};
+use crate::record::{Case, Recording};
+
+const UPGRADE_LADDER: u8 = 40;
+
+/// The longest stream of a case.
+const LONGEST: usize = 16384;
+
+/// Where a ladder begins.
+#[derive(Clone, Copy)]
+enum From {
+    /// `TileState::new`.
+    New,
+    /// A loaded tile.
+    Loaded,
+    /// A tile with any fields.
+    Built,
+}
+
+/// The rows of an upgrade.
+#[derive(Clone, Copy)]
+enum Rows {
+    /// Each position of the tile, less a number of the bits that are set here.
+    Down(u8),
+    /// The same, raised.
+    Up(u8),
+    /// Any positions.
+    Any,
+    /// This position in every band.
+    All(u8),
+}
+
+/// The streams of a component.
+#[derive(Clone, Copy)]
+enum Streams {
+    None,
+    /// Those that the text writes for the component's target.
+    Written,
+    /// The same, cut.
+    Cut,
+    /// Any bytes.
+    Any,
+}
+
+/// One upgrade of a ladder.
+#[derive(Clone, Copy)]
+struct Step {
+    rows: Rows,
+    /// A place of the thirty that has a number above 15.
+    bad: Option<u8>,
+    streams: [Streams; 3],
+    /// A length of sixteen bits is shifted right so far.
+    lengths: u8,
+}
+
+/// Records all cases; the answer is the cases whose answers kind 35 makes wrong.
+pub fn record_all(recording: &mut Recording<'_>) -> io::Result<Vec<(u8, Case)>> {
+    let directed = [
+        fresh(),
+        real(),
+        shapes(),
+        alone(),
+        refusals(),
+        pass_numbers(),
+        short_streams(),
+    ];
+    record_kind(
+        recording,
+        UPGRADE_LADDER,
+        models(),
+        &directed.concat(),
+        200,
+        random_case,
+    )
+}
+
+fn case(start: Start, from: From, steps: &[Step]) -> Case {
+    let (number, mut tile) = match from {
+        From::New => (0, TileState::new()),
+        From::Loaded => load::load(&start, [COMPONENT; 6]),
+        From::Built => (0, start.built()),
+    };
+    let mut case = Case::default();
+    case.given(&start.bytes());
+    case.given(&[from as u8, steps.len() as u8]);
+    add_answer(&mut case, number, &tile);
+    for (index, step) in steps.iter().enumerate() {
+        case.given(&step.bytes());
+        let number = step.upgrade(&start, index, &mut tile);
+        add_answer(&mut case, number, &tile);
+    }
+    case
+}
+
+fn add_answer(case: &mut Case, number: u8, tile: &TileState) {
+    case.answer(&[number]);
+    case.answer(&digest(tile).to_le_bytes());
+}
+
+impl Step {
+    fn bytes(&self) -> [u8; 4] {
+        let rows = match self.rows {
+            Rows::Down(mask) => mask,
+            Rows::Up(mask) => 16 + mask,
+            Rows::Any => 32,
+            Rows::All(position) => 48 + position,
+        };
+        let [y, cb, cr] = self.streams.map(|streams| streams as u8);
+        let bad = self.bad.map_or(0, |place| place + 1);
+        [rows, bad, y + 4 * cb + 16 * cr, self.lengths]
+    }
+
+    /// Upgrades a tile: the refusal, or 0. The text gives no refusal, and takes no number above 15
+    /// from the wire: it is asked only where there is none.
+    fn upgrade(&self, start: &Start, index: usize, tile: &mut TileState) -> u8 {
+        let words: [u64; 4] =
+            core::array::from_fn(|k| next(start.seed(4 * (index as u64 + 1) + k as u64)));
+        let fields = Fields::of(tile);
+        let rows = self.rows_of(&fields, words);
+        let streams: [(Vec<u8>, Vec<u8>); 3] =
+            core::array::from_fn(|k| self.streams_of(start, tile, k, rows[k], next(words[k])));
+        let number = refusal(&[], &[rows, fields.prog_quant, fields.base_quant].concat());
+        if number == 0 {
+            tile.decode_upgrade(
+                core::array::from_fn(|k| streams[k].0.as_slice()),
+                core::array::from_fn(|k| streams[k].1.as_slice()),
+                rows.map(ComponentCodecQuant::of_bands),
+                words[3] as u8,
+            )
+            .expect("a stream causes no refusal");
+        }
+        number
+    }
+
+    fn rows_of(&self, fields: &Fields, words: [u64; 4]) -> [Row; 3] {
+        let mut rows: [Row; 3] = core::array::from_fn(|k| {
+            core::array::from_fn(|band| {
+                let number = (words[k] >> (4 * band)) as u8 % 16;
+                self.rows.position(fields.prog_quant[k][band], number)
+            })
+        });
+        if let Some(place) = self.bad {
+            let number = 16 + (words[3] >> 8) as u8 % 240;
+            rows.as_flattened_mut()[usize::from(place)] = number;
+        }
+        rows
+    }
+
+    /// The streams of the component with number `k`.
+    fn streams_of(
+        &self,
+        start: &Start,
+        tile: &TileState,
+        k: usize,
+        curr: Row,
+        word: u64,
+    ) -> (Vec<u8>, Vec<u8>) {
+        let lengths =
+            [word, word >> 16].map(|word| LONGEST.min(shifted(word as u16, self.lengths).into()));
+        match self.streams[k] {
+            Streams::None => Default::default(),
+            Streams::Written => written(start, tile, k, curr),
+            Streams::Cut => {
+                let (mut srl, mut raw) = written(start, tile, k, curr);
+                srl.truncate(lengths[0]);
+                raw.truncate(lengths[1]);
+                (srl, raw)
+            }
+            Streams::Any => {
+                let mut word = word;
+                let [srl, raw] = lengths.map(|length| {
+                    (0..length)
+                        .map(|_| {
+                            word = next(word);
+                            word as u8
+                        })
+                        .collect()
+                });
+                (srl, raw)
+            }
+        }
+    }
+}
+
+impl Rows {
+    fn position(self, position: u8, number: u8) -> u8 {
+        match self {
+            Self::Down(mask) => position.saturating_sub(number & mask),
+            Self::Up(mask) => position.saturating_add(number & mask).min(GREATEST),
+            Self::Any => number,
+            Self::All(position) => position,
+        }
+    }
+}
+
+/// The streams that the text writes from a component of a tile to its target; none if it refuses, or
+/// if one is too long.
+fn written(start: &Start, tile: &TileState, k: usize, curr: Row) -> (Vec<u8>, Vec<u8>) {
+    let mut given = start.component(k, Fields::of(tile).prog_quant[k], curr);
+    given.use_reduce_extrapolate = tile.use_reduce_extrapolate;
+    let made = Made {
+        target: given.make().target,
+        before: tile.coefficients[k].to_vec(),
+        sign: tile.sign[k].to_vec(),
+    };
+    match encode::write(&given, &made) {
+        Ok((srl, raw)) if srl.len() <= LONGEST && raw.len() <= LONGEST => (srl, raw),
+        _ => Default::default(),
+    }
+}
+
+/// An upgrade with streams of one sort.
+fn step(rows: Rows, streams: Streams) -> Step {
+    Step {
+        rows,
+        bad: None,
+        streams: [streams; 3],
+        lengths: 7,
+    }
+}
+
+fn bad(step: Step, place: u8) -> Step {
+    Step {
+        bad: Some(place),
+        ..step
+    }
+}
+
+/// Few cases that have each sort of answer.
+fn models() -> Vec<Case> {
+    let down = step(Rows::Down(3), Streams::Written);
+    let any = step(Rows::Down(7), Streams::Any);
+    vec![
+        case(
+            typical(1),
+            From::New,
+            &[step(Rows::Up(15), Streams::Any), any],
+        ),
+        case(typical(2), From::Loaded, &[down, bad(down, 17)]),
+        case(typical(3), From::Built, &[any]),
+    ]
+}
+
+/// The fresh tile: its positions are 0, so they are raised first.
+fn fresh() -> Vec<Case> {
+    let mut cases = vec![case(typical(10), From::New, &[])];
+    for (seed, top) in (11..).zip([15, 8, 1]) {
+        for streams in [Streams::Written, Streams::Any, Streams::None] {
+            let mut steps = vec![step(Rows::All(top), Streams::Any)];
+            steps.extend([step(Rows::Down(3), streams); 5]);
+            steps.push(step(Rows::All(0), streams));
+            cases.push(case(typical(seed), From::New, &steps));
+        }
+    }
+    cases
+}
+
+/// Tiles that fit, upgraded by the writer's streams down to the last bit, in both layouts.
+fn real() -> Vec<Case> {
+    let mut cases = Vec::new();
+    for (seed, density) in (20..).zip([4, 60, 200, 255]) {
+        for use_reduce_extrapolate in LAYOUTS {
+            for mask in [1, 3, 7] {
+                let mut start = typical(seed);
+                start.shape.density = density;
+                start.fields.use_reduce_extrapolate = use_reduce_extrapolate;
+                let mut steps = vec![step(Rows::Down(mask), Streams::Written); 4];
+                steps.push(step(Rows::All(0), Streams::Written));
+                cases.push(case(start, From::Loaded, &steps));
+            }
+        }
+    }
+    cases
+}
+
+/// Each sort of coefficients with each sort of signs, on streams of all sorts.
+fn shapes() -> Vec<Case> {
+    let mut random = Random::new(1, UPGRADE_LADDER);
+    let mut cases = Vec::new();
+    for before in [Before::Cut, Before::Floor, Before::Any, Before::Extreme] {
+        for signs in [Signs::Before, Signs::Any, Signs::Zero, Signs::Later] {
+            let mut start = typical(random.word());
+            start.shape = Shape {
+                density: 120,
+                drop: 0,
+                before,
+                signs,
+                ..start.shape
+            };
+            let steps = [
+                step(Rows::Down(3), Streams::Any),
+                step(Rows::Up(7), Streams::Written),
+                step(Rows::Any, Streams::Any),
+                step(Rows::Down(3), Streams::Cut),
+            ];
+            cases.push(case(start, From::Built, &steps));
+        }
+    }
+    cases
+}
+
+/// One component's streams at a time.
+fn alone() -> Vec<Case> {
+    let mut cases = Vec::new();
+    for k in 0..3 {
+        for sort in [Streams::Written, Streams::Any] {
+            let mut streams = [Streams::None; 3];
+            streams[k] = sort;
+            let step = Step {
+                streams,
+                ..step(Rows::Down(3), sort)
+            };
+            cases.push(case(typical(40 + k as u64), From::Built, &[step; 2]));
+        }
+    }
+    cases
+}
+
+/// A number above 15 at each place of the rows, one after another, before an upgrade that is accepted;
+/// and at places of the tile, in each band.
+fn refusals() -> Vec<Case> {
+    let down = step(Rows::Down(3), Streams::Any);
+    let mut cases = Vec::new();
+    for first in (0..30).step_by(6) {
+        let mut steps: Vec<Step> = (first..first + 6).map(|place| bad(down, place)).collect();
+        steps.push(down);
+        cases.push(case(typical(50 + u64::from(first)), From::Built, &steps));
+    }
+    let start = typical(60);
+    for fields in bad_fields(start.fields).into_iter().step_by(3) {
+        cases.push(case(Start { fields, ..start }, From::Built, &[down]));
+    }
+    let mut loaded = start;
+    loaded.fields.base_quant[2][9] = 16;
+    cases.push(case(loaded, From::Loaded, &[down]));
+    cases
+}
+
+/// Pass numbers up to the greatest, where they stay.
+fn pass_numbers() -> Vec<Case> {
+    let down = step(Rows::Down(1), Streams::None);
+    [0, 255, 256, 32767, 65533, 65534, 65535]
+        .map(|pass| {
+            let mut start = typical(70);
+            start.fields.pass = pass;
+            case(start, From::Built, &[down; 3])
+        })
+        .to_vec()
+}
+
+/// Streams of up to a few bytes.
+fn short_streams() -> Vec<Case> {
+    let mut cases = Vec::new();
+    for lengths in [16, 15, 14, 13, 12] {
+        for streams in [Streams::Cut, Streams::Any] {
+            let short = Step {
+                lengths,
+                ..step(Rows::Down(7), streams)
+            };
+            cases.push(case(
+                typical(80 + u64::from(lengths)),
+                From::Loaded,
+                &[short; 3],
+            ));
+        }
+    }
+    cases
+}
+
+fn random_case(random: &mut Random) -> Case {
+    let mut start = random_start(random);
+    let from = match random.below(8) {
+        0 => From::New,
+        1..=4 => From::Loaded,
+        _ => From::Built,
+    };
+    if random.one_in(32) {
+        start.fields = random.pick(&bad_fields(start.fields));
+    }
+    let mut steps: Vec<Step> = (0..random.within(1..=8))
+        .map(|_| random_step(random))
+        .collect();
+    if matches!(from, From::New) {
+        steps[0].rows = random.pick(&[Rows::All(GREATEST), Rows::Up(15), Rows::Any]);
+    }
+    case(start, from, &steps)
+}
+
+fn random_step(random: &mut Random) -> Step {
+    let rows = match random.below(16) {
+        0 => Rows::Up(random.pick(&[1, 3, 15])),
+        1 => Rows::Any,
+        2 => Rows::All(random.below(GREATEST + 1)),
+        _ => Rows::Down(random.pick(&[0, 1, 1, 1, 3, 3, 7])),
+    };
+    let mut streams = [random.pick(&[Streams::Written, Streams::Written, Streams::Any]); 3];
+    if random.one_in(3) {
+        streams = core::array::from_fn(|_| {
+            random.pick(&[Streams::None, Streams::Written, Streams::Cut, Streams::Any])
+        });
+    }
+    Step {
+        rows,
+        bad: random.one_in(12).then(|| random.below(30)),
+        streams,
+        lengths: random.pick(&[5, 6, 7, 7, 8, 8, 9, 10, 12, 14]),
+    }
+}
