@@ -389,28 +389,36 @@ fn random_case(random: &mut Random) -> Case {
     if random.one_in(32) {
         start.fields = random.pick(&bad_fields(start.fields));
     }
+    let written = random.one_in(2);
     let mut steps: Vec<Step> = (0..random.within(1..=8))
-        .map(|_| random_step(random))
+        .map(|_| random_step(random, written))
         .collect();
     if matches!(from, From::New) {
-        steps[0].rows = random.pick(&[Rows::All(GREATEST), Rows::Up(15), Rows::Any]);
+        steps[0].rows = match random.below(2) {
+            0 if !written => random.pick(&[Rows::Up(15), Rows::Any]),
+            _ => Rows::All(GREATEST),
+        };
     }
     case(start, from, &steps)
 }
 
-fn random_step(random: &mut Random) -> Step {
+/// An upgrade of any sort, or if all of a ladder's streams are to be written, one that leaves the tile
+/// on the way to its target.
+fn random_step(random: &mut Random, written: bool) -> Step {
     let rows = match random.below(16) {
         0 => Rows::Up(random.pick(&[1, 3, 15])),
         1 => Rows::Any,
         2 => Rows::All(random.below(GREATEST + 1)),
         _ => Rows::Down(random.pick(&[0, 1, 1, 1, 3, 3, 7])),
     };
-    let mut streams = [random.pick(&[Streams::Written, Streams::Written, Streams::Any]); 3];
-    if random.one_in(3) {
-        streams = core::array::from_fn(|_| {
+    let streams = match random.below(3) {
+        _ if written => [Streams::Written; 3],
+        0 => core::array::from_fn(|_| {
             random.pick(&[Streams::None, Streams::Written, Streams::Cut, Streams::Any])
-        });
-    }
+        }),
+        1 => [Streams::Any; 3],
+        _ => [Streams::Written; 3],
+    };
     Step {
         rows,
         bad: random.one_in(12).then(|| random.below(30)),

@@ -165,7 +165,7 @@ pub fn typical(seed: u64) -> Start {
 /// Tiles of all sorts, most of which fit their positions.
 pub fn random_start(random: &mut Random) -> Start {
     let prog_quant = core::array::from_fn(|_| {
-        let lowest = random.below(GREATEST + 1);
+        let lowest = random.below(GREATEST + 1).max(random.below(GREATEST + 1));
         core::array::from_fn(|_| (lowest + random.below(4)).min(GREATEST))
     });
     Start {
