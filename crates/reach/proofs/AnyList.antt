@@ -7,7 +7,8 @@ use native.Mathlib.Omega.{arith}
 use Rattle.bands.specs.Positions.{rowInDomain, rowsInDomain}
 use Rattle.progressive_decoder.specs.Upgrade.{answered, unlessRefused}
 use Rattle.progressive_decoder.specs.declared.Answer.{Answer}
-use Rattle.tile.specs.Tile.{component, rowOf, joined, of, three, upgraded, upgradeRefusal}
+use Rattle.components.specs.Components.{component, rowOf, joined, of, three}
+use Rattle.tile.specs.Tile.{upgraded, upgradeRefusal}
 use Rattle.tile.specs.declared.TileState.{TileState}
 use Rattle.reach.specs.Component.{bandsOf, ComponentGains}
 use Rattle.reach.specs.Reach.{TileFits, Pass, Call, after, answersTo, answersBy, passesOf, ThreeRows, AllRows, lastRows, Lower, NoRaise, lastOf, Picture, picture, TileGains, ThreeStreams, AllStreams, Reached, Exact, ReachablePictures}

@@ -12,10 +12,11 @@ use Rattle.fixed.specs.Fixed.{isZero, signOf}
 use Rattle.bands.proofs.Spread.{place-whole}
 use Rattle.upgrade_steps.specs.Steps.{Step, Source, skipped, srl, raw, source, sourceOf}
 use Rattle.progressive_decoder.specs.Upgrade.{signThen, signsAfter, srlValues, upgradedSigns, unlessRefused}
-use Rattle.tile.specs.Tile.{component, of, stepsOf, passSigns, upgraded, upgradeRefusal}
+use Rattle.components.specs.Components.{component, of, stepsOf, passSigns}
+use Rattle.tile.specs.Tile.{upgraded, upgradeRefusal}
 use Rattle.tile.specs.declared.TileState.{TileState}
-use Rattle.tile.proofs.Joined.{Long, joined-long, parts-long, component-joined}
-use Rattle.tile.proofs.Passes.{signs-long}
+use Rattle.components.proofs.Joined.{Long, joined-long, parts-long, component-joined}
+use Rattle.components.proofs.Passes.{signs-long}
 use Rattle.reach.specs.Place.{Place, Fits, Gains}
 use Rattle.reach.specs.Component.{bandsOf, isBottom}
 use Rattle.reach.specs.Reach.{Call, afterCall, after}

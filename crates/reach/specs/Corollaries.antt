@@ -8,7 +8,8 @@ use lib.IntN.{ℤ, pos, negsuc}
 use lib.ListN.{getD, length, replicate, take}
 use Rattle.fixed.specs.Fixed.{signOf}
 use Rattle.bands.specs.Bands.{perPlace}
-use Rattle.tile.specs.Tile.{component, joined, three, of, fresh, loaded, loadRefusal}
+use Rattle.components.specs.Components.{component, joined, three, of}
+use Rattle.tile.specs.Tile.{fresh, loaded, loadRefusal}
 use Rattle.tile.specs.declared.TileState.{TileState}
 use Rattle.reach.specs.Place.{Place, OwnSign}
 use Rattle.reach.specs.Component.{bandsOf, isBottom, ComponentFits}

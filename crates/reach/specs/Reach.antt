@@ -10,7 +10,8 @@ use lib.ListN.{getD, length}
 use Rattle.bands.specs.Positions.{rowInDomain}
 use Rattle.progressive_decoder.specs.Upgrade.{answered, unlessRefused}
 use Rattle.progressive_decoder.specs.declared.Answer.{Answer}
-use Rattle.tile.specs.Tile.{component, rowOf, joined, of, upgradeRefusal, decodeUpgrade}
+use Rattle.components.specs.Components.{component, rowOf, joined, of}
+use Rattle.tile.specs.Tile.{upgradeRefusal, decodeUpgrade}
 use Rattle.tile.specs.declared.TileState.{TileState}
 use Rattle.reach.specs.Component.{bandsOf, ComponentFits, ComponentGains}
 

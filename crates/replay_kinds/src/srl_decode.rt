@@ -5,14 +5,14 @@ ghost use Prim.Native.Nat.{_≤_};
 // What became of a call: whether the port agrees, and the state that it handed back.
 struct Called {
     same: bool,
-    state: srl::SrlState,
+    state: srl_decoder::SrlState,
 }
 
 // The state in the 19 bytes at a place.
-fn state_at(c: &[u8], at: usize) -> srl::SrlState
+fn state_at(c: &[u8], at: usize) -> srl_decoder::SrlState
     requires { ⌜ at ≤ 2097152 ⌝ }
 {
-    srl::SrlState {
+    srl_decoder::SrlState {
         reader: bits::reader::BitReader {
             byte_idx: number::u64_at(c, at) as usize,
             bit_idx: number::u8_at(c, at + 8),
@@ -23,7 +23,7 @@ fn state_at(c: &[u8], at: usize) -> srl::SrlState
     }
 }
 
-fn same_state(a: srl::SrlState, b: srl::SrlState) -> bool {
+fn same_state(a: srl_decoder::SrlState, b: srl_decoder::SrlState) -> bool {
     let p = a.reader;
     let q = b.reader;
     if p.byte_idx != q.byte_idx {
@@ -93,7 +93,7 @@ fn same_answer(
     at: usize,
     refusal: u8,
     count: usize,
-    state: srl::SrlState,
+    state: srl_decoder::SrlState,
     out: &[i16],
 ) -> bool
     requires { ⌜ at ≤ 1048592 ⌝ }
@@ -114,18 +114,24 @@ fn same_answer(
 }
 
 // Makes the call at a place with an output of its size.
-fn call_with(c: &[u8], at: usize, src: &[u8], state: srl::SrlState, out: &mut [i16]) -> Called
+fn call_with(
+    c: &[u8],
+    at: usize,
+    src: &[u8],
+    state: srl_decoder::SrlState,
+    out: &mut [i16],
+) -> Called
     requires { ⌜ at ≤ 1048576 ⌝ }
 {
     let num_values = number::u64_at(c, at) as usize;
     let num_bits = number::u8_at(c, at + 8);
     fill(out);
-    match srl::decode(src, state, out, num_values, num_bits) {
-        srl::Decoded::Values(count, next) => Called {
+    match srl_decoder::decode(src, state, out, num_values, num_bits) {
+        srl_decoder::Decoded::Values(count, next) => Called {
             same: same_answer(c, at + 11, 0, count, next, out),
             state: next,
         },
-        srl::Decoded::Refused(refusal, next) => Called {
+        srl_decoder::Decoded::Refused(refusal, next) => Called {
             same: same_answer(c, at + 11, refusal, 0, next, out),
             state: next,
         },
@@ -133,7 +139,7 @@ fn call_with(c: &[u8], at: usize, src: &[u8], state: srl::SrlState, out: &mut [i
 }
 
 // Makes the call at a place.
-fn call_at(c: &[u8], at: usize, src: &[u8], state: srl::SrlState, out: &mut [i16]) -> Called
+fn call_at(c: &[u8], at: usize, src: &[u8], state: srl_decoder::SrlState, out: &mut [i16]) -> Called
     requires { ⌜ at ≤ 1048576 ⌝ }
 {
     let len = number::u16_at(c, at + 9) as usize;

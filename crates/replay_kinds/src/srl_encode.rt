@@ -6,14 +6,14 @@ ghost use Prim.Native.Nat.{_≤_};
 // What became of a call: whether the port agrees, and the state that it handed back.
 struct Called {
     same: bool,
-    state: srl::SrlWriter,
+    state: srl_encoder::SrlWriter,
 }
 
 // The state in the 11 bytes at a place.
-fn state_at(c: &[u8], at: usize) -> srl::SrlWriter
+fn state_at(c: &[u8], at: usize) -> srl_encoder::SrlWriter
     requires { ⌜ at ≤ 2097152 ⌝ }
 {
-    srl::SrlWriter {
+    srl_encoder::SrlWriter {
         kp: number::u8_at(c, at),
         pending_zeros: number::u64_at(c, at + 1) as usize,
         current: number::u8_at(c, at + 9),
@@ -21,7 +21,7 @@ fn state_at(c: &[u8], at: usize) -> srl::SrlWriter
     }
 }
 
-fn same_state(a: srl::SrlWriter, b: srl::SrlWriter) -> bool {
+fn same_state(a: srl_encoder::SrlWriter, b: srl_encoder::SrlWriter) -> bool {
     if a.kp != b.kp {
         return false;
     }
@@ -97,7 +97,7 @@ fn same_answer(
     at: usize,
     refusal: u8,
     count: usize,
-    state: srl::SrlWriter,
+    state: srl_encoder::SrlWriter,
     out: &[u8],
 ) -> bool
     requires { ⌜ at ≤ 1048576 ⌝ }
@@ -116,19 +116,19 @@ fn call_with(
     c: &[u8],
     at: usize,
     values: &[i16],
-    state: srl::SrlWriter,
+    state: srl_encoder::SrlWriter,
     out: &mut [u8],
     num_bits: u8,
 ) -> Called
     requires { ⌜ at ≤ 1048576 ⌝ }
 {
     outputs::fill(out);
-    match srl::encode(values, state, out, num_bits) {
-        srl::Encoded::Bytes(count, next) => Called {
+    match srl_encoder::encode(values, state, out, num_bits) {
+        srl_encoder::Encoded::Bytes(count, next) => Called {
             same: same_answer(c, at, 0, count, next, out),
             state: next,
         },
-        srl::Encoded::Refused(refusal, next) => Called {
+        srl_encoder::Encoded::Refused(refusal, next) => Called {
             same: same_answer(c, at, refusal, 0, next, out),
             state: next,
         },
@@ -154,7 +154,13 @@ fn behind(c: &[u8], at: usize) -> usize
 }
 
 // Makes the call at a place.
-fn call_at(c: &[u8], at: usize, values: &mut [i16], state: srl::SrlWriter, out: &mut [u8]) -> Called
+fn call_at(
+    c: &[u8],
+    at: usize,
+    values: &mut [i16],
+    state: srl_encoder::SrlWriter,
+    out: &mut [u8],
+) -> Called
     requires { ⌜ at ≤ 1048576 ⌝ }
 {
     let len = number::u16_at(c, at + 1) as usize;
@@ -179,7 +185,7 @@ fn call_at(c: &[u8], at: usize, values: &mut [i16], state: srl::SrlWriter, out: 
 }
 
 // Makes the call of `finish` with an output of its size; the answer is at a place, and the case ends with it.
-fn finish_with(c: &[u8], at: usize, state: srl::SrlWriter, out: &mut [u8]) -> bool
+fn finish_with(c: &[u8], at: usize, state: srl_encoder::SrlWriter, out: &mut [u8]) -> bool
     requires { ⌜ at ≤ 1048592 ⌝ }
 {
     outputs::fill(out);
@@ -188,14 +194,14 @@ fn finish_with(c: &[u8], at: usize, state: srl::SrlWriter, out: &mut [u8]) -> bo
     if at + 3 + count != c.len() {
         return false;
     }
-    match srl::finish(state, out) {
-        srl::Finished::Stream(n) => {
+    match srl_encoder::finish(state, out) {
+        srl_encoder::Finished::Stream(n) => {
             if refusal != 0 {
                 return false;
             }
             same_bytes(c, at + 1, at + 3, n, out)
         }
-        srl::Finished::Refused(k, kept) => {
+        srl_encoder::Finished::Refused(k, kept) => {
             if refusal != k {
                 return false;
             }
@@ -208,7 +214,7 @@ fn finish_with(c: &[u8], at: usize, state: srl::SrlWriter, out: &mut [u8]) -> bo
 }
 
 // Makes the call of `finish` at a place.
-fn finish_at(c: &[u8], at: usize, state: srl::SrlWriter, out: &mut [u8]) -> bool
+fn finish_at(c: &[u8], at: usize, state: srl_encoder::SrlWriter, out: &mut [u8]) -> bool
     requires { ⌜ at ≤ 1048576 ⌝ }
 {
     let len = number::u16_at(c, at) as usize;

@@ -3,7 +3,7 @@ use replay_input::digests;
 use replay_input::number;
 
 // A digest with a state more.
-fn with_state(digest: u64, state: srl::SrlState) -> u64 {
+fn with_state(digest: u64, state: srl_decoder::SrlState) -> u64 {
     let reader = state.reader;
     let a = digests::mixed(digest, reader.byte_idx as u64);
     let b = digests::mixed(a, reader.bit_idx as u64);
@@ -18,9 +18,21 @@ fn with_state(digest: u64, state: srl::SrlState) -> u64 {
 // A digest with what the port decodes from a stream; a refusal counts as no number that a recording has.
 fn with_stream(digest: u64, src: &[u8], width: u8, count: u8) -> u64 {
     let mut out = [0i16; 255];
-    match srl::decode(src, srl::SrlState::new(), &mut out, count as usize, width) {
-        srl::Decoded::Values(n, state) => with_state(digests::with_values(digest, &out, n), state),
-        srl::Decoded::Refused(refusal, _) => digests::mixed(digest, u64::MAX - refusal as u64),
+    match srl_decoder::decode(
+        src,
+        srl_decoder::SrlState::new(),
+        &mut out,
+        count as usize,
+        width,
+    ) {
+        srl_decoder::Decoded::Values(n, state) => with_state(
+            digests::with_values(digest, &out, n),
+            state,
+        ),
+        srl_decoder::Decoded::Refused(refusal, _) => digests::mixed(
+            digest,
+            u64::MAX - refusal as u64,
+        ),
     }
 }
 

@@ -1,3 +1,2 @@
 -- What the contracts of `tile` cite.
 pub mod Tile
-pub mod Flat

@@ -1,37 +1,16 @@
--- A tile: made, loaded and upgraded (docs/SCOPE.md, "Tile"). Its arrays are flat: three components of 4,096, three rows of ten.
+-- A tile: made, loaded and upgraded (docs/SCOPE.md, "Tile").
 use mathlib.Core.Bool.{Bool, false, cond, _&&_}
-use mathlib.Core.List.{List, [], _∷_, _++_}
-use Prim.Native.Nat.{ℕ, _+_, _*_, min}
+use mathlib.Core.List.{List}
+use Prim.Native.Nat.{ℕ, _+_, min}
 use lib.IntN.{ℤ, pos}
-use lib.ListN.{getD, replicate, take, drop}
+use lib.ListN.{replicate}
 use Rattle.bands.specs.Positions.{every, rowInDomain, rowsInDomain}
-use Rattle.upgrade_steps.specs.Steps.{Step, steps, longEnough}
-use Rattle.progressive_decoder.specs.Upgrade.{upgradedCoefficients, upgradedSigns, answered, unlessRefused}
+use Rattle.upgrade_steps.specs.Steps.{longEnough}
+use Rattle.progressive_decoder.specs.Upgrade.{answered, unlessRefused}
+use Rattle.components.specs.Components.{joined, of, taken, passCoefficients, passSigns}
 use Rattle.tile.specs.declared.TileState.{TileState}
 use Rattle.tile.specs.declared.Loaded.{Loaded}
 use Rattle.tile.specs.declared.Upgraded.{Upgraded}
-
--- ════ three components in one array: 0 is Y, 1 is Cb, 2 is Cr ════
-
--- "three components (Y, Cb, Cr) of 4,096 coefficients each": that with number k
-abbrev pub component : {A : Type 0} → ℕ → List A → List A
-component k l = take 4096 (drop (k * 4096) l)
-
--- "three rows of ten, one row a component": that of component k
-abbrev pub rowOf : ℕ → List ℕ → List ℕ
-rowOf k l = take 10 (drop (k * 10) l)
-
--- what each of the three has, one after another
-abbrev pub joined : {A : Type 0} → (ℕ → List A) → List A
-joined f = f 0 ++ (f 1 ++ f 2)
-
--- one thing for each
-abbrev pub three : {A : Type 0} → A → A → A → List A
-three y cb cr = y ∷ cb ∷ cr ∷ []
-
--- component k of three
-abbrev pub of : {A : Type 0} → List (List A) → ℕ → List A
-of l k = getD l k []
 
 -- ════ the fresh tile ════
 
@@ -54,10 +33,6 @@ fresh = record {
 }
 
 -- ════ a loaded tile ════
-
--- the first 4,096 of each of three slices: "longer is fine"
-abbrev pub taken : {A : Type 0} → List (List A) → List A
-taken l = joined (λ k. take 4096 (of l k))
 
 -- "a loading call puts in coefficients, signs, rows and layout, with pass number 1; the other fields are the fresh tile's"
 unfoldable pub loaded : List (List ℤ) → List (List ℤ) → List (List ℕ) → List (List ℕ) → Bool → TileState
@@ -87,20 +62,6 @@ abbrev pub load : List (List ℤ) → List (List ℤ) → List (List ℕ) → Li
 load cs ss rows quants e = loadedBy (loadRefusal cs ss rows quants) (loaded cs ss rows quants e) fresh
 
 -- ════ an upgraded tile ════
-
--- the steps of component k, from its row of the tile's positions to the row given for it
-abbrev pub stepsOf : Bool → List ℕ → List (List ℕ) → ℕ → List Step
-stepsOf e positions rows k = steps e (rowOf k positions) (of rows k)
-
--- "does three components": their coefficients after a pass
-unfoldable pub passCoefficients : Bool → List ℕ → List (List ℕ) → List (List ℕ) → List (List ℕ) → List ℤ → List ℤ → List ℤ
-passCoefficients e positions rows srlData rawData cs ss =
-    joined (λ k. upgradedCoefficients (stepsOf e positions rows k) (of srlData k) (of rawData k) (component k cs) (component k ss))
-
--- and their signs
-unfoldable pub passSigns : Bool → List ℕ → List (List ℕ) → List (List ℕ) → List ℤ → List ℤ
-passSigns e positions rows srlData ss =
-    joined (λ k. upgradedSigns (stepsOf e positions rows k) (of srlData k) (component k ss))
 
 -- "adds 1 to the pass number, which stays at 65535"
 abbrev pub nextPass : ℕ → ℕ

@@ -7,9 +7,8 @@ ghost use Prim.Native.Nat.{_≤_, _<_};
 ghost use lib.Dec.{leb};
 ghost use lib.ListN.{length};
 ghost use Rattle.bands.specs.Positions.{every, rowInDomain, rowsInDomain};
-ghost use Rattle.tile.specs.Tile.{three, fresh, loaded, loadedBy, load, nextPass, upgraded, decodeUpgrade};
-
-mod flat;
+ghost use Rattle.components.specs.Components.{three};
+ghost use Rattle.tile.specs.Tile.{fresh, loaded, loadedBy, load, nextPass, upgraded, decodeUpgrade};
 
 // A tile: 64 x 64 pixels, with what has arrived of them. Arrays are flat: three components (Y, Cb, Cr) of 4,096, three rows of ten.
 #[repr(C)]
@@ -97,7 +96,7 @@ impl TileState {
     {
         let row = Self::LOSSLESS;
         let rows = [row; 3];
-        let prog_quant = flat::flat_rows(rows);
+        let prog_quant = components::flat_rows(rows);
         Self {
             coefficients: [0; 12288],
             sign: [0; 12288],
@@ -128,10 +127,10 @@ impl TileState {
     {
         let mut coefficients: [i16; 12288] = [0; 12288];
         let mut sign: [i8; 12288] = [0; 12288];
-        flat::load_coefficients(y, cb, cr, &mut coefficients);
-        flat::load_signs(y_sign, cb_sign, cr_sign, &mut sign);
-        let prog_quant = flat::flat_rows(prog_quants);
-        let base_quant = flat::flat_rows(base_quants);
+        components::load_coefficients(y, cb, cr, &mut coefficients);
+        components::load_signs(y_sign, cb_sign, cr_sign, &mut sign);
+        let prog_quant = components::flat_rows(prog_quants);
+        let base_quant = components::flat_rows(base_quants);
         Self {
             coefficients: coefficients,
             sign: sign,
@@ -207,7 +206,7 @@ impl TileState {
         let mut coefficients = self.coefficients;
         let mut sign = self.sign;
         let positions = self.prog_quant;
-        flat::upgrade_components(
+        components::upgrade_components(
             y_srl,
             y_raw,
             cb_srl,
@@ -220,7 +219,7 @@ impl TileState {
             &mut coefficients,
             &mut sign,
         );
-        let prog_quant = flat::flat_rows(prog_quants);
+        let prog_quant = components::flat_rows(prog_quants);
         let quant_idx = self.quant_idx;
         let base_quant = self.base_quant;
         let pass = next_pass(self.pass);

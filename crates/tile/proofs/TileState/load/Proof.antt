@@ -11,7 +11,7 @@ use borrow.Author.Needs.{needs}
 use Rattle.bands.specs.Positions.{every, rowsInDomain}
 use Rattle.bands.proofs.Every.{at}
 use Rattle.upgrade_steps.specs.Steps.{longEnough}
-use Rattle.tile.specs.Tile.{three}
+use Rattle.components.specs.Components.{three}
 use Rattle.tile.proofs.TileState.load.Statement.{statement}
 use Rattle.tile.proofs.TileState.load.Tie as tie
 

@@ -1,18 +1,18 @@
--- `tile::flat::load_signs` meets its contract. Assumes nothing.
+-- `tile::flat::load_coefficients` meets its contract. Assumes nothing.
 use borrow.Author.Needs.{needs}
-use Rattle.tile.proofs.Copies.{takes-three}
-use Rattle.tile.proofs.flat.load_signs.Statement.{statement}
-use Rattle.tile.proofs.flat.load_signs.Tie as tie
+use Rattle.components.proofs.Copies.{takes-three}
+use Rattle.components.proofs.load_coefficients.Statement.{statement}
+use Rattle.components.proofs.load_coefficients.Tie as tie
 
 returns : tie.Need-returns
 returns c =
     let s = c .before .before .before .before .before .before .before .before .before in
     let a = s .args in
     takes-three (a .y .now) (a .cb .now) (a .cr .now) (a .into .now) (s .pre .3) (s .pre .0) (s .pre .1) (s .pre .2)
-    (c .before .before .before .before .before .before .before .copy-signs .ensures) (c .before .before .before .before .copy-signs2 .ensures) (c .before .copy-signs3 .ensures)
+    (c .before .before .before .before .before .before .before .copy-coefficients .ensures) (c .before .before .before .before .copy-coefficients2 .ensures) (c .before .copy-coefficients3 .ensures)
 
-pub load-signs-spec : {M : Type 1} → statement M
-load-signs-spec =
+pub load-coefficients-spec : {M : Type 1} → statement M
+load-coefficients-spec =
     tie.close
     (tie.spec
     (λ c. search needs)

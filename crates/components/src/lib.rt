@@ -5,11 +5,11 @@ ghost use mathlib.Core.Bool.{true};
 ghost use Prim.Native.Nat.{_≤_, _<_};
 ghost use lib.ListN.{length, take, drop};
 ghost use Rattle.bands.specs.Positions.{rowInDomain, rowsInDomain};
-ghost use Rattle.tile.specs.Tile.{three, joined, of, taken, passCoefficients, passSigns};
-ghost use Rattle.tile.specs.Flat.{coefficientsPast, signsPast};
+ghost use Rattle.components.specs.Components.{three, joined, of, taken, passCoefficients, passSigns};
+ghost use Rattle.components.specs.Inner.{coefficientsPast, signsPast};
 
 // Ten of thirty, from a place on.
-pub fn row_at(rows: [u8; 30], at: usize) -> [u8; 10]
+fn row_at(rows: [u8; 30], at: usize) -> [u8; 10]
     requires { ⌜ at ≤ 20 ⌝ }
     ensures { λ r. ⌜ r ≡ take 10 (drop at rows) ⌝ }
 {

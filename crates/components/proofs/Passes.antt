@@ -12,9 +12,9 @@ use Rattle.bands.specs.Positions.{inDomain, rowInDomain}
 use Rattle.bands.proofs.Every.{part-passes}
 use Rattle.upgrade_steps.specs.Steps.{Step, Source, skipped, srl, raw, source, steps, longEnough}
 use Rattle.progressive_decoder.specs.Upgrade.{signThen, signsAfter, coefficientThen, coefficientsAfter, upgradedCoefficients, upgradedSigns, passRefusal, unlessRefused}
-use Rattle.tile.specs.Tile.{component, rowOf, joined, of, stepsOf, passCoefficients, passSigns}
-use Rattle.tile.specs.Flat.{withComponent, coefficientsPast, signsPast}
-use Rattle.tile.proofs.Joined.{Long, upTo, component-joined, joined-components, parts-long, here, next}
+use Rattle.components.specs.Components.{component, rowOf, joined, of, stepsOf, passCoefficients, passSigns}
+use Rattle.components.specs.Inner.{withComponent, coefficientsPast, signsPast}
+use Rattle.components.proofs.Joined.{Long, upTo, component-joined, joined-components, parts-long, here, next}
 
 -- ════ lengths ════
 

@@ -7,8 +7,8 @@ use native.Mathlib.Omega.{arith}
 use borrow.Rule.Slice.PartMut.{putMid}
 use lib.ListN.{length, getD, set, take, drop, length-set, drop-of-length-le}
 use lib.Seq.{set-at, drop-cons, take-suc, append-snoc, length-take-le}
-use Rattle.tile.specs.Tile.{three, of, taken}
-use Rattle.tile.proofs.Joined.{Long, put-all}
+use Rattle.components.specs.Components.{three, of, taken}
+use Rattle.components.proofs.Joined.{Long, put-all}
 
 -- ════ by a loop ════
 

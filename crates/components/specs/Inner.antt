@@ -5,7 +5,7 @@ use Prim.Native.Nat.{ℕ, _*_}
 use lib.IntN.{ℤ}
 use lib.ListN.{take, drop}
 use Rattle.progressive_decoder.specs.Upgrade.{upgradedCoefficients, upgradedSigns}
-use Rattle.tile.specs.Tile.{component, stepsOf}
+use Rattle.components.specs.Components.{component, stepsOf}
 
 -- a list with another component k
 abbrev pub withComponent : {A : Type 0} → ℕ → List A → List A → List A

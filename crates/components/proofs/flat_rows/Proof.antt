@@ -4,9 +4,9 @@ use mathlib.Core.List.{List, [], _++_}
 use Prim.Native.Nat.{ℕ}
 use lib.ListN.{length, getD}
 use borrow.Author.Needs.{needs}
-use Rattle.tile.proofs.Rows.{listed-all, row-long}
-use Rattle.tile.proofs.flat.flat_rows.Statement.{statement}
-use Rattle.tile.proofs.flat.flat_rows.Tie as tie
+use Rattle.components.proofs.Rows.{listed-all, row-long}
+use Rattle.components.proofs.flat_rows.Statement.{statement}
+use Rattle.components.proofs.flat_rows.Tie as tie
 
 returns : tie.Need-returns
 returns c =

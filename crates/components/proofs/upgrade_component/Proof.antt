@@ -9,10 +9,10 @@ use Rattle.bands.specs.Positions.{rowInDomain}
 use Rattle.bands.proofs.Every.{at}
 use Rattle.upgrade_steps.specs.Steps.{Step}
 use Rattle.progressive_decoder.specs.Upgrade.{upgradedCoefficients, upgradedSigns}
-use Rattle.tile.specs.Flat.{coefficientsPast, signsPast}
-use Rattle.tile.proofs.Passes.{put}
-use Rattle.tile.proofs.flat.upgrade_component.Statement.{statement}
-use Rattle.tile.proofs.flat.upgrade_component.Tie as tie
+use Rattle.components.specs.Inner.{coefficientsPast, signsPast}
+use Rattle.components.proofs.Passes.{put}
+use Rattle.components.proofs.upgrade_component.Statement.{statement}
+use Rattle.components.proofs.upgrade_component.Tie as tie
 
 returns : tie.Need-returns
 unfolding coefficientsPast signsPast

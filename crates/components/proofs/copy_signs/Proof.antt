@@ -1,11 +1,11 @@
--- `tile::flat::copy_coefficients` meets its contract. Assumes nothing.
+-- `tile::flat::copy_signs` meets its contract. Assumes nothing.
 use Prim.Native.Nat.{_-_}
 use native.Mathlib.Omega.{arith}
 use lib.IntN.{pos}
 use borrow.Author.Needs.{needs}
-use Rattle.tile.proofs.Copies.{Copying, copy-starts, copy-next, copy-ends}
-use Rattle.tile.proofs.flat.copy_coefficients.Statement.{statement}
-use Rattle.tile.proofs.flat.copy_coefficients.Tie as tie
+use Rattle.components.proofs.Copies.{Copying, copy-starts, copy-next, copy-ends}
+use Rattle.components.proofs.copy_signs.Statement.{statement}
+use Rattle.components.proofs.copy_signs.Tie as tie
 
 abbrev Inv-loop : tie.InvT-loop
 Inv-loop from into₀ i₀ into i = Copying from into₀ into i
@@ -27,15 +27,13 @@ returns c =
     let s = c .before .before in
     copy-ends (s .args .from .now) (s .args .into .now) (s .pre .0) (s .pre .1) (c .before .loop .into) (c .before .loop .i) (c .before .loop .inv) (omega arith)
 
-pub copy-coefficients-spec : {M : Type 1} → statement M
-copy-coefficients-spec =
+pub copy-signs-spec : {M : Type 1} → statement M
+copy-signs-spec =
     tie.close
     (tie.spec
     Inv-loop
     μ-loop
     loop-holds
-    (λ c. search needs)
-    (λ c. search needs)
     (λ c. search needs)
     (λ c. search needs)
     (λ c. search needs)

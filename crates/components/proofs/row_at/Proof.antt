@@ -1,8 +1,8 @@
 -- `tile::flat::row_at` meets its contract. Assumes nothing.
 use borrow.Author.Needs.{needs}
-use Rattle.tile.proofs.Rows.{listed-from}
-use Rattle.tile.proofs.flat.row_at.Statement.{statement}
-use Rattle.tile.proofs.flat.row_at.Tie as tie
+use Rattle.components.proofs.Rows.{listed-from}
+use Rattle.components.proofs.row_at.Statement.{statement}
+use Rattle.components.proofs.row_at.Tie as tie
 
 returns : tie.Need-returns
 returns c = listed-from (c .args .t1) (c .args .at) 9 (search needs)

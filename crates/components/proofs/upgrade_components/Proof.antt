@@ -1,9 +1,9 @@
 -- `tile::flat::upgrade_components` meets its contract. Assumes nothing.
 use borrow.Author.Needs.{needs}
-use Rattle.tile.specs.Tile.{three}
-use Rattle.tile.proofs.Passes.{passed}
-use Rattle.tile.proofs.flat.upgrade_components.Statement.{statement}
-use Rattle.tile.proofs.flat.upgrade_components.Tie as tie
+use Rattle.components.specs.Components.{three}
+use Rattle.components.proofs.Passes.{passed}
+use Rattle.components.proofs.upgrade_components.Statement.{statement}
+use Rattle.components.proofs.upgrade_components.Tie as tie
 
 returns : tie.Need-returns
 returns c =

@@ -10,7 +10,7 @@ use borrow.Rule.Slice.PartMut.{putMid}
 use lib.Dec.{ltb}
 use lib.ListN.{length, take, drop, length-append, length-drop, take-append-drop, drop-of-length-le}
 use lib.Seq.{take-at, drop-at, drop-drop, take-all, take-add, length-take-le}
-use Rattle.tile.specs.Tile.{component, rowOf, joined}
+use Rattle.components.specs.Components.{component, rowOf, joined}
 
 -- each of the three has n elements
 abbrev pub Long : {A : Type 0} → ℕ → (ℕ → List A) → Type 0

@@ -1,0 +1,5 @@
+-- Laws of three components in flat arrays, for the proofs here and in the crates above.
+pub mod Copies
+pub mod Joined
+pub mod Passes
+pub mod Rows

@@ -1,0 +1,3 @@
+-- What the contracts of `components` cite.
+pub mod Components
+pub mod Inner
