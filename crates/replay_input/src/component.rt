@@ -1,6 +1,7 @@
 // The components of kinds 36 to 40: what a seed and a case's shape give. oracle/README.md has the rule.
 use crate::digests;
 use crate::number;
+use upgrade_steps::span;
 ghost use Prim.Native.Nat.{_≤_};
 ghost use lib.ListN.{length};
 
@@ -120,9 +121,18 @@ pub fn fill_rows(
     let mut word = seed;
     let mut b: usize = 0;
     while b < 10 {
-        let from = bands::band(extrapolate, b).offset;
-        let to = from + bands::band_count(extrapolate, b);
-        word = fill_band(c, from, to, prev[b], curr[b], word, targets, befores, signs);
+        let at = span::band_span(extrapolate, b);
+        word = fill_band(
+            c,
+            at.from,
+            at.to,
+            prev[b],
+            curr[b],
+            word,
+            targets,
+            befores,
+            signs,
+        );
         b += 1;
     }
     fill_band(c, 4096, 4352, 0, 0, word, targets, befores, signs);
