@@ -122,6 +122,3 @@ row-joined = part-joined 10
 
 pub joined-components : {A : Type 0} (l : List A) → length l ≡ 12288 → joined (λ k. component k l) ≡ l
 joined-components = joined-parts 4096
-
-pub joined-rows : (l : List ℕ) → length l ≡ 30 → joined (λ k. rowOf k l) ≡ l
-joined-rows = joined-parts 10

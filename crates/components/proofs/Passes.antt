@@ -14,7 +14,7 @@ use Rattle.upgrade_steps.specs.Steps.{Step, Source, skipped, srl, raw, source, 
 use Rattle.progressive_decoder.specs.Upgrade.{signThen, signsAfter, coefficientThen, coefficientsAfter, upgradedCoefficients, upgradedSigns, passRefusal, unlessRefused}
 use Rattle.components.specs.Components.{component, rowOf, joined, of, stepsOf, passCoefficients, passSigns}
 use Rattle.components.specs.Inner.{withComponent, coefficientsPast, signsPast}
-use Rattle.components.proofs.Joined.{Long, upTo, component-joined, joined-components, parts-long, here, next}
+use Rattle.components.proofs.Joined.{Long, upTo, joined-components, parts-long, here, next}
 
 -- ════ lengths ════
 
@@ -107,12 +107,3 @@ module _ (e : Bool) (positions : List ℕ) (rows srlData rawData : List (List �
   passed y cb cr =
       let none : Reached 0 cs ss = (sym (joined-components cs longC), sym (joined-components ss longS)) in
       one-more 2 (omega arith) (one-more 1 (omega arith) (one-more 0 (omega arith) none y) cb) cr
-
-  -- a component of the tile after a pass is the component upgraded
-  pub pass-coefficients : (k : ℕ) → k < 3 → component k (passCoefficients e positions rows srlData rawData cs ss) ≡ coefficientsOf k
-  unfolding passCoefficients
-  pass-coefficients = component-joined coefficientsOf long-coefficients
-
-  pub pass-signs : (k : ℕ) → k < 3 → component k (passSigns e positions rows srlData ss) ≡ signsOf k
-  unfolding passSigns
-  pass-signs = component-joined signsOf long-signs

@@ -1,7 +1,7 @@
 -- The arithmetic of one level: a number that grows by multiples of 2^q, from a multiple of 2^p.
 use mathlib.Core.Path.{_≡_, refl, sym, ap, _∙_}
 use Prim.Native.Nat.{ℕ, zero, suc, _+_, _-_, _*_, _/_, _%_, _^_, _≤_, _<_}
-use native.Mathlib.Nat.{mul-assoc, add-mul, mul-le-mul-right, mul-lt-mul-of-pos-right, lt-of-mul-lt-mul-right, le-of-mul-le-mul-right, div-add-mod', mod-lt, le-div-iff-mul-le, sub-add-cancel}
+use native.Mathlib.Nat.{mul-assoc, add-mul, mul-le-mul-right, mul-lt-mul-of-pos-right, lt-of-mul-lt-mul-right, le-of-mul-le-mul-right, div-add-mod', mod-lt, sub-add-cancel}
 use native.Mathlib.Omega.{arith}
 use lib.Pow.{pow-pos, pow-add}
 use Rattle.reach.specs.Place.{Multiple}
@@ -12,9 +12,6 @@ pow-split {p} {q} h = ap (λ (n : ℕ). 2 ^ n) (sym (sub-add-cancel h)) ∙ pow-
 pub multiple-down : {p q : ℕ} (n : ℕ) → q ≤ p → Multiple (2 ^ p) n → Multiple (2 ^ q) n
 multiple-down {p} {q} n h m =
     record { times = m .times * 2 ^ (p - q); is = m .is ∙ ap (λ (x : ℕ). m .times * x) (pow-split h) ∙ sym (mul-assoc (m .times) (2 ^ (p - q)) (2 ^ q)) }
-
-pub multiple-zero : (m : ℕ) → Multiple m 0
-multiple-zero m = record { times = 0; is = omega arith }
 
 pub multiple-times : (m r : ℕ) → Multiple m (r * m)
 multiple-times m r = record { times = r; is = refl }
@@ -54,8 +51,3 @@ cut-multiple q n = record { times = n / 2 ^ q; is = refl }
 pub cut-rest : (q n : ℕ) → (d : ℕ) × (n ≡ cut q n + d) × (d < 2 ^ q)
 unfolding cut
 cut-rest q n = (n % 2 ^ q, sym (div-add-mod' n (2 ^ q)), mod-lt n (pow-pos q))
-
--- a multiple below n is at most the cut
-pub cut-above : (q n : ℕ) {a : ℕ} → Multiple (2 ^ q) a → a ≤ n → a ≤ cut q n
-unfolding cut
-cut-above q n {a} m h = omega (arith, m .is, mul-le-mul-right (2 ^ q) (le-div-iff-mul-le (pow-pos q) .1 (rw (m .is) at h)))

@@ -213,9 +213,6 @@ gain-refl true p {x} h = record { fits = h; kept = refl; added = 0; more = sym (
 gain-refl false p h = record { fits = h; kept = λ f. refl; added = 0; more = omega arith; less = pow-pos p }
 
 module _ {b : Bool} {p q : ℕ} {x y : Place} (r : Rise b p q x y) where
-  rise-gain : Gains b p q x y
-  rise-gain = rw (r .kind, r .from, r .to) (level-gain (r .family) p q (r .base) (r .up) (r .lower) (r .less) (r .below) (r .last))
-
   up-multiple : q ≤ p → Multiple (2 ^ q) (r .up)
   up-multiple h = multiple-diff (r .up) (pow-pos q) (multiple-down (r .base) h (r .start)) (r .last) refl
 
