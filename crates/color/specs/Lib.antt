@@ -1,0 +1,2 @@
+-- What the contracts of `color` cite.
+pub mod Color

@@ -1,0 +1,38 @@
+-- The inverse wavelet of a component (docs/SCOPE.md, "Inverse wavelet").
+use mathlib.Core.Bool.{cond, _&&_}
+use mathlib.Core.List.{List}
+use Prim.Native.Nat.{ℕ}
+use lib.IntN.{ℤ}
+use Rattle.answer.specs.declared.Answer.{Answer}
+use Rattle.answer.specs.Refusals.{answered, unlessRefused, longEnough}
+use Rattle.dwt_extrapolate.specs.Block.{scratch, blockAt}
+
+-- "three blocks of low/high samples, 9/8, 17/16 and 33/31, at offsets 3807, 3007 and 0": the first two
+unfoldable pub inner : List ℤ → List ℤ
+inner b = blockAt 3007 17 16 (blockAt 3807 9 8 b)
+
+-- all three; what stands past 4,096 stays
+unfoldable pub inverse : List ℤ → List ℤ
+inverse b = blockAt 0 33 31 (inner b)
+
+-- "the scratch ends as the last block's rows"; what stands past them stays
+unfoldable pub scratched : List ℤ → List ℤ → List ℤ
+scratched b t = scratch 33 31 (inner b) t
+
+-- ════ what `decode` answers, and what it leaves in the two slices ════
+
+-- 1: "a coefficient .. slice or the wavelet's scratch under 4,096 elements"; 0 is none
+abbrev pub inverseRefusal : List ℤ → List ℤ → ℕ
+inverseRefusal b t = cond (longEnough b && longEnough t) 0 1
+
+-- the answer
+abbrev pub inverseAnswer : List ℤ → List ℤ → Answer
+inverseAnswer b t = answered (inverseRefusal b t)
+
+-- the buffer then
+abbrev pub inverseBuffer : List ℤ → List ℤ → List ℤ
+inverseBuffer b t = unlessRefused (inverseRefusal b t) (inverse b) b
+
+-- the scratch then
+abbrev pub inverseScratch : List ℤ → List ℤ → List ℤ
+inverseScratch b t = unlessRefused (inverseRefusal b t) (scratched b t) t

@@ -1,0 +1,2 @@
+-- What the contracts of `dwt_lines` cite.
+pub mod Line
