@@ -3,19 +3,10 @@
 
 ghost use mathlib.Core.Path.{_≡_};
 ghost use mathlib.Core.List.{_∷_, []};
-ghost use Rattle.progressive_decoder.specs.Upgrade.{numberOf, decodeAnswer, decodeCoefficients, decodeSigns};
+ghost use Rattle.progressive_decoder.specs.Upgrade.{decodeAnswer, decodeCoefficients, decodeSigns};
+ghost use Rattle.answer.specs.Refusals.{numberOf};
 ghost use Rattle.progressive_encoder.specs.Encode.{writtenNumber, srlCount, rawCount, encodeAnswer, encodeSrlOut, encodeRawOut};
-ghost use Rattle.progressive.specs.Dequantize.{dequantizeAnswer, dequantizeOut};
-
-// The number of an answer.
-fn number_of(answer: progressive::Answer) -> u8
-    ensures { λ r. ⌜ r ≡ numberOf answer ⌝ }
-{
-    match answer {
-        progressive::Answer::Accepted => 0,
-        progressive::Answer::Refused(k) => k,
-    }
-}
+ghost use Rattle.dequantizer.specs.Dequantize.{dequantizeAnswer, dequantizeOut};
 
 // Reads a pass: the coefficients of each band go from its position in `prev` to that in `curr`.
 #[no_mangle]
@@ -32,7 +23,7 @@ pub extern "C" fn tarjimp_decode_upgrade_pass(
 {
     let p = *prev;
     let q = *curr;
-    number_of(progressive::decode_upgrade_pass(
+    answer::number_of(progressive::decode_upgrade_pass(
         srl_data,
         raw_data,
         p,
@@ -53,7 +44,11 @@ pub extern "C" fn tarjimp_dequantize_component(
     ensures { λ r. ⌜ (r ≡ numberOf (dequantizeAnswer (now (quant .entry)) (now (coefficients .entry)))) × (now (coefficients .exit) ≡ dequantizeOut «use_reduce_extrapolate» (now (quant .entry)) (now (coefficients .entry))) ⌝ }
 {
     let q = *quant;
-    number_of(progressive::dequantize_component_ccq(coefficients, q, use_reduce_extrapolate))
+    answer::number_of(progressive::dequantize_component_ccq(
+        coefficients,
+        q,
+        use_reduce_extrapolate,
+    ))
 }
 
 // The number of what a writer answers.

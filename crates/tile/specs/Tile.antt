@@ -5,9 +5,9 @@ use Prim.Native.Nat.{ℕ, _+_, min}
 use lib.IntN.{ℤ, pos}
 use lib.ListN.{replicate}
 use Rattle.bands.specs.Positions.{every, rowInDomain, rowsInDomain}
-use Rattle.upgrade_steps.specs.Steps.{longEnough}
-use Rattle.progressive_decoder.specs.Upgrade.{answered, unlessRefused}
-use Rattle.components.specs.Components.{joined, of, taken, passCoefficients, passSigns}
+use Rattle.answer.specs.Refusals.{answered, unlessRefused, longEnough}
+use Rattle.components.specs.Components.{passCoefficients, passSigns}
+use Rattle.planes.specs.Planes.{joined, of, taken}
 use Rattle.tile.specs.declared.TileState.{TileState}
 use Rattle.tile.specs.declared.Loaded.{Loaded}
 use Rattle.tile.specs.declared.Upgraded.{Upgraded}
