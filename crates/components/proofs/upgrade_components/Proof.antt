@@ -1,4 +1,4 @@
--- `tile::flat::upgrade_components` meets its contract. Assumes nothing.
+-- `components::upgrade_components` meets its contract. Assumes nothing.
 use borrow.Author.Needs.{needs}
 use Rattle.planes.specs.Planes.{three}
 use Rattle.components.proofs.Passes.{passed}

@@ -1,4 +1,4 @@
--- `progressive::dequantize::dequantize_band` meets its contract: after i turns the first i are dequantized. Assumes nothing.
+-- `dequantizer::dequantize_band` meets its contract: after i turns the first i are dequantized. Assumes nothing.
 use mathlib.Core.Path.{_≡_, refl, sym, ap, _∙_}
 use Prim.Native.Nat.{_-_, _≤_}
 use native.Mathlib.Omega.{arith}

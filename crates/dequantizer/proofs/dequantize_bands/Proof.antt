@@ -1,4 +1,4 @@
--- `progressive::dequantize::dequantize_bands` meets its contract: after b turns the places of the first b bands are dequantized. Assumes nothing.
+-- `dequantizer::dequantize_bands` meets its contract: after b turns the places of the first b bands are dequantized. Assumes nothing.
 use mathlib.Core.Path.{_≡_, refl, sym, ap, _∙_}
 use Prim.Native.Nat.{_-_, _≤_}
 use native.Mathlib.Omega.{arith}

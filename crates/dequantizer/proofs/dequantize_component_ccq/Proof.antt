@@ -1,4 +1,4 @@
--- `progressive::dequantize_component_ccq` meets its contract. Assumes nothing.
+-- `dequantizer::dequantize_component_ccq` meets its contract. Assumes nothing.
 use mathlib.Core.Path.{_≡_, sym, _∙_}
 use mathlib.Core.Bool.{true, false}
 use native.Mathlib.Omega.{arith}

@@ -1,4 +1,4 @@
--- `progressive::dequantize::dequantize_value` meets its contract. Assumes nothing.
+-- `dequantizer::dequantize_value` meets its contract. Assumes nothing.
 use mathlib.Core.Path.{sym, ap, _∙_}
 use Prim.Native.Nat.{_-_}
 use native.Mathlib.Omega.{arith}

@@ -1,4 +1,4 @@
--- `tile::flat::copy_signs` meets its contract. Assumes nothing.
+-- `planes::copy_signs` meets its contract. Assumes nothing.
 use Prim.Native.Nat.{_-_}
 use native.Mathlib.Omega.{arith}
 use lib.IntN.{pos}

@@ -1,4 +1,4 @@
--- `tile::flat::flat_rows` meets its contract. Assumes nothing.
+-- `planes::flat_rows` meets its contract. Assumes nothing.
 use mathlib.Core.Path.{_≡_, ap₂}
 use mathlib.Core.List.{List, [], _++_}
 use Prim.Native.Nat.{ℕ}

@@ -1,4 +1,4 @@
--- `tile::flat::load_coefficients` meets its contract. Assumes nothing.
+-- `planes::load_coefficients` meets its contract. Assumes nothing.
 use borrow.Author.Needs.{needs}
 use Rattle.planes.proofs.Copies.{takes-three}
 use Rattle.planes.proofs.load_coefficients.Statement.{statement}

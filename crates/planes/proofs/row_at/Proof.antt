@@ -1,4 +1,4 @@
--- `tile::flat::row_at` meets its contract. Assumes nothing.
+-- `planes::row_at` meets its contract. Assumes nothing.
 use borrow.Author.Needs.{needs}
 use Rattle.planes.proofs.Rows.{listed-from}
 use Rattle.planes.proofs.row_at.Statement.{statement}
