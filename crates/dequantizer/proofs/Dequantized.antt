@@ -1,8 +1,8 @@
--- Coefficients dequantized one after another: one more, a part more, and band by band.
+-- Coefficients dequantized one after another: one more, a part more, band by band, and how many there are.
 use mathlib.Core.Path.{_≡_, refl, sym, ap, _∙_}
 use mathlib.Core.Bool.{Bool}
 use mathlib.Core.List.{List, [], _∷_, _++_}
-use Prim.Native.Nat.{ℕ, _+_, _-_, _≤_, _<_}
+use Prim.Native.Nat.{ℕ, suc, _+_, _-_, _≤_, _<_}
 use native.Mathlib.Omega.{arith}
 use borrow.Rule.Slice.PartMut.{putMid, midOf}
 use lib.IntN.{ℤ, pos}
@@ -53,3 +53,10 @@ all-band e f b from to cs done part p h before now =
     ∙ all-part (perPlaceTo e f b) (replicate (to - from) (f b)) cs (omega (arith, o, n, p .begins, p .ends, band-within e b))
     ∙ (λ j. putMid (o j) (n j) (before j) (dequantizedAll (replicate (to - from) (f b)) (midOf (o j) (n j) (before j))))
     ∙ ap (putMid from (to - from) done) (sym now)
+
+-- as many as before
+pub all-length : (qs : List ℕ) (cs : List ℤ) → length (dequantizedAll qs cs) ≡ length cs
+unfolding dequantizedAll
+all-length [] cs = refl
+all-length (q ∷ qs) [] = refl
+all-length (q ∷ qs) (c ∷ cs) = ap suc (all-length qs cs)

@@ -1,4 +1,4 @@
-// A tile of three components, by value: made fresh, loaded, and upgraded pass by pass. A port of progressive.rs's `TileState`.
+// A tile of three components, by value: made fresh, loaded, upgraded pass by pass, and its pixels. A port of progressive.rs's `TileState`.
 // A refusal has a number (docs/SCOPE.md, "Refusals") and gives back the tile handed in.
 
 ghost use mathlib.Core.Path.{_≡_};
@@ -8,7 +8,7 @@ ghost use lib.Dec.{leb};
 ghost use lib.ListN.{length};
 ghost use Rattle.bands.specs.Positions.{every, rowInDomain, rowsInDomain};
 ghost use Rattle.planes.specs.Planes.{three};
-ghost use Rattle.tile.specs.Tile.{fresh, loaded, loadedBy, load, nextPass, upgraded, decodeUpgrade};
+ghost use Rattle.tile.specs.Tile.{fresh, loaded, loadedBy, load, nextPass, upgraded, decodeUpgrade, reconstructAnswer, reconstructPixels};
 
 // A tile: 64 x 64 pixels, with what has arrived of them. Arrays are flat: three components (Y, Cb, Cr) of 4,096, three rows of ten.
 #[repr(C)]
@@ -272,5 +272,21 @@ impl TileState {
             answer: answer::Answer::Accepted,
             tile: next,
         }
+    }
+
+    // The tile's pixels, row by row, four bytes each: red, green, blue and 255.
+    pub fn reconstruct_to_rgba(self, pixels: &mut [u8]) -> answer::Answer
+        ensures { λ r. ⌜ (r ≡ reconstructAnswer self (now (pixels .entry))) × (now (pixels .exit) ≡ reconstructPixels self (now (pixels .entry))) ⌝ }
+    {
+        let coefficients = self.coefficients;
+        let positions = self.prog_quant;
+        let quants = self.base_quant;
+        pixels::reconstruct_to_rgba(
+            coefficients,
+            positions,
+            quants,
+            self.use_reduce_extrapolate,
+            pixels,
+        )
     }
 }
