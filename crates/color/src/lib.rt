@@ -5,8 +5,9 @@ ghost use Prim.Native.Nat.{_*_, _≤_};
 ghost use lib.ListN.{length, drop};
 ghost use Rattle.color.specs.Color.{red, green, blue, rgb, picture};
 
-// No product leaves 32 bits, so that a loop over pixels is done several at a time: 91881 is 65536 + 26345, 46802 is 65536 - 18734 and
-// 116130 is 2 * 65536 - 14942, and a multiple of 65536 comes out of the shift whole.
+// No product leaves 32 bits and each factor fits sixteen, so that a loop over pixels is done several at a time. 91881 is 65536 + 26345, and a
+// multiple of 65536 comes out of a shift by 16 whole. 22554, 46802, 116130 and the 32768 that is added are even, so that their halves and a shift
+// by 15 do as well; and half of 116130 is 32768 + 25297.
 
 // Red.
 pub fn red(y: i16, cr: i16) -> u8
@@ -20,8 +21,7 @@ pub fn green(y: i16, cb: i16, cr: i16) -> u8
     ensures { λ r. ⌜ r ≡ green y cb cr ⌝ }
 {
     fixed::clamp_u8(
-        (y as i32 + 128
-            - (cr as i32 + ((cb as i32 * 22554 - cr as i32 * 18734 + 32768) >> 16))) as i64,
+        (y as i32 + 128 - ((cb as i32 * 11277 + 16384 + cr as i32 * 23401) >> 15)) as i64,
     )
 }
 
@@ -29,9 +29,7 @@ pub fn green(y: i16, cb: i16, cr: i16) -> u8
 pub fn blue(y: i16, cb: i16) -> u8
     ensures { λ r. ⌜ r ≡ blue y cb ⌝ }
 {
-    fixed::clamp_u8(
-        (y as i32 + 128 + (2 * (cb as i32) + ((32768 - cb as i32 * 14942) >> 16))) as i64,
-    )
+    fixed::clamp_u8((y as i32 + 128 + (cb as i32 + ((cb as i32 * 25297 + 16384) >> 15))) as i64)
 }
 
 // A pixel's three bytes.

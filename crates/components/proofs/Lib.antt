@@ -1,5 +1,2 @@
--- Laws of three components in flat arrays, for the proofs here and in the crates above.
-pub mod Copies
-pub mod Joined
+-- Laws of a pass over three components, for the proofs here and in the crates above.
 pub mod Passes
-pub mod Rows

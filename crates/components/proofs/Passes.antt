@@ -10,11 +10,13 @@ use lib.IntN.{ℤ}
 use lib.ListN.{length}
 use Rattle.bands.specs.Positions.{inDomain, rowInDomain}
 use Rattle.bands.proofs.Every.{part-passes}
-use Rattle.upgrade_steps.specs.Steps.{Step, Source, skipped, srl, raw, source, steps, longEnough}
-use Rattle.progressive_decoder.specs.Upgrade.{signThen, signsAfter, coefficientThen, coefficientsAfter, upgradedCoefficients, upgradedSigns, passRefusal, unlessRefused}
-use Rattle.components.specs.Components.{component, rowOf, joined, of, stepsOf, passCoefficients, passSigns}
-use Rattle.components.specs.Inner.{withComponent, coefficientsPast, signsPast}
-use Rattle.components.proofs.Joined.{Long, upTo, joined-components, parts-long, here, next}
+use Rattle.upgrade_steps.specs.Steps.{Step, Source, skipped, srl, raw, source, steps}
+use Rattle.progressive_decoder.specs.Upgrade.{signThen, signsAfter, coefficientThen, coefficientsAfter, upgradedCoefficients, upgradedSigns, passRefusal}
+use Rattle.answer.specs.Refusals.{unlessRefused, longEnough}
+use Rattle.components.specs.Components.{stepsOf, passCoefficients, passSigns}
+use Rattle.planes.specs.Planes.{component, rowOf, joined, of, withComponent}
+use Rattle.components.specs.Inner.{coefficientsPast, signsPast}
+use Rattle.planes.proofs.Joined.{Long, upTo, joined-components, parts-long, here, next}
 
 -- ════ lengths ════
 

@@ -1,15 +1,11 @@
--- What the inner functions of `tile` do on flat arrays: one component after another.
+-- What an inner function of `components` does on flat arrays: one component after another.
 use mathlib.Core.Bool.{Bool}
-use mathlib.Core.List.{List, _++_}
-use Prim.Native.Nat.{ℕ, _*_}
+use mathlib.Core.List.{List}
+use Prim.Native.Nat.{ℕ}
 use lib.IntN.{ℤ}
-use lib.ListN.{take, drop}
 use Rattle.progressive_decoder.specs.Upgrade.{upgradedCoefficients, upgradedSigns}
-use Rattle.components.specs.Components.{component, stepsOf}
-
--- a list with another component k
-abbrev pub withComponent : {A : Type 0} → ℕ → List A → List A → List A
-withComponent k y l = take (k * 4096) l ++ (y ++ drop 4096 (drop (k * 4096) l))
+use Rattle.planes.specs.Planes.{component, withComponent}
+use Rattle.components.specs.Components.{stepsOf}
 
 -- the coefficients after a pass over component k alone, with its two streams
 unfoldable pub coefficientsPast : ℕ → Bool → List ℕ → List (List ℕ) → List ℕ → List ℕ → List ℤ → List ℤ → List ℤ

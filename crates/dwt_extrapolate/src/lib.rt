@@ -4,7 +4,7 @@ ghost use mathlib.Core.Path.{_≡_};
 ghost use mathlib.Core.List.{_++_, zipWith, flatten};
 ghost use Prim.Native.Nat.{_+_, _*_, _-_, _≤_};
 ghost use lib.ListN.{length, take, drop};
-ghost use Rattle.dwt_lines.specs.Line.{edge, line, Halves};
+ghost use Rattle.dwt_lines.specs.Line.{edge, Halves};
 ghost use Rattle.dwt_extrapolate.specs.Block.{rows, lines, scratch, block};
 ghost use Rattle.dwt_extrapolate.specs.Transform.{inverseAnswer, inverseBuffer, inverseScratch};
 ghost use Rattle.dwt_extrapolate.specs.Inner.{fromRows, lineRows, pairRows, lastRows, tailRows, put};

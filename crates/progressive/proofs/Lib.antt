@@ -1,4 +1,3 @@
--- Laws of the pass, both ways, and of dequantizing, for the proofs here and in the crates above.
-pub mod Dequantized
+-- Laws of the pass, both ways, for the proofs here and in the crates above.
 pub mod Regained
 pub mod Samples

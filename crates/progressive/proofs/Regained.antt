@@ -27,7 +27,8 @@ use Rattle.srl.specs.Laws.{Legal, legal}
 use Rattle.srl.proofs.Back.{value-legal}
 use Rattle.srl_encoder.proofs.EncodedValues.{first-none}
 use Rattle.srl.proofs.Trip.{stream-values}
-use Rattle.upgrade_steps.specs.Steps.{Step, Source, skipped, srl, raw, source, sourceOf, steps, stepOf, srlWidths, rawWidths, longEnough}
+use Rattle.upgrade_steps.specs.Steps.{Step, Source, skipped, srl, raw, source, sourceOf, steps, stepOf, srlWidths, rawWidths}
+use Rattle.answer.specs.Refusals.{longEnough}
 use Rattle.progressive_decoder.specs.Upgrade.{srlCoefficient, srlSign, adds, rawCoefficient, signThen, signsAfter, coefficientThen, coefficientsAfter, srlValues, rawNumbers, decodeCoefficients, decodeSigns}
 use Rattle.progressive_encoder.specs.Encode.{srlDifference, rawDifference, srlGiven, srlDifferences, rawGiven, rawDifferences, srlStream, srlBytes, rawBytes, valuesFault, passFault, noRoomFor, encodeRefusal}
 use Rattle.progressive_encoder.proofs.Placewise.{same-length}

@@ -11,7 +11,7 @@ use Rattle.srl_encoder.specs.Finish.{streamBits}
 use Rattle.upgrade_steps.specs.Steps.{Step, srlWidths, rawWidths}
 use Rattle.progressive_decoder.specs.Upgrade.{signsAfter, coefficientsAfter, upgradedCoefficients, upgradedSigns}
 use Rattle.progressive_encoder.specs.Encode.{srlDifferences, rawDifferences, valuesFault, passFault, srlBytes, rawBytes}
-use Rattle.progressive.specs.Dequantize.{dequantizedAll}
+use Rattle.dequantizer.specs.Dequantize.{dequantizedAll}
 use Rattle.progressive.specs.Laws.{cuts}
 
 -- positions 3 to 1

@@ -1,3 +1,2 @@
 -- What the contracts of `progressive` cite.
-pub mod Dequantize
 pub mod Laws

@@ -8,9 +8,9 @@ use Rattle.fixed.specs.Fixed.{addScaled, subScaled, isOne}
 use Rattle.bands.specs.Positions.{rowInDomain}
 use Rattle.bits.specs.Bits.{numbers}
 use Rattle.srl_decoder.specs.Srl.{start, values}
-use Rattle.upgrade_steps.specs.Steps.{Step, Source, skipped, srl, raw, source, steps, srlWidths, rawWidths, longEnough}
-use Rattle.progressive_decoder.specs.declared.Answer.{Answer}
-use Rattle.progressive_decoder.specs.declared.Answer.the-variants.{Accepted, Refused}
+use Rattle.upgrade_steps.specs.Steps.{Step, Source, skipped, srl, raw, source, steps, srlWidths, rawWidths}
+use Rattle.answer.specs.Refusals.{answered, unlessRefused, longEnough}
+use Rattle.answer.specs.declared.Answer.{Answer}
 
 -- ════ what a value does at its place ════
 
@@ -90,21 +90,6 @@ upgradedCoefficients ts srlData rawData cs ss =
 abbrev pub passRefusal : List ℕ → List ℕ → List ℤ → List ℤ → ℕ
 passRefusal prev curr cs ss =
     cond (longEnough cs && longEnough ss) (cond (rowInDomain prev && rowInDomain curr) 0 2) 1
-
--- the answer by the refusal
-abbrev pub answered : ℕ → Answer
-answered zero = Accepted
-answered (suc k) = Refused (suc k)
-
--- what a lent slice holds then, or a tile: "a refusal gives .. the state handed in, and alters no lent element"
-abbrev pub unlessRefused : {A : Type 0} → ℕ → A → A → A
-unlessRefused zero new old = new
-unlessRefused (suc k) new old = old
-
--- the number of each case
-abbrev pub numberOf : Answer → ℕ
-numberOf Accepted = 0
-numberOf (Refused k) = k
 
 -- ════ what `decode_upgrade_pass` answers, and what it leaves in the two slices ════
 

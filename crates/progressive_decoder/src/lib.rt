@@ -7,11 +7,7 @@ ghost use Rattle.progressive_decoder.specs.Upgrade.{decodeAnswer, decode
 
 mod upgrade;
 
-// What a call that works in place answers.
-pub enum Answer {
-    Accepted,
-    Refused(u8),
-}
+pub use answer::Answer;
 
 // Reads a pass: the coefficients of each band go from its position in `prev` to that in `curr`.
 pub fn decode_upgrade_pass(

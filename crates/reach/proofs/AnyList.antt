@@ -5,9 +5,9 @@ use mathlib.Core.List.{List, [], _∷_}
 use Prim.Native.Nat.{ℕ, zero, suc}
 use native.Mathlib.Omega.{arith}
 use Rattle.bands.specs.Positions.{rowInDomain, rowsInDomain}
-use Rattle.progressive_decoder.specs.Upgrade.{answered, unlessRefused}
-use Rattle.progressive_decoder.specs.declared.Answer.{Answer}
-use Rattle.components.specs.Components.{component, rowOf, joined, of, three}
+use Rattle.answer.specs.Refusals.{answered, unlessRefused}
+use Rattle.answer.specs.declared.Answer.{Answer}
+use Rattle.planes.specs.Planes.{component, rowOf, joined, of, three}
 use Rattle.tile.specs.Tile.{upgraded, upgradeRefusal}
 use Rattle.tile.specs.declared.TileState.{TileState}
 use Rattle.reach.specs.Component.{bandsOf, ComponentGains}

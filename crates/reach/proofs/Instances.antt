@@ -12,10 +12,10 @@ use Rattle.bands.specs.Bands.{perPlace}
 use Rattle.bands.specs.Positions.{every, rowsInDomain}
 use Rattle.bands.proofs.Every.{both-true}
 use Rattle.bands.proofs.Spread.{place-whole, place-map, one-of-ten}
-use Rattle.upgrade_steps.specs.Steps.{longEnough}
-use Rattle.components.specs.Components.{component, joined, three, of, taken}
+use Rattle.answer.specs.Refusals.{longEnough}
+use Rattle.planes.specs.Planes.{component, joined, three, of, taken}
 use Rattle.tile.specs.Tile.{fresh, loaded, loadRefusal}
-use Rattle.components.proofs.Joined.{Long, joined-long, component-joined, row-joined}
+use Rattle.planes.proofs.Joined.{Long, joined-long, component-joined, row-joined}
 use Rattle.reach.specs.Place.{Multiple, Fits, Gains}
 use Rattle.reach.specs.Component.{bandsOf, isBottom, positionOf, ComponentFits, ComponentGains}
 use Rattle.reach.specs.Reach.{TileFits, ThreeRows, AllRows, Lower, NoRaise, lastRows, TileGains}

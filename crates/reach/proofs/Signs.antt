@@ -11,11 +11,13 @@ use Rattle.fixed.proofs.Sign.{zero-is}
 use Rattle.fixed.specs.Fixed.{isZero, signOf}
 use Rattle.bands.proofs.Spread.{place-whole}
 use Rattle.upgrade_steps.specs.Steps.{Step, Source, skipped, srl, raw, source, sourceOf}
-use Rattle.progressive_decoder.specs.Upgrade.{signThen, signsAfter, srlValues, upgradedSigns, unlessRefused}
-use Rattle.components.specs.Components.{component, of, stepsOf, passSigns}
+use Rattle.progressive_decoder.specs.Upgrade.{signThen, signsAfter, srlValues, upgradedSigns}
+use Rattle.answer.specs.Refusals.{unlessRefused}
+use Rattle.components.specs.Components.{stepsOf, passSigns}
+use Rattle.planes.specs.Planes.{component, of}
 use Rattle.tile.specs.Tile.{upgraded, upgradeRefusal}
 use Rattle.tile.specs.declared.TileState.{TileState}
-use Rattle.components.proofs.Joined.{Long, joined-long, parts-long, component-joined}
+use Rattle.planes.proofs.Joined.{Long, joined-long, parts-long, component-joined}
 use Rattle.components.proofs.Passes.{signs-long}
 use Rattle.reach.specs.Place.{Place, Fits, Gains}
 use Rattle.reach.specs.Component.{bandsOf, isBottom}

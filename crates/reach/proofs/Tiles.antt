@@ -14,10 +14,11 @@ use Rattle.bands.proofs.Every.{at, append-passes}
 use Rattle.bands.proofs.Spread.{place-whole, place-map}
 use Rattle.upgrade_steps.specs.Steps.{Step, stepOf, steps}
 use Rattle.progressive_decoder.specs.Upgrade.{upgradedCoefficients, upgradedSigns}
-use Rattle.components.specs.Components.{component, rowOf, joined, three, of, stepsOf, passCoefficients, passSigns}
+use Rattle.components.specs.Components.{stepsOf, passCoefficients, passSigns}
+use Rattle.planes.specs.Planes.{component, rowOf, joined, three, of}
 use Rattle.tile.specs.Tile.{upgraded}
 use Rattle.tile.specs.declared.TileState.{TileState}
-use Rattle.components.proofs.Joined.{Long, joined-long, component-joined, row-joined, joined-components}
+use Rattle.planes.proofs.Joined.{Long, joined-long, component-joined, row-joined, joined-components}
 use Rattle.reach.specs.Component.{bandsOf, positionOf, ComponentGains}
 use Rattle.reach.specs.Reach.{TileFits, Pass, ThreeRows, Lower, Picture, picture, TileGains, ThreeStreams}
 use Rattle.reach.proofs.Streams.{Stream}

@@ -8,7 +8,7 @@ use lib.IntN.{ℤ, pos, negsuc}
 use lib.ListN.{getD, length, replicate, take}
 use Rattle.fixed.specs.Fixed.{signOf}
 use Rattle.bands.specs.Bands.{perPlace}
-use Rattle.components.specs.Components.{component, joined, three, of}
+use Rattle.planes.specs.Planes.{component, joined, three, of}
 use Rattle.tile.specs.Tile.{fresh, loaded, loadRefusal}
 use Rattle.tile.specs.declared.TileState.{TileState}
 use Rattle.reach.specs.Place.{Place, OwnSign}

@@ -8,9 +8,9 @@ use Prim.Native.Nat.{ℕ, _^_, _≤_, _<_}
 use lib.IntN.{ℤ}
 use lib.ListN.{getD, length}
 use Rattle.bands.specs.Positions.{rowInDomain}
-use Rattle.progressive_decoder.specs.Upgrade.{answered, unlessRefused}
-use Rattle.progressive_decoder.specs.declared.Answer.{Answer}
-use Rattle.components.specs.Components.{component, rowOf, joined, of}
+use Rattle.answer.specs.Refusals.{answered, unlessRefused}
+use Rattle.answer.specs.declared.Answer.{Answer}
+use Rattle.planes.specs.Planes.{component, rowOf, joined, of}
 use Rattle.tile.specs.Tile.{upgradeRefusal, decodeUpgrade}
 use Rattle.tile.specs.declared.TileState.{TileState}
 use Rattle.reach.specs.Component.{bandsOf, ComponentFits, ComponentGains}

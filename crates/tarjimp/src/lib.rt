@@ -3,19 +3,12 @@
 
 ghost use mathlib.Core.Path.{_≡_};
 ghost use mathlib.Core.List.{_∷_, []};
-ghost use Rattle.progressive_decoder.specs.Upgrade.{numberOf, decodeAnswer, decodeCoefficients, decodeSigns};
+ghost use Rattle.progressive_decoder.specs.Upgrade.{decodeAnswer, decodeCoefficients, decodeSigns};
+ghost use Rattle.answer.specs.Refusals.{numberOf};
 ghost use Rattle.progressive_encoder.specs.Encode.{writtenNumber, srlCount, rawCount, encodeAnswer, encodeSrlOut, encodeRawOut};
-ghost use Rattle.progressive.specs.Dequantize.{dequantizeAnswer, dequantizeOut};
-
-// The number of an answer.
-fn number_of(answer: progressive::Answer) -> u8
-    ensures { λ r. ⌜ r ≡ numberOf answer ⌝ }
-{
-    match answer {
-        progressive::Answer::Accepted => 0,
-        progressive::Answer::Refused(k) => k,
-    }
-}
+ghost use Rattle.dwt_extrapolate.specs.Transform.{inverseAnswer, inverseBuffer, inverseScratch};
+ghost use Rattle.pixels.specs.Pixels.{pixelsAnswer, pixelsOut};
+ghost use Rattle.dequantizer.specs.Dequantize.{dequantizeAnswer, dequantizeOut};
 
 // Reads a pass: the coefficients of each band go from its position in `prev` to that in `curr`.
 #[no_mangle]
@@ -32,7 +25,7 @@ pub extern "C" fn tarjimp_decode_upgrade_pass(
 {
     let p = *prev;
     let q = *curr;
-    number_of(progressive::decode_upgrade_pass(
+    answer::number_of(progressive::decode_upgrade_pass(
         srl_data,
         raw_data,
         p,
@@ -53,7 +46,11 @@ pub extern "C" fn tarjimp_dequantize_component(
     ensures { λ r. ⌜ (r ≡ numberOf (dequantizeAnswer (now (quant .entry)) (now (coefficients .entry)))) × (now (coefficients .exit) ≡ dequantizeOut «use_reduce_extrapolate» (now (quant .entry)) (now (coefficients .entry))) ⌝ }
 {
     let q = *quant;
-    number_of(progressive::dequantize_component_ccq(coefficients, q, use_reduce_extrapolate))
+    answer::number_of(progressive::dequantize_component_ccq(
+        coefficients,
+        q,
+        use_reduce_extrapolate,
+    ))
 }
 
 // The number of what a writer answers.
@@ -115,4 +112,35 @@ pub extern "C" fn tarjimp_encode_upgrade_pass(
     );
     *written = [srl_count(w), raw_count(w)];
     written_number(w)
+}
+
+// The inverse wavelet of a component, in place, with a scratch.
+#[no_mangle]
+pub extern "C" fn tarjimp_dwt_extrapolate_decode(buffer: &mut [i16], temp: &mut [i16]) -> u8
+    ensures { λ r. ⌜ (r ≡ numberOf (inverseAnswer (now (buffer .entry)) (now (temp .entry)))) × (now (buffer .exit) ≡ inverseBuffer (now (buffer .entry)) (now (temp .entry))) × (now (temp .exit) ≡ inverseScratch (now (buffer .entry)) (now (temp .entry))) ⌝ }
+{
+    answer::number_of(dwt_extrapolate::decode(buffer, temp))
+}
+
+// The pixels of a tile, of the fields that they depend on.
+#[no_mangle]
+pub extern "C" fn tarjimp_tile_reconstruct_to_rgba(
+    coefficients: &[i16; 12288],
+    prog_quant: &[u8; 30],
+    base_quant: &[u8; 30],
+    use_reduce_extrapolate: bool,
+    pixels: &mut [u8],
+) -> u8
+    ensures { λ r. ⌜ (r ≡ numberOf (pixelsAnswer (now («prog_quant» .entry)) (now («base_quant» .entry)) «use_reduce_extrapolate» (now (pixels .entry)))) × (now (pixels .exit) ≡ pixelsOut (now (coefficients .entry)) (now («prog_quant» .entry)) (now («base_quant» .entry)) «use_reduce_extrapolate» (now (pixels .entry))) ⌝ }
+{
+    let values = *coefficients;
+    let positions = *prog_quant;
+    let quants = *base_quant;
+    answer::number_of(pixels::reconstruct_to_rgba(
+        values,
+        positions,
+        quants,
+        use_reduce_extrapolate,
+        pixels,
+    ))
 }

@@ -1,13 +1,15 @@
--- A tile: made, loaded and upgraded (docs/SCOPE.md, "Tile").
+-- A tile: made, loaded, upgraded, and its pixels (docs/SCOPE.md, "Tile").
 use mathlib.Core.Bool.{Bool, false, cond, _&&_}
 use mathlib.Core.List.{List}
 use Prim.Native.Nat.{ℕ, _+_, min}
 use lib.IntN.{ℤ, pos}
 use lib.ListN.{replicate}
 use Rattle.bands.specs.Positions.{every, rowInDomain, rowsInDomain}
-use Rattle.upgrade_steps.specs.Steps.{longEnough}
-use Rattle.progressive_decoder.specs.Upgrade.{answered, unlessRefused}
-use Rattle.components.specs.Components.{joined, of, taken, passCoefficients, passSigns}
+use Rattle.answer.specs.declared.Answer.{Answer}
+use Rattle.answer.specs.Refusals.{answered, unlessRefused, longEnough}
+use Rattle.components.specs.Components.{passCoefficients, passSigns}
+use Rattle.planes.specs.Planes.{joined, of, taken}
+use Rattle.pixels.specs.Pixels.{pixelsAnswer, pixelsOut}
 use Rattle.tile.specs.declared.TileState.{TileState}
 use Rattle.tile.specs.declared.Loaded.{Loaded}
 use Rattle.tile.specs.declared.Upgraded.{Upgraded}
@@ -93,3 +95,13 @@ upgradedBy n new old = record { answer = answered n; tile = unlessRefused n new 
 abbrev pub decodeUpgrade : TileState → List (List ℕ) → List (List ℕ) → List (List ℕ) → ℕ → Upgraded
 decodeUpgrade t srlData rawData rows q =
     upgradedBy (upgradeRefusal (t .«prog_quant») (t .«base_quant») rows) (upgraded t srlData rawData rows q) t
+
+-- ════ its pixels ════
+
+-- what `reconstruct_to_rgba` answers. The tile goes in by value and nothing of it comes back: it "does not change the tile"
+abbrev pub reconstructAnswer : TileState → List ℕ → Answer
+reconstructAnswer t px = pixelsAnswer (t .«prog_quant») (t .«base_quant») (t .«use_reduce_extrapolate») px
+
+-- the slice of pixels then
+abbrev pub reconstructPixels : TileState → List ℕ → List ℕ
+reconstructPixels t px = pixelsOut (t .coefficients) (t .«prog_quant») (t .«base_quant») (t .«use_reduce_extrapolate») px

@@ -1,4 +1,4 @@
-// A tile of three components, by value: made fresh, loaded, and upgraded pass by pass. A port of progressive.rs's `TileState`.
+// A tile of three components, by value: made fresh, loaded, upgraded pass by pass, and its pixels. A port of progressive.rs's `TileState`.
 // A refusal has a number (docs/SCOPE.md, "Refusals") and gives back the tile handed in.
 
 ghost use mathlib.Core.Path.{_≡_};
@@ -7,8 +7,8 @@ ghost use Prim.Native.Nat.{_≤_, _<_};
 ghost use lib.Dec.{leb};
 ghost use lib.ListN.{length};
 ghost use Rattle.bands.specs.Positions.{every, rowInDomain, rowsInDomain};
-ghost use Rattle.components.specs.Components.{three};
-ghost use Rattle.tile.specs.Tile.{fresh, loaded, loadedBy, load, nextPass, upgraded, decodeUpgrade};
+ghost use Rattle.planes.specs.Planes.{three};
+ghost use Rattle.tile.specs.Tile.{fresh, loaded, loadedBy, load, nextPass, upgraded, decodeUpgrade, reconstructAnswer, reconstructPixels};
 
 // A tile: 64 x 64 pixels, with what has arrived of them. Arrays are flat: three components (Y, Cb, Cr) of 4,096, three rows of ten.
 #[repr(C)]
@@ -26,13 +26,13 @@ pub struct TileState {
 
 // What `load` answers, and the tile: a fresh one where it refuses.
 pub struct Loaded {
-    pub answer: progressive_decoder::Answer,
+    pub answer: answer::Answer,
     pub tile: TileState,
 }
 
 // What `decode_upgrade` answers, and the tile then.
 pub struct Upgraded {
-    pub answer: progressive_decoder::Answer,
+    pub answer: answer::Answer,
     pub tile: TileState,
 }
 
@@ -81,7 +81,7 @@ fn not_loaded(refusal: u8) -> Loaded
     ensures { λ r. ⌜ r ≡ loadedBy refusal fresh fresh ⌝ }
 {
     Loaded {
-        answer: progressive_decoder::Answer::Refused(refusal),
+        answer: answer::Answer::Refused(refusal),
         tile: TileState::new(),
     }
 }
@@ -96,7 +96,7 @@ impl TileState {
     {
         let row = Self::LOSSLESS;
         let rows = [row; 3];
-        let prog_quant = components::flat_rows(rows);
+        let prog_quant = planes::flat_rows(rows);
         Self {
             coefficients: [0; 12288],
             sign: [0; 12288],
@@ -127,10 +127,10 @@ impl TileState {
     {
         let mut coefficients: [i16; 12288] = [0; 12288];
         let mut sign: [i8; 12288] = [0; 12288];
-        components::load_coefficients(y, cb, cr, &mut coefficients);
-        components::load_signs(y_sign, cb_sign, cr_sign, &mut sign);
-        let prog_quant = components::flat_rows(prog_quants);
-        let base_quant = components::flat_rows(base_quants);
+        planes::load_coefficients(y, cb, cr, &mut coefficients);
+        planes::load_signs(y_sign, cb_sign, cr_sign, &mut sign);
+        let prog_quant = planes::flat_rows(prog_quants);
+        let base_quant = planes::flat_rows(base_quants);
         Self {
             coefficients: coefficients,
             sign: sign,
@@ -183,7 +183,7 @@ impl TileState {
             e,
         );
         Loaded {
-            answer: progressive_decoder::Answer::Accepted,
+            answer: answer::Answer::Accepted,
             tile: tile,
         }
     }
@@ -219,7 +219,7 @@ impl TileState {
             &mut coefficients,
             &mut sign,
         );
-        let prog_quant = components::flat_rows(prog_quants);
+        let prog_quant = planes::flat_rows(prog_quants);
         let quant_idx = self.quant_idx;
         let base_quant = self.base_quant;
         let pass = next_pass(self.pass);
@@ -254,7 +254,7 @@ impl TileState {
         let quants = self.base_quant;
         if !in_domain(prog_quants, positions, quants) {
             return Upgraded {
-                answer: progressive_decoder::Answer::Refused(2),
+                answer: answer::Answer::Refused(2),
                 tile: self,
             };
         }
@@ -269,8 +269,24 @@ impl TileState {
             quality,
         );
         Upgraded {
-            answer: progressive_decoder::Answer::Accepted,
+            answer: answer::Answer::Accepted,
             tile: next,
         }
+    }
+
+    // The tile's pixels, row by row, four bytes each: red, green, blue and 255.
+    pub fn reconstruct_to_rgba(self, pixels: &mut [u8]) -> answer::Answer
+        ensures { λ r. ⌜ (r ≡ reconstructAnswer self (now (pixels .entry))) × (now (pixels .exit) ≡ reconstructPixels self (now (pixels .entry))) ⌝ }
+    {
+        let coefficients = self.coefficients;
+        let positions = self.prog_quant;
+        let quants = self.base_quant;
+        pixels::reconstruct_to_rgba(
+            coefficients,
+            positions,
+            quants,
+            self.use_reduce_extrapolate,
+            pixels,
+        )
     }
 }

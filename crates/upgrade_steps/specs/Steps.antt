@@ -3,9 +3,9 @@
 use mathlib.Core.Bool.{Bool, true, false, cond}
 use mathlib.Core.List.{List, [], _∷_}
 use Prim.Native.Nat.{ℕ, zero, suc, _-_}
-use lib.Dec.{eqb, leb}
+use lib.Dec.{eqb}
 use lib.IntN.{ℤ}
-use lib.ListN.{length, getD}
+use lib.ListN.{getD}
 use Rattle.fixed.specs.Fixed.{isZero}
 use Rattle.bands.specs.Bands.{perPlace}
 use Rattle.upgrade_steps.specs.declared.BandStep.{BandStep}
@@ -73,12 +73,6 @@ unfoldable pub rawWidths : List Step → List ℤ → List ℕ
 rawWidths [] ss = []
 rawWidths (t ∷ ts) [] = []
 rawWidths (t ∷ ts) (s ∷ ss) = rawWidth (source t s) (t .width) (rawWidths ts ss)
-
--- ════ a refusal ════
-
--- 1: "a coefficient, sign .. slice under 4,096 elements"
-abbrev pub longEnough : {A : Type 0} → List A → Bool
-longEnough l = leb 4096 (length l)
 
 -- ════ for inner functions ════
 

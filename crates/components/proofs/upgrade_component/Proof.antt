@@ -1,4 +1,4 @@
--- `tile::flat::upgrade_component` meets its contract. Assumes nothing.
+-- `components::upgrade_component` meets its contract. Assumes nothing.
 use mathlib.Core.Path.{_≡_}
 use mathlib.Core.List.{List, []}
 use Prim.Native.Nat.{_+_, _-_, _*_}

@@ -1,6 +1,6 @@
--- `tile::flat::upgrade_components` meets its contract. Assumes nothing.
+-- `components::upgrade_components` meets its contract. Assumes nothing.
 use borrow.Author.Needs.{needs}
-use Rattle.components.specs.Components.{three}
+use Rattle.planes.specs.Planes.{three}
 use Rattle.components.proofs.Passes.{passed}
 use Rattle.components.proofs.upgrade_components.Statement.{statement}
 use Rattle.components.proofs.upgrade_components.Tie as tie

@@ -6,7 +6,7 @@ use borrow.Author.Tests.{le-leb, lt-leb, not-true, not-false}
 use lib.ListN.{length}
 use Rattle.bands.specs.Positions.{rowInDomain}
 use Rattle.bands.proofs.Every.{both-true}
-use Rattle.upgrade_steps.specs.Steps.{longEnough}
+use Rattle.answer.specs.Refusals.{longEnough}
 use borrow.Author.Needs.{needs}
 use Rattle.progressive_decoder.proofs.decode_upgrade_pass.Statement.{statement}
 use Rattle.progressive_decoder.proofs.decode_upgrade_pass.Tie as tie

@@ -1,7 +1,7 @@
 -- `tarjimp::tarjimp_decode_upgrade_pass` meets its contract: that of `progressive::decode_upgrade_pass`, with the answer as a number. Assumes nothing.
 use mathlib.Core.Path.{_∙_, ap}
 use borrow.Author.Needs.{needs}
-use Rattle.progressive_decoder.specs.Upgrade.{numberOf}
+use Rattle.answer.specs.Refusals.{numberOf}
 use Rattle.tarjimp.proofs.tarjimp_decode_upgrade_pass.Statement.{statement}
 use Rattle.tarjimp.proofs.tarjimp_decode_upgrade_pass.Tie as tie
 

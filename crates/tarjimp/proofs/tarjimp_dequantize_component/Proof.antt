@@ -1,7 +1,7 @@
 -- `tarjimp::tarjimp_dequantize_component` meets its contract: that of `progressive::dequantize_component_ccq`, with the answer as a number. Assumes nothing.
 use mathlib.Core.Path.{_∙_, ap}
 use borrow.Author.Needs.{needs}
-use Rattle.progressive_decoder.specs.Upgrade.{numberOf}
+use Rattle.answer.specs.Refusals.{numberOf}
 use Rattle.tarjimp.proofs.tarjimp_dequantize_component.Statement.{statement}
 use Rattle.tarjimp.proofs.tarjimp_dequantize_component.Tie as tie
 

@@ -3,7 +3,7 @@ use mathlib.Core.Path.{_≡_}
 use Prim.Native.Nat.{ℕ, zero, suc, _<_}
 use native.Mathlib.Omega.{arith}
 use borrow.Author.Needs.{needs}
-use Rattle.progressive_decoder.specs.declared.Answer.the-variants.{Refused}
+use Rattle.answer.specs.declared.Answer.the-variants.{Refused}
 use Rattle.tile.specs.declared.Loaded.{Loaded}
 use Rattle.tile.specs.declared.TileState.{TileState}
 use Rattle.tile.specs.Tile.{fresh, loadedBy}

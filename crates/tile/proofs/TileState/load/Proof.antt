@@ -10,8 +10,8 @@ use borrow.Author.Tests.{leb-true, not-true, not-false}
 use borrow.Author.Needs.{needs}
 use Rattle.bands.specs.Positions.{every, rowsInDomain}
 use Rattle.bands.proofs.Every.{at}
-use Rattle.upgrade_steps.specs.Steps.{longEnough}
-use Rattle.components.specs.Components.{three}
+use Rattle.answer.specs.Refusals.{longEnough}
+use Rattle.planes.specs.Planes.{three}
 use Rattle.tile.proofs.TileState.load.Statement.{statement}
 use Rattle.tile.proofs.TileState.load.Tie as tie
 

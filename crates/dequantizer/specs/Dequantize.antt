@@ -1,0 +1,38 @@
+-- Dequantizing a component (docs/SCOPE.md, "Dequantizing"; MS-RDPRFX 3.1.8.1.5).
+use mathlib.Core.Bool.{Bool, cond}
+use mathlib.Core.List.{List, [], _∷_}
+use Prim.Native.Nat.{ℕ, _-_}
+use lib.Dec.{ltb}
+use lib.IntN.{ℤ}
+use lib.ListN.{getD}
+use Rattle.fixed.specs.Fixed.{roundShift, shiftLeftClamp}
+use Rattle.bands.specs.Bands.{perPlace}
+use Rattle.bands.specs.Positions.{rowInDomain}
+use Rattle.answer.specs.declared.Answer.{Answer}
+use Rattle.answer.specs.Refusals.{answered, unlessRefused, longEnough}
+
+-- "a quantizer q above 6 shifts left q - 6 places and clamps; below 6 it adds 2^(5-q) and shifts right 6 - q places with floor; 6 leaves the value"
+abbrev pub dequantized : ℕ → ℤ → ℤ
+dequantized q c = cond (ltb 6 q) (shiftLeftClamp c (q - 6)) (cond (ltb q 6) (roundShift c (6 - q)) c)
+
+-- each coefficient by its own quantizer; what stands past the quantizers stays
+unfoldable pub dequantizedAll : List ℕ → List ℤ → List ℤ
+dequantizedAll [] cs = cs
+dequantizedAll (q ∷ qs) [] = []
+dequantizedAll (q ∷ qs) (c ∷ cs) = dequantized q c ∷ dequantizedAll qs cs
+
+-- the quantizer of each place
+abbrev pub quantizers : Bool → List ℕ → List ℕ
+quantizers e quant = perPlace e (λ b. getD quant b 0)
+
+-- "order: .. 1, 2": 0 is none
+abbrev pub dequantizeRefusal : List ℕ → List ℤ → ℕ
+dequantizeRefusal quant cs = cond (longEnough cs) (cond (rowInDomain quant) 0 2) 1
+
+-- what `dequantize_component_ccq` answers, and what it leaves in the slice
+abbrev pub dequantizeAnswer : List ℕ → List ℤ → Answer
+dequantizeAnswer quant cs = answered (dequantizeRefusal quant cs)
+
+-- the coefficients then
+abbrev pub dequantizeOut : Bool → List ℕ → List ℤ → List ℤ
+dequantizeOut e quant cs = unlessRefused (dequantizeRefusal quant cs) (dequantizedAll (quantizers e quant) cs) cs

@@ -1,0 +1,2 @@
+-- What the contracts of `dequantizer` and of the crates above it cite.
+pub mod Dequantize

@@ -1,0 +1,139 @@
+-- Blocks: what a block's two steps leave, how long the buffer stays, the three blocks one after another, and the answers.
+-- Assumes nothing.
+use mathlib.Core.Path.{_≡_, sym, ap, _∙_}
+use mathlib.Core.List.{List, [], _++_, append-assoc, append-nil, flatten}
+use Prim.Native.Nat.{ℕ, _+_, _*_, _-_, _≤_}
+use native.Mathlib.Nat.{add-mul}
+use native.Mathlib.Omega.{arith}
+use lib.IntN.{ℤ}
+use lib.ListN.{length, take, drop, length-append, length-drop, drop-of-length-le}
+use lib.Seq.{drop-drop, take-at, drop-at, length-take-le}
+use Rattle.dwt_lines.specs.Line.{Halves}
+use Rattle.dwt_extrapolate.specs.Block.{rows, lines, lows, highs, down, scratch, block, blockAt}
+use Rattle.dwt_extrapolate.specs.Transform.{inner, inverse, scratched}
+use Rattle.dwt_extrapolate.specs.Inner.{lineRows, put}
+use Rattle.dwt_extrapolate.proofs.Put.{part-length, to-end, drop-more}
+use Rattle.dwt_extrapolate.proofs.Rows.{Wide, flat-length, flat-rows, lines-wide}
+use Rattle.dwt_extrapolate.proofs.Columns.{line-down, down-flat}
+
+-- ════ the rows of a block ════
+
+module _ (p q : ℕ) (v : Halves p q) (b : List ℤ) (nb : (p + q) * (p + q) ≤ length b) where
+  lows-wide : (length (lows p q b) ≡ p) × Wide (p + q) (lows p q b)
+  unfolding lows
+  lows-wide = lines-wide p q v p (drop (q * p + p * q + q * q) b) b (simp length-drop (omega arith)) (omega arith)
+
+  highs-wide : (length (highs p q b) ≡ q) × Wide (p + q) (highs p q b)
+  unfolding highs
+  highs-wide = lines-wide p q v q (drop (q * p) b) (drop (q * p + p * q) b) (simp length-drop (omega arith)) (simp length-drop (omega arith))
+
+  lows-length : length (flatten (lows p q b)) ≡ p * (p + q)
+  lows-length = flat-length (p + q) (lows p q b) (lows-wide .1) ∙ ap (λ (n : ℕ). n * (p + q)) (lows-wide .0)
+
+  highs-length : length (flatten (highs p q b)) ≡ q * (p + q)
+  highs-length = flat-length (p + q) (highs p q b) (highs-wide .1) ∙ ap (λ (n : ℕ). n * (p + q)) (highs-wide .0)
+
+  -- what a block leaves of the scratch, after its own places
+  scratch-rest : (t : List ℤ) → drop ((p + q) * (p + q)) (scratch p q b t) ≡ drop ((p + q) * (p + q)) t
+  unfolding scratch
+  scratch-rest t =
+      let F : List ℤ = flatten (lows p q b) in
+      let G : List ℤ = flatten (highs p q b) in
+      let nF : length F ≡ p * (p + q) = lows-length in
+      let nG : length G ≡ q * (p + q) = highs-length in
+      let n : length (F ++ G) ≡ (p + q) * (p + q) = rw length-append (omega arith) in
+      rw (← append-assoc) (drop-at (F ++ G) (drop ((p + q) * (p + q)) t) ((p + q) * (p + q)) n)
+
+  -- t is the scratch, t₁ the scratch after the first rows, u its rest after the others
+  module _ (t t₁ u : List ℤ) (k : ℕ) (e₁ : t₁ ≡ flatten (lines p q p (drop (q * p + p * q + q * q) b) b) ++ drop (p * (p + q)) t) (ek : k ≡ length t₁ - p * (p + q))
+      (e₂ : u ≡ flatten (lines p q q (drop (q * p) b) (drop (q * p + p * q) b)) ++ drop (q * (p + q)) (take k (drop (p * (p + q)) t₁))) where
+    pub block-scratch : put (p * (p + q)) k t₁ u ≡ scratch p q b t
+    unfolding scratch lows highs
+    block-scratch =
+        let half : ℕ = p * (p + q) in
+        let F : List ℤ = flatten (lows p q b) in
+        let all : take k (drop half t₁) ≡ drop half t₁ = rw ek (to-end t₁ half) in
+        let none : drop k (drop half t₁) ≡ [] = drop-of-length-le (drop half t₁) {i = k} (simp length-drop (omega arith)) in
+        let front : take half t₁ ≡ F = rw e₁ (take-at F (drop half t) half lows-length) in
+        let back : drop half t₁ ≡ drop half t = rw e₁ (drop-at F (drop half t) half lows-length) in
+        let end : drop (q * (p + q)) (drop half t) ≡ drop ((p + q) * (p + q)) t = drop-drop (q * (p + q)) half t ∙ ap (λ (z : ℕ). drop z t) (sym (add-mul p q (p + q))) in
+        rw (none, append-nil, front, e₂, all, back, end)
+
+    -- D is the buffer after the columns
+    pub block-cols : (D : List ℤ) → D ≡ flatten (lineRows (rows (p + q) p (put (p * (p + q)) k t₁ u)) (rows (p + q) q (drop (p * (p + q)) (put (p * (p + q)) k t₁ u)))) ++ drop ((p + q) * (p + q)) b → D ≡ block p q b
+    unfolding scratch block
+    block-cols D e =
+        let half : ℕ = p * (p + q) in
+        let F : List ℤ = flatten (lows p q b) in
+        let G : List ℤ = flatten (highs p q b) in
+        let R : List ℤ = drop ((p + q) * (p + q)) t in
+        let l = lows-wide in
+        let h = highs-wide in
+        let rl : rows (p + q) p (F ++ (G ++ R)) ≡ lows p q b = rw (l .0) at (flat-rows (p + q) (lows p q b) (G ++ R) (l .1)) in
+        let rh : rows (p + q) q (G ++ R) ≡ highs p q b = rw (h .0) at (flat-rows (p + q) (highs p q b) R (h .1)) in
+        let back : drop half (F ++ (G ++ R)) ≡ G ++ R = drop-at F (G ++ R) half lows-length in
+        let same : lineRows (lows p q b) (highs p q b) ≡ down (p + q) (lows p q b) (highs p q b) = line-down (p + q) (lows p q b) (highs p q b) (rw (l .0, h .0) v) (rw (l .0, h .0)) (l .1) (h .1) in
+        e ∙ rw (block-scratch, rl, back, rh, same)
+
+-- ════ how long the buffer stays ════
+
+block-length : (p q : ℕ) (b : List ℤ) → (p + q) * (p + q) ≤ length b → length (block p q b) ≡ length b
+unfolding block
+block-length p q b n = rw (length-append, down-flat (p + q) (lows p q b) (highs p q b), length-drop) (omega arith)
+
+block-at-length : (i p q : ℕ) (b : List ℤ) → i + (p + q) * (p + q) ≤ length b → length (blockAt i p q b) ≡ length b
+unfolding blockAt
+block-at-length i p q b n =
+    let m : length (take i b) ≡ i = length-take-le i b (omega arith) in
+    rw (length-append, m, block-length p q (drop i b) (simp length-drop (omega arith)), length-drop) (omega arith)
+
+inner-length : (b : List ℤ) → 4096 ≤ length b → length (inner b) ≡ length b
+unfolding inner
+inner-length b n =
+    let e : length (blockAt 3807 9 8 b) ≡ length b = block-at-length 3807 9 8 b (omega arith) in
+    block-at-length 3007 17 16 (blockAt 3807 9 8 b) (omega arith) ∙ e
+
+-- as many places as before
+pub inverse-length : (b : List ℤ) → 4096 ≤ length b → length (inverse b) ≡ length b
+unfolding inverse
+inverse-length b n =
+    let e : length (inner b) ≡ length b = inner-length b n in
+    block-at-length 0 33 31 (inner b) (omega arith) ∙ e
+
+-- ════ the three blocks ════
+
+-- a block at the end of the buffer
+at-end : (p q i k : ℕ) (b u : List ℤ) → k ≡ length b - i → u ≡ block p q (take k (drop i b)) → put i k b u ≡ blockAt i p q b
+unfolding blockAt
+at-end p q i k b u e f =
+    let none : drop k (drop i b) ≡ [] = drop-of-length-le (drop i b) {i = k} (simp length-drop (omega arith)) in
+    let all : take k (drop i b) ≡ drop i b = rw e (to-end b i) in
+    rw (none, append-nil, f, all)
+
+-- the last block's scratch is the same, whatever the earlier ones wrote
+scratch-same : (b t t′ : List ℤ) → drop 4096 t′ ≡ drop 4096 t → scratch 33 31 b t′ ≡ scratch 33 31 b t
+unfolding scratch
+scratch-same b t t′ e = rw e
+
+-- the buffer and the scratch after each of the three: u₃ and u₂ are what the first two put at the end of the buffer
+module _ (b t u₃ t₃ u₂ t₂ b₁ t₁ : List ℤ) (k₃ k₂ : ℕ) (n₃ : k₃ ≡ length b - 3807) (n₂ : k₂ ≡ length (put 3807 k₃ b u₃) - 3007)
+    (nb : 4096 ≤ length b) (nb₃ : length (put 3807 k₃ b u₃) ≡ length b)
+    (e₃ : u₃ ≡ block 9 8 (take k₃ (drop 3807 b))) (e₂ : u₂ ≡ block 17 16 (take k₂ (drop 3007 (put 3807 k₃ b u₃)))) (e₁ : b₁ ≡ block 33 31 (put 3007 k₂ (put 3807 k₃ b u₃) u₂))
+    (f₃ : t₃ ≡ scratch 9 8 (take k₃ (drop 3807 b)) t) (f₂ : t₂ ≡ scratch 17 16 (take k₂ (drop 3007 (put 3807 k₃ b u₃))) t₃) (f₁ : t₁ ≡ scratch 33 31 (put 3007 k₂ (put 3807 k₃ b u₃) u₂) t₂) where
+  is-inner : put 3007 k₂ (put 3807 k₃ b u₃) u₂ ≡ inner b
+  unfolding inner
+  is-inner = at-end 17 16 3007 k₂ (put 3807 k₃ b u₃) u₂ n₂ e₂ ∙ ap (blockAt 3007 17 16) (at-end 9 8 3807 k₃ b u₃ n₃ e₃)
+
+  -- what `decode` leaves in both
+  pub three-blocks : (b₁ ≡ inverse b) × (t₁ ≡ scratched b t)
+  unfolding inverse scratched blockAt
+  three-blocks =
+      let v₃ : Halves 9 8 = record { some = omega arith; least = omega arith; most = omega arith } in
+      let v₂ : Halves 17 16 = record { some = omega arith; least = omega arith; most = omega arith } in
+      let B : List ℤ = put 3807 k₃ b u₃ in
+      let m₃ : length (take k₃ (drop 3807 b)) ≡ k₃ = part-length b k₃ 3807 (omega arith) in
+      let m₂ : length (take k₂ (drop 3007 B)) ≡ k₂ = part-length B k₂ 3007 (omega arith) in
+      let r₃ : drop 289 t₃ ≡ drop 289 t = ap (drop 289) f₃ ∙ scratch-rest 9 8 v₃ (take k₃ (drop 3807 b)) (omega arith) t in
+      let r₂ : drop 1089 t₂ ≡ drop 1089 t₃ = ap (drop 1089) f₂ ∙ scratch-rest 17 16 v₂ (take k₂ (drop 3007 B)) (omega arith) t₃ in
+      let rest : drop 4096 t₂ ≡ drop 4096 t = drop-more t₂ t₃ 1089 4096 (omega arith) r₂ ∙ drop-more t₃ t 289 4096 (omega arith) r₃ in
+      (e₁ ∙ ap (block 33 31) is-inner, f₁ ∙ scratch-same (put 3007 k₂ B u₂) t t₂ rest ∙ ap (λ (z : List ℤ). scratch 33 31 z t) is-inner)

@@ -1,0 +1,63 @@
+-- Rows laid out one after another, and the lines of a number of rows: one more, none, how many and how wide they are.
+-- Assumes nothing.
+use mathlib.Core.Path.{_≡_, refl, ap, _∙_}
+use mathlib.Core.List.{List, [], _∷_, _++_, append-assoc, zipWith, flatten}
+use Prim.Native.Nat.{ℕ, zero, suc, _+_, _*_, _-_, _<_, _≤_}
+use native.Mathlib.Nat.{suc-mul}
+use native.Mathlib.Omega.{arith}
+use lib.IntN.{ℤ}
+use lib.ListN.{length, take, drop, length-append, length-drop}
+use lib.Seq.{drop-drop, take-at, drop-at, length-take-le}
+use Rattle.dwt_lines.specs.Line.{line, Halves}
+use Rattle.dwt_lines.proofs.Lines.{line-length}
+use Rattle.dwt_extrapolate.specs.Block.{rows, lines}
+use Rattle.dwt_extrapolate.specs.Inner.{put}
+use Rattle.dwt_extrapolate.proofs.Put.{put-take}
+
+-- ════ rows of w places ════
+
+abbrev pub Wide : ℕ → List (List ℤ) → Type 0
+Wide w [] = Unit
+Wide w (r ∷ rs) = (length r ≡ w) × Wide w rs
+
+-- so many places they take, laid out one after another
+pub flat-length : (w : ℕ) (rs : List (List ℤ)) → Wide w rs → length (flatten rs) ≡ length rs * w
+unfolding flatten
+flat-length w [] v = omega arith
+flat-length w (r ∷ rs) v = rw (length-append, v .0, flat-length w rs (v .1), suc-mul) (omega arith)
+
+-- and the first rows of that are they
+pub flat-rows : (w : ℕ) (rs : List (List ℤ)) (t : List ℤ) → Wide w rs → rows w (length rs) (flatten rs ++ t) ≡ rs
+unfolding rows flatten
+flat-rows w [] t v = refl
+flat-rows w (r ∷ rs) t v = rw (append-assoc, take-at r (flatten rs ++ t) w (v .0), drop-at r (flatten rs ++ t) w (v .0), flat-rows w rs t (v .1))
+
+-- ════ lines ════
+
+lines-more : (p q m : ℕ) (b e : List ℤ) → flatten (lines p q (suc m) b e) ≡ line (take p b) (take q e) ++ flatten (lines p q m (drop p b) (drop q e))
+unfolding lines rows zipWith flatten
+lines-more p q m b e = refl
+
+pub lines-none : (p q : ℕ) (b e : List ℤ) → flatten (lines p q 0 b e) ≡ []
+unfolding lines rows zipWith flatten
+lines-none p q b e = refl
+
+-- the next line u is put after the i places that are done; m lines were left
+pub lines-turn : (Y b e d u : List ℤ) (p q m i k j l h p′ q′ : ℕ) → 0 < m → i ≤ length d → length u ≡ k → i + k ≡ j → p′ ≡ p → q′ ≡ q
+    → Y ≡ take i d ++ flatten (lines p q m (drop l b) (drop h e)) → u ≡ line (take p′ (drop l b)) (take q′ (drop h e)) → Y ≡ take j (put i k d u) ++ flatten (lines p q (m - 1) (drop (l + p) b) (drop (h + q) e))
+lines-turn Y b e d u p q zero i k j l h p′ q′ z f g x y t w v = absurd (omega arith)
+lines-turn Y b e d u p q (suc m) i k j l h p′ q′ z f g x y t w v =
+    let n : suc m - 1 ≡ m = omega arith in
+    rw (← x, put-take d u i k f g, n, append-assoc, v, y, t, ← drop-drop p l b, ← drop-drop q h e) (w ∙ ap (λ (z : List ℤ). take i d ++ z) (lines-more p q m (drop l b) (drop h e)))
+
+-- n lines, each as long as its halves together
+pub lines-wide : (p q : ℕ) → Halves p q → (n : ℕ) (b e : List ℤ) → n * p ≤ length b → n * q ≤ length e → (length (lines p q n b e) ≡ n) × Wide (p + q) (lines p q n b e)
+unfolding lines rows zipWith
+lines-wide p q v zero b e f g = (refl, tt)
+lines-wide p q v (suc n) b e f g =
+    let sp : suc n * p ≡ n * p + p = suc-mul n p in
+    let sq : suc n * q ≡ n * q + q = suc-mul n q in
+    let np : length (take p b) ≡ p = length-take-le p b (omega arith) in
+    let nq : length (take q e) ≡ q = length-take-le q e (omega arith) in
+    let r = lines-wide p q v n (drop p b) (drop q e) (simp length-drop (omega arith)) (simp length-drop (omega arith)) in
+    (ap suc (r .0), (line-length (take p b) (take q e) (rw (np, nq) v) ∙ rw (np, nq), r .1))

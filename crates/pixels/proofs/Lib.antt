@@ -1,0 +1,2 @@
+-- Laws of samples, for the proofs here.
+mod Sampled

@@ -1,0 +1,40 @@
+-- From the coefficients of three components to pixels (docs/SCOPE.md, "Tile"). Only in the extrapolate layout: "3: pixels wanted in the standard layout".
+use mathlib.Core.Bool.{Bool, true, cond, _&&_}
+use mathlib.Core.List.{List, _++_}
+use Prim.Native.Nat.{ℕ}
+use lib.Dec.{leb}
+use lib.IntN.{ℤ}
+use lib.ListN.{length, drop}
+use Rattle.answer.specs.declared.Answer.{Answer}
+use Rattle.answer.specs.Refusals.{answered, unlessRefused}
+use Rattle.bands.specs.Positions.{rowInDomain}
+use Rattle.planes.specs.Planes.{component, rowOf}
+use Rattle.dequantizer.specs.Dequantize.{dequantizedAll, quantizers}
+use Rattle.dwt_extrapolate.specs.Transform.{inverse}
+use Rattle.color.specs.Color.{picture}
+
+-- the samples of a component: dequantized by a row of quantizers, then the inverse wavelet
+abbrev pub samples : List ℕ → List ℤ → List ℤ
+samples quant cs = inverse (dequantizedAll (quantizers true quant) cs)
+
+-- of component k of three, by its row of quantizers
+abbrev pub samplesOf : List ℕ → List ℤ → ℕ → List ℤ
+samplesOf quants cs k = samples (rowOf k quants) (component k cs)
+
+-- the colours of the samples of Y, Cb and Cr: 4,096 pixels of four bytes
+unfoldable pub rgba : List ℕ → List ℤ → List ℕ
+rgba quants cs = picture (samplesOf quants cs 0) (samplesOf quants cs 1) (samplesOf quants cs 2)
+
+-- ════ what `reconstruct_to_rgba` answers, and what it leaves in the slice of pixels ════
+
+-- 1: "pixels under 16,384 bytes"; 2: "a position or quantizer above 15 .. anywhere in the tile"; 3: "pixels wanted in the standard layout"; 0 is none
+abbrev pub pixelsRefusal : List ℕ → List ℕ → Bool → List ℕ → ℕ
+pixelsRefusal positions quants e px = cond (leb 16384 (length px)) (cond (rowInDomain positions && rowInDomain quants) (cond e 0 3) 2) 1
+
+-- the answer
+abbrev pub pixelsAnswer : List ℕ → List ℕ → Bool → List ℕ → Answer
+pixelsAnswer positions quants e px = answered (pixelsRefusal positions quants e px)
+
+-- the pixels then: "writes the first 16,384 bytes", and what stands past them stays
+abbrev pub pixelsOut : List ℤ → List ℕ → List ℕ → Bool → List ℕ → List ℕ
+pixelsOut cs positions quants e px = unlessRefused (pixelsRefusal positions quants e px) (rgba quants cs ++ drop 16384 px) px
