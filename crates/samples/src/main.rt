@@ -216,6 +216,76 @@ fn show_dequantized(quantizer: u8, v: i16) {
     show_answer(answer, &coefficients, 0);
 }
 
+// A byte in decimal, after a space.
+fn colour(b: u8) {
+    text(b" ");
+    decimal(b as u64);
+}
+
+// The colours of a pixel.
+fn show_colours(y: i16, cb: i16, cr: i16) {
+    text(b"y");
+    value(y);
+    text(b", cb");
+    value(cb);
+    text(b", cr");
+    value(cr);
+    text(b":");
+    let p = color::ycbcr_to_rgb(y, cb, cr);
+    colour(p[0]);
+    colour(p[1]);
+    colour(p[2]);
+    text(b"\n");
+}
+
+// The first sample of a component that has a low value in the first place of LL3, a high one in the first place of HL1, and else zeros. The
+// two inner blocks leave the low value in the first place of their picture, which is the LL of the last block: so they are L0 and H0 of its
+// first row, whose first sample stands in the scratch. The first column has no high value, and leaves the sample as it is.
+fn show_transformed(low: i16, high: i16) {
+    text(b"L0");
+    value(low);
+    text(b", H0");
+    value(high);
+    text(b": first sample, in the scratch and in the picture:");
+    let mut buffer = [0i16; 4096];
+    let mut temp = [0i16; 4096];
+    buffer[4015] = low;
+    buffer[0] = high;
+    let answer = dwt_extrapolate::decode(&mut buffer, &mut temp);
+    value(temp[0]);
+    show_answer(answer, &buffer, 0);
+}
+
+// How many bytes there are before one that is not the byte of its number modulo 4.
+fn alike(bytes: &[u8]) -> usize {
+    let mut i: usize = 0;
+    while i < bytes.len() {
+        if bytes[i] != bytes[i % 4] {
+            return i;
+        }
+        i += 1;
+    }
+    i
+}
+
+// The pixels of a tile of zeros, with positions 0 and base quantizers 6. `TileState::reconstruct_to_rgba` hands its fields to this call.
+fn show_zero_tile() {
+    text(b"a zero extrapolate tile:");
+    let mut bytes = [7u8; 16384];
+    match pixels::reconstruct_to_rgba([0; 12288], [0; 30], [6; 30], true, &mut bytes) {
+        answer::Answer::Accepted => {
+            colour(bytes[0]);
+            colour(bytes[1]);
+            colour(bytes[2]);
+            colour(bytes[3]);
+            text(b", in ");
+            decimal((alike(&bytes) / 4) as u64);
+            text(b" pixels\n");
+        }
+        answer::Answer::Refused(number) => refused(number),
+    }
+}
+
 fn main() {
     bench_samples();
     show_written(&[1i16], 1);
@@ -248,4 +318,7 @@ fn main() {
     show_dequantized(5, 1);
     show_dequantized(5, -3);
     show_dequantized(7, 20000);
+    show_colours(0, 0, 100);
+    show_transformed(-32768, 1);
+    show_zero_tile();
 }
