@@ -50,6 +50,14 @@ fn fill(sort: u8, seed: u64, list: &mut [i16]) {
     }
 }
 
+// Puts a value at a place, if the list has it.
+fn put(list: &mut [i16], place: usize, value: i16) {
+    if place >= list.len() {
+        return;
+    }
+    list[place] = value;
+}
+
 // Transforms the elements that are lent of a buffer and of the scratch: the refusal.
 fn decode(buffer: &mut [i16], temp: &mut [i16], n: usize, m: usize) -> u8 {
     let a = number::at_most(n, buffer.len());
@@ -80,13 +88,13 @@ pub fn decode_agrees(c: &[u8]) -> bool {
 
 // Kind 42: whether the port agrees with a case.
 pub fn impulse_agrees(c: &[u8]) -> bool {
-    let place = number::u16_at(c, 0) as usize;
-    if place >= 4096 {
-        return false;
-    }
     let mut buffer = [0i16; 4352];
     let mut temp = [0i16; 4352];
-    buffer[place] = number::i16_at(c, 2);
+    put(
+        &mut buffer,
+        number::u16_at(c, 0) as usize,
+        number::i16_at(c, 2),
+    );
     fill(1, digests::mixed(0, 1), &mut temp);
     if decode(&mut buffer, &mut temp, 4096, 4096) != 0 {
         return false;
