@@ -22,10 +22,11 @@ const YCBCR_ROW: Kind = Kind {
 /// The values of which every three are tried.
 const NINE: [i16; 9] = [-32768, -129, -128, -1, 0, 1, 127, 128, 32767];
 
-/// Those of which every two are tried as cb and cr, with every y.
-const NINETEEN: [i16; 19] = [
+/// Those of which every two are tried as cb and cr, with every y. At 17002 a factor of red or of blue
+/// that is one less shows, and at 17016 one that is one more.
+const GRID: [i16; 21] = [
     -32768, -32767, -16384, -1000, -129, -128, -127, -64, -1, 0, 1, 64, 127, 128, 129, 1000, 16384,
-    32766, 32767,
+    17002, 17016, 32766, 32767,
 ];
 
 pub fn record_all(recording: &mut Recording<'_>) -> io::Result<()> {
@@ -69,15 +70,16 @@ fn random_pixel(random: &mut Random) -> [i16; 3] {
     [160, 90, 90].map(|most| random.within(0..=2 * most) as i16 - most as i16)
 }
 
-/// Every two of the nineteen values; at a larger scale every two limits.
+/// Every two of the grid's values; at a larger scale every two limits too.
 fn ycbcr_row(recording: &mut Recording<'_>) -> io::Result<()> {
     let mut random = recording.random(YCBCR_ROW.number);
     let count = recording.scaled(20);
-    let values = if recording.scaled(1) > 1 {
-        limits()
-    } else {
-        NINETEEN.to_vec()
-    };
+    let mut values = GRID.to_vec();
+    if recording.scaled(1) > 1 {
+        values.extend(limits::<i16>());
+        values.sort_unstable();
+        values.dedup();
+    }
     let mut cases = recording.cases(YCBCR_ROW);
     for &cb in &values {
         for &cr in &values {
