@@ -14,18 +14,21 @@ use Rattle.dwt_extrapolate.specs.Inner.{zipWith3, fromRows, lineRows}
 use Rattle.dwt_extrapolate.proofs.Places.{zip-length, zip-get, zip-drop, zip3-length, zip3-get, zip3-drop}
 use Rattle.dwt_extrapolate.proofs.Rows.{Wide}
 
--- the first place of a row, of each row, and each row without it
+-- the first place of a row
 abbrev head : List ℤ → ℤ
 head r = getD r 0 (pos 0)
 
+-- the first place of each row
 abbrev heads : List (List ℤ) → List ℤ
 heads rs = map (λ (r : List ℤ). getD r 0 (pos 0)) rs
 
+-- each row without its first place
 abbrev tails : List (List ℤ) → List (List ℤ)
 tails rs = map (drop 1) rs
 
 -- ════ rows to columns and back ════
 
+-- so many columns as were asked for
 columns-count : (w : ℕ) (rs : List (List ℤ)) → length (columns w rs) ≡ w
 unfolding columns
 columns-count zero rs = refl
@@ -60,19 +63,20 @@ columns-back w (r ∷ rs) v = ap₂ _∷_ (columns-head w r rs (v .0)) (ap (colu
 -- ════ the first column ════
 
 module _ (w : ℕ) where
+  -- from the even row x on
   from-heads : (x h : List ℤ) (ls hs : List (List ℤ)) → length x ≡ suc w → length h ≡ suc w → Wide (suc w) ls → Wide (suc w) hs
       → heads (fromRows x h ls hs) ≡ from (head x) (head h) (heads ls) (heads hs)
   unfolding from fromRows
   from-heads x h [] hs ex eh el ek = rw (zip-get tail x h 0 (pos 0) (omega arith) (omega arith))
   from-heads x h (l ∷ []) [] ex eh el ek =
-      let n : length (zipWith edge l h) ≡ suc w = zip-length edge l h (eh ∙ sym (el .0)) ∙ el .0 in
+      let n : length (zipWith edge l h) ≡ suc w = zip-length edge l h (el .0) eh in
       rw (zip3-get odd x (zipWith edge l h) h 0 (pos 0) (omega arith) (omega arith) (omega arith), zip-get edge l h 0 (pos 0) (omega arith) (omega arith))
   from-heads x h (l ∷ m ∷ ls) [] ex eh el ek =
-      let n : length (zipWith half l h) ≡ suc w = zip-length half l h (eh ∙ sym (el .0)) ∙ el .0 in
+      let n : length (zipWith half l h) ≡ suc w = zip-length half l h (el .0) eh in
       let em : length m ≡ suc w = el .1 .0 in
       rw (zip-get mean (zipWith half l h) m 0 (pos 0) (omega arith) (omega arith), zip3-get odd x (zipWith half l h) h 0 (pos 0) (omega arith) (omega arith) (omega arith), zip-get half l h 0 (pos 0) (omega arith) (omega arith))
   from-heads x h (l ∷ ls) (k ∷ hs) ex eh el ek =
-      let n : length (zipWith3 even l h k) ≡ suc w = zip3-length even l h k (eh ∙ sym (el .0)) (ek .0 ∙ sym (el .0)) ∙ el .0 in
+      let n : length (zipWith3 even l h k) ≡ suc w = zip3-length even l h k (el .0) eh (ek .0) in
       let e : head (zipWith3 even l h k) ≡ even (head l) (head h) (head k) = zip3-get even l h k 0 (pos 0) (omega arith) (omega arith) (omega arith) in
       let o : head (zipWith3 odd x (zipWith3 even l h k) h) ≡ odd (head x) (head (zipWith3 even l h k)) (head h) = zip3-get odd x (zipWith3 even l h k) h 0 (pos 0) (omega arith) (omega arith) (omega arith) in
       rw (o, from-heads (zipWith3 even l h k) k ls hs n (ek .0) (el .1) (ek .1), e)
@@ -83,12 +87,13 @@ module _ (w : ℕ) where
   line-heads [] hs el ek = refl
   line-heads (l ∷ ls) [] el ek = refl
   line-heads (l ∷ ls) (h ∷ hs) el ek =
-      let n : length (zipWith edge l h) ≡ suc w = zip-length edge l h (ek .0 ∙ sym (el .0)) ∙ el .0 in
+      let n : length (zipWith edge l h) ≡ suc w = zip-length edge l h (el .0) (ek .0) in
       from-heads (zipWith edge l h) h ls hs n (ek .0) (el .1) (ek .1)
       ∙ ap (λ (z : ℤ). from z (head h) (heads ls) (heads hs)) (zip-get edge l h 0 (pos 0) (omega arith) (omega arith))
 
 -- ════ the other columns ════
 
+-- from the even row x on
 from-tails : (x h : List ℤ) (ls hs : List (List ℤ)) → tails (fromRows x h ls hs) ≡ fromRows (drop 1 x) (drop 1 h) (tails ls) (tails hs)
 unfolding fromRows
 from-tails x h [] hs = rw (zip-drop tail x h)
@@ -105,6 +110,7 @@ line-tails (l ∷ ls) (h ∷ hs) = from-tails (zipWith edge l h) h ls hs ∙ ap 
 
 -- ════ all of them ════
 
+-- rows without their first place
 wide-tails : (w : ℕ) (rs : List (List ℤ)) → Wide (suc w) rs → Wide w (tails rs)
 wide-tails w [] v = tt
 wide-tails w ([] ∷ rs) v = absurd (omega (arith, v .0))
@@ -118,24 +124,26 @@ line-columns (suc w) ls hs el ek =
     ap₂ _∷_ (sym (line-heads w ls hs el ek)) (line-columns w (tails ls) (tails hs) (wide-tails w ls el) (wide-tails w hs ek) ∙ ap (columns w) (sym (line-tails ls hs)))
 
 module _ (w : ℕ) where
+  -- rows of rows that are w wide are w wide, from the even row x on
   from-wide : (x h : List ℤ) (ls hs : List (List ℤ)) → length x ≡ w → length h ≡ w → Wide w ls → Wide w hs → Wide w (fromRows x h ls hs)
   unfolding fromRows
-  from-wide x h [] hs ex eh el ek = (ex, (zip-length tail x h (eh ∙ sym ex) ∙ ex, tt))
+  from-wide x h [] hs ex eh el ek = (ex, (zip-length tail x h ex eh, tt))
   from-wide x h (l ∷ []) [] ex eh el ek =
-      let n : length (zipWith edge l h) ≡ w = zip-length edge l h (eh ∙ sym (el .0)) ∙ el .0 in
-      (ex, (zip3-length odd x (zipWith edge l h) h (omega arith) (omega arith) ∙ ex, (n, tt)))
+      let n : length (zipWith edge l h) ≡ w = zip-length edge l h (el .0) eh in
+      (ex, (zip3-length odd x (zipWith edge l h) h ex n eh, (n, tt)))
   from-wide x h (l ∷ m ∷ ls) [] ex eh el ek =
-      let n : length (zipWith half l h) ≡ w = zip-length half l h (eh ∙ sym (el .0)) ∙ el .0 in
-      (ex, (zip3-length odd x (zipWith half l h) h (omega arith) (omega arith) ∙ ex, (n, (zip-length mean (zipWith half l h) m (el .1 .0 ∙ sym n) ∙ n, tt))))
+      let n : length (zipWith half l h) ≡ w = zip-length half l h (el .0) eh in
+      (ex, (zip3-length odd x (zipWith half l h) h ex n eh, (n, (zip-length mean (zipWith half l h) m n (el .1 .0), tt))))
   from-wide x h (l ∷ ls) (k ∷ hs) ex eh el ek =
-      let n : length (zipWith3 even l h k) ≡ w = zip3-length even l h k (eh ∙ sym (el .0)) (ek .0 ∙ sym (el .0)) ∙ el .0 in
-      (ex, (zip3-length odd x (zipWith3 even l h k) h (omega arith) (omega arith) ∙ ex, from-wide (zipWith3 even l h k) k ls hs n (ek .0) (el .1) (ek .1)))
+      let n : length (zipWith3 even l h k) ≡ w = zip3-length even l h k (el .0) eh (ek .0) in
+      (ex, (zip3-length odd x (zipWith3 even l h k) h ex n eh, from-wide (zipWith3 even l h k) k ls hs n (ek .0) (el .1) (ek .1)))
 
+  -- and all
   line-wide : (ls hs : List (List ℤ)) → Wide w ls → Wide w hs → Wide w (lineRows ls hs)
   unfolding lineRows
   line-wide [] hs el ek = tt
   line-wide (l ∷ ls) [] el ek = tt
-  line-wide (l ∷ ls) (h ∷ hs) el ek = from-wide (zipWith edge l h) h ls hs (zip-length edge l h (ek .0 ∙ sym (el .0)) ∙ el .0) (ek .0) (el .1) (ek .1)
+  line-wide (l ∷ ls) (h ∷ hs) el ek = from-wide (zipWith edge l h) h ls hs (zip-length edge l h (el .0) (ek .0)) (ek .0) (el .1) (ek .1)
 
 -- as many rows as low and high ones together
 line-count : (w : ℕ) (ls hs : List (List ℤ)) → Halves (length ls) (length hs) → Wide (suc w) ls → Wide (suc w) hs → length (lineRows ls hs) ≡ length ls + length hs
@@ -144,7 +152,7 @@ line-count w ls hs v el ek =
     let b : length (heads hs) ≡ length hs = length-map hs _ in
     sym (length-map (lineRows ls hs) _) ∙ ap length (line-heads w ls hs el ek) ∙ line-length (heads ls) (heads hs) (rw (a, b) v) ∙ rw (a, b)
 
--- where there are as many rows as columns, that is what the code computes
+-- all columns at once, row by row, are the lines of the columns: low and high rows that are as wide as there are rows of both
 pub line-down : (w : ℕ) (ls hs : List (List ℤ)) → Halves (length ls) (length hs) → length ls + length hs ≡ w → Wide w ls → Wide w hs → lineRows ls hs ≡ down w ls hs
 unfolding down
 line-down zero ls hs v e el ek = absurd (omega arith)
@@ -156,5 +164,5 @@ line-down (suc w) ls hs v e el ek =
 pub down-flat : (n : ℕ) (ls hs : List (List ℤ)) → length (flatten (down n ls hs)) ≡ n * n
 unfolding down
 down-flat n ls hs =
-    let c : length (zipWith line (columns n ls) (columns n hs)) ≡ n = zip-length line (columns n ls) (columns n hs) (columns-count n hs ∙ sym (columns-count n ls)) ∙ columns-count n ls in
+    let c : length (zipWith line (columns n ls) (columns n hs)) ≡ n = zip-length line (columns n ls) (columns n hs) (columns-count n ls) (columns-count n hs) in
     columns-flat n (zipWith line (columns n ls) (columns n hs)) ∙ ap (λ (k : ℕ). n * k) c

@@ -6,4 +6,5 @@ mod Fronts
 mod RowByRow
 mod Rows
 mod Columns
-pub mod Blocks
+mod Blocks
+pub mod Lengths

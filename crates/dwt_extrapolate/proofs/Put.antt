@@ -24,6 +24,7 @@ drop-more d d₀ g j e f =
     ap (λ (z : ℕ). drop z d) (sym n) ∙ sym (drop-drop (j - g) g d) ∙ ap (drop (j - g)) f ∙ drop-drop (j - g) g d₀ ∙ ap (λ (z : ℕ). drop z d₀) n
 
 module _ (d u : List ℤ) (i k : ℕ) (e : i ≤ length d) (f : length u ≡ k) where
+  -- what lies before the part, with it
   front-length : length (take i d ++ u) ≡ i + k
   front-length = rw (length-append, length-take-le i d e, f)
 

@@ -16,6 +16,7 @@ use Rattle.dwt_extrapolate.proofs.Put.{put-take}
 
 -- ════ rows of w places ════
 
+-- each has w
 abbrev pub Wide : ℕ → List (List ℤ) → Type 0
 Wide w [] = Unit
 Wide w (r ∷ rs) = (length r ≡ w) × Wide w rs
@@ -34,10 +35,12 @@ flat-rows w (r ∷ rs) t v = rw (append-assoc, take-at r (flatten rs ++ t) w (v 
 
 -- ════ lines ════
 
+-- one more, before the others
 lines-more : (p q m : ℕ) (b e : List ℤ) → flatten (lines p q (suc m) b e) ≡ line (take p b) (take q e) ++ flatten (lines p q m (drop p b) (drop q e))
 unfolding lines rows zipWith flatten
 lines-more p q m b e = refl
 
+-- none
 pub lines-none : (p q : ℕ) (b e : List ℤ) → flatten (lines p q 0 b e) ≡ []
 unfolding lines rows zipWith flatten
 lines-none p q b e = refl

@@ -1,5 +1,5 @@
 -- `dwt_extrapolate::edge_row` meets its contract. Assumes nothing.
-use mathlib.Core.Path.{_≡_, refl}
+use mathlib.Core.Path.{_≡_, refl, _∙_}
 use Prim.Native.Nat.{_-_, _≤_}
 use native.Mathlib.Omega.{arith}
 use lib.IntN.{pos}
@@ -29,7 +29,7 @@ loop-again c =
     let y : toZ w16 (ofZ w16 (c .edge-sample .result)) ≡ c .edge-sample .result = search needs in (
       omega arith,
       simp length-set (omega arith),
-      edge-turn (a .l .now) (a .h .now) (a .d .now) (omega arith) (omega arith) (at .d) (at .i) _ (omega arith) (at .inv .2) (cc (c .edge-sample .ensures)),
+      edge-turn (a .l .now) (a .h .now) (a .d .now) (omega arith) (omega arith) (at .d) (at .i) _ (omega arith) (at .inv .2) (y ∙ (rw (l, h) at (c .edge-sample .ensures))),
     )
 
 returns : tie.Need-returns Inv-loop μ-loop

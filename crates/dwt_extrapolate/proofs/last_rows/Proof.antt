@@ -1,5 +1,5 @@
 -- `dwt_extrapolate::last_rows` meets its contract. Assumes nothing.
-use mathlib.Core.Path.{_≡_, refl, ap, _∙_}
+use mathlib.Core.Path.{_≡_, refl, _∙_}
 use Prim.Native.Nat.{_-_, _≤_}
 use native.Mathlib.Omega.{arith}
 use lib.IntN.{pos}
@@ -7,7 +7,6 @@ use lib.ListN.{length, getD, length-set}
 use mir.Syntax.{w16}
 use mir.Val.{toZ, ofZ}
 use borrow.Author.Needs.{needs}
-use Rattle.dwt_lines.specs.Line.{mean}
 use Rattle.dwt_extrapolate.proofs.Fronts.{LastDone, last-start, last-turn, last-done}
 use Rattle.dwt_extrapolate.proofs.last_rows.Statement.{statement}
 use Rattle.dwt_extrapolate.proofs.last_rows.Tie as tie
@@ -37,7 +36,7 @@ loop-again c =
       omega arith,
       simp length-set (omega arith),
       last-turn (a .l .now) (a .h .now) (a .m .now) (a .d .now) (omega arith) (omega arith) (omega arith) (at .d) (at .i) _ _ _ (omega arith) (at .inv .2)
-          (cc (half .ensures)) (cc (odd .ensures)) (z ∙ c .mean-sample .ensures ∙ ap (mean (toZ w16 (ofZ w16 (half .result)))) m),
+          (y ∙ (rw (l, h) at (half .ensures))) (o ∙ (rw (x, h) at (odd .ensures))) (z ∙ (rw m at (c .mean-sample .ensures))),
     )
 
 returns : tie.Need-returns Inv-loop μ-loop

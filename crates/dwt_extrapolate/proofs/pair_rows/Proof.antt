@@ -1,5 +1,5 @@
 -- `dwt_extrapolate::pair_rows` meets its contract. Assumes nothing.
-use mathlib.Core.Path.{_≡_, refl}
+use mathlib.Core.Path.{_≡_, refl, _∙_}
 use Prim.Native.Nat.{_-_, _≤_}
 use native.Mathlib.Omega.{arith}
 use lib.IntN.{pos}
@@ -34,7 +34,7 @@ loop-again c =
       omega arith,
       simp length-set (omega arith),
       pair-turn (a .l .now) (a .h .now) (a .k .now) (a .d .now) (omega arith) (omega arith) (omega arith) (at .d) (at .i) _ _ (omega arith) (at .inv .2)
-          (cc (even .ensures)) (cc (c .odd-sample .ensures)),
+          (y ∙ (rw (l, h, k) at (even .ensures))) (o ∙ (rw (x, h) at (c .odd-sample .ensures))),
     )
 
 returns : tie.Need-returns Inv-loop μ-loop

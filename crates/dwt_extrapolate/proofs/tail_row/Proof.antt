@@ -1,5 +1,5 @@
 -- `dwt_extrapolate::tail_row` meets its contract. Assumes nothing.
-use mathlib.Core.Path.{_≡_, refl}
+use mathlib.Core.Path.{_≡_, refl, _∙_}
 use Prim.Native.Nat.{_-_, _≤_}
 use native.Mathlib.Omega.{arith}
 use lib.IntN.{pos}
@@ -29,7 +29,7 @@ loop-again c =
     let t : toZ w16 (ofZ w16 (c .tail-sample .result)) ≡ c .tail-sample .result = search needs in (
       omega arith,
       simp length-set (omega arith),
-      tail-turn (a .h .now) (a .d .now) (omega arith) (at .d) (at .i) _ (omega arith) (at .inv .2) (cc (c .tail-sample .ensures)),
+      tail-turn (a .h .now) (a .d .now) (omega arith) (at .d) (at .i) _ (omega arith) (at .inv .2) (t ∙ (rw (x, h) at (c .tail-sample .ensures))),
     )
 
 returns : tie.Need-returns Inv-loop μ-loop
