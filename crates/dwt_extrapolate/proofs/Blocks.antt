@@ -9,12 +9,13 @@ use lib.IntN.{ℤ}
 use lib.ListN.{length, take, drop, length-append, length-drop, drop-of-length-le}
 use lib.Seq.{drop-drop, take-at, drop-at}
 use Rattle.dwt_lines.specs.Line.{Halves}
-use Rattle.dwt_extrapolate.specs.Block.{rows, lines, lows, highs, down, scratch, block, blockAt}
+use Rattle.dwt_extrapolate.specs.Block.{lines, lows, highs, scratch, block, blockAt}
 use Rattle.dwt_extrapolate.specs.Transform.{inner, inverse, scratched}
-use Rattle.dwt_extrapolate.specs.Inner.{lineRows, put}
-use Rattle.dwt_extrapolate.proofs.Put.{part-length, to-end, drop-more}
-use Rattle.dwt_extrapolate.proofs.Rows.{Wide, flat-length, flat-rows, lines-wide}
-use Rattle.dwt_extrapolate.proofs.Columns.{line-down}
+use Rattle.dwt_columns.specs.Columns.{rows, down}
+use Rattle.dwt_columns.specs.Inner.{put}
+use Rattle.dwt_columns.proofs.Put.{part-length, to-end, drop-more}
+use Rattle.dwt_columns.proofs.Wide.{Wide}
+use Rattle.dwt_extrapolate.proofs.Rows.{flat-length, flat-rows, lines-wide}
 
 -- ════ the rows of a block ════
 
@@ -65,7 +66,7 @@ module _ (p q : ℕ) (v : Halves p q) (b : List ℤ) (nb : (p + q) * (p + q) ≤
         rw (none, append-nil, front, e₂, all, back, end)
 
     -- the buffer D after the columns
-    pub block-cols : (D : List ℤ) → D ≡ flatten (lineRows (rows (p + q) p (put (p * (p + q)) k t₁ u)) (rows (p + q) q (drop (p * (p + q)) (put (p * (p + q)) k t₁ u)))) ++ drop ((p + q) * (p + q)) b → D ≡ block p q b
+    pub block-cols : (D : List ℤ) → D ≡ flatten (down (p + q) (rows (p + q) p (put (p * (p + q)) k t₁ u)) (rows (p + q) q (drop (p * (p + q)) (put (p * (p + q)) k t₁ u)))) ++ drop ((p + q) * (p + q)) b → D ≡ block p q b
     unfolding scratch block
     block-cols D e =
         let half : ℕ = p * (p + q) in
@@ -77,8 +78,7 @@ module _ (p q : ℕ) (v : Halves p q) (b : List ℤ) (nb : (p + q) * (p + q) ≤
         let rl : rows (p + q) p (F ++ (G ++ R)) ≡ lows p q b = rw (l .0) at (flat-rows (p + q) (lows p q b) (G ++ R) (l .1)) in
         let rh : rows (p + q) q (G ++ R) ≡ highs p q b = rw (h .0) at (flat-rows (p + q) (highs p q b) R (h .1)) in
         let back : drop half (F ++ (G ++ R)) ≡ G ++ R = drop-at F (G ++ R) half lows-length in
-        let same : lineRows (lows p q b) (highs p q b) ≡ down (p + q) (lows p q b) (highs p q b) = line-down (p + q) (lows p q b) (highs p q b) (rw (l .0, h .0) v) (rw (l .0, h .0)) (l .1) (h .1) in
-        e ∙ rw (block-scratch, rl, back, rh, same)
+        e ∙ rw (block-scratch, rl, back, rh)
 
 -- ════ the three blocks ════
 

@@ -8,7 +8,7 @@ use lib.ListN.{length, take, drop, length-append, length-drop}
 use lib.Seq.{length-take-le}
 use Rattle.dwt_extrapolate.specs.Block.{lows, highs, block, blockAt}
 use Rattle.dwt_extrapolate.specs.Transform.{inner, inverse}
-use Rattle.dwt_extrapolate.proofs.Columns.{down-flat}
+use Rattle.dwt_columns.proofs.Columns.{down-flat}
 
 -- after a block that begins it
 block-length : (p q : ℕ) (b : List ℤ) → (p + q) * (p + q) ≤ length b → length (block p q b) ≡ length b

@@ -10,16 +10,13 @@ use lib.ListN.{length, take, drop, length-append, length-drop}
 use lib.Seq.{drop-drop, take-at, drop-at, length-take-le}
 use Rattle.dwt_lines.specs.Line.{line, Halves}
 use Rattle.dwt_lines.proofs.Lines.{line-length}
-use Rattle.dwt_extrapolate.specs.Block.{rows, lines}
-use Rattle.dwt_extrapolate.specs.Inner.{put}
-use Rattle.dwt_extrapolate.proofs.Put.{put-take}
+use Rattle.dwt_extrapolate.specs.Block.{lines}
+use Rattle.dwt_columns.specs.Columns.{rows}
+use Rattle.dwt_columns.specs.Inner.{put}
+use Rattle.dwt_columns.proofs.Put.{put-take}
+use Rattle.dwt_columns.proofs.Wide.{Wide}
 
 -- ════ rows of w places ════
-
--- each has w
-abbrev pub Wide : ℕ → List (List ℤ) → Type 0
-Wide w [] = Unit
-Wide w (r ∷ rs) = (length r ≡ w) × Wide w rs
 
 -- so many places they take, laid out one after another
 pub flat-length : (w : ℕ) (rs : List (List ℤ)) → Wide w rs → length (flatten rs) ≡ length rs * w

@@ -11,11 +11,11 @@ use lib.ListN.{length, take, drop, length-append}
 use lib.Seq.{take-take, drop-drop, take-at, drop-at, length-take-le}
 use Rattle.dwt_lines.specs.Line.{edge, even, odd, Halves}
 use Rattle.dwt_lines.proofs.Lines.{even-edge}
-use Rattle.dwt_extrapolate.specs.Block.{rows}
-use Rattle.dwt_extrapolate.specs.Inner.{zipWith3, fromRows, lineRows, pairRows, lastRows, tailRows, put}
-use Rattle.dwt_extrapolate.proofs.Products.{scale}
-use Rattle.dwt_extrapolate.proofs.Put.{part-length, drop-more, put-kept}
-use Rattle.dwt_extrapolate.proofs.Places.{zip3-length}
+use Rattle.dwt_columns.specs.Columns.{rows}
+use Rattle.dwt_columns.specs.Inner.{zipWith3, fromRows, lineRows, pairRows, lastRows, tailRows, put}
+use Rattle.dwt_columns.proofs.Products.{scale}
+use Rattle.dwt_columns.proofs.Put.{part-length, drop-more, put-kept}
+use Rattle.dwt_columns.proofs.Places.{zip3-length}
 
 -- ════ what a call on parts says of the whole: the parts are w places from l, h, k and i on ════
 

@@ -1,16 +1,16 @@
--- `dwt_extrapolate::cols_from` meets its contract. Assumes nothing.
+-- `dwt_columns::cols_from` meets its contract. Assumes nothing.
 use mathlib.Core.Path.{_≡_, refl, _∙_}
 use mathlib.Core.List.{_++_, flatten}
 use Prim.Native.Nat.{ℕ, _+_, _*_, _-_, _≤_}
 use native.Mathlib.Omega.{arith}
 use lib.ListN.{length, take, drop}
 use borrow.Author.Needs.{needs}
-use Rattle.dwt_extrapolate.specs.Block.{rows}
-use Rattle.dwt_extrapolate.specs.Inner.{fromRows}
-use Rattle.dwt_extrapolate.proofs.Products.{scale}
-use Rattle.dwt_extrapolate.proofs.RowByRow.{cols-kept, cols-turn, cols-none, cols-one, cols-two}
-use Rattle.dwt_extrapolate.proofs.cols_from.Statement.{statement}
-use Rattle.dwt_extrapolate.proofs.cols_from.Tie as tie
+use Rattle.dwt_columns.specs.Columns.{rows}
+use Rattle.dwt_columns.specs.Inner.{fromRows}
+use Rattle.dwt_columns.proofs.Products.{scale}
+use Rattle.dwt_columns.proofs.RowByRow.{cols-kept, cols-turn, cols-none, cols-one, cols-two}
+use Rattle.dwt_columns.proofs.cols_from.Statement.{statement}
+use Rattle.dwt_columns.proofs.cols_from.Tie as tie
 
 abbrev Inv-loop : tie.InvT-loop
 Inv-loop low high dst₀ w p q l₀ h₀ d₀ m₀ dst l h d m =

@@ -7,7 +7,7 @@ use native.Mathlib.Omega.{arith}
 use lib.IntN.{ℤ}
 use lib.ListN.{length, take, drop, length-append, length-drop, take-append-drop}
 use lib.Seq.{take-all, drop-drop, take-at, drop-at, length-take-le}
-use Rattle.dwt_extrapolate.specs.Inner.{put}
+use Rattle.dwt_columns.specs.Inner.{put}
 
 -- a part has its length
 pub part-length : (d : List ℤ) (w i : ℕ) → i + w ≤ length d → length (take w (drop i d)) ≡ w

@@ -1,18 +1,18 @@
--- Columns: all columns at once, row by row, are the lines of the columns one by one. `line-down` says so, and the rest leads to it.
+-- Columns: all columns at once, row by row, are the lines of the columns one by one. `rows-down` says so, and the rest leads to it.
 -- Assumes nothing.
 use mathlib.Core.Path.{_≡_, refl, sym, ap, ap₂, _∙_}
 use mathlib.Core.List.{List, [], _∷_, map, zipWith, flatten}
-use Prim.Native.Nat.{ℕ, zero, suc, _+_, _*_}
+use Prim.Native.Nat.{ℕ, zero, suc, _+_, _*_, _≤_}
 use native.Mathlib.Nat.{suc-mul}
 use native.Mathlib.Omega.{arith}
 use lib.IntN.{ℤ, pos}
 use lib.ListN.{length, getD, drop, length-append, length-map}
 use Rattle.dwt_lines.specs.Line.{edge, even, odd, half, mean, tail, from, line, Halves}
 use Rattle.dwt_lines.proofs.Lines.{line-length}
-use Rattle.dwt_extrapolate.specs.Block.{columns, down}
-use Rattle.dwt_extrapolate.specs.Inner.{zipWith3, fromRows, lineRows}
-use Rattle.dwt_extrapolate.proofs.Places.{zip-length, zip-get, zip-drop, zip3-length, zip3-get, zip3-drop}
-use Rattle.dwt_extrapolate.proofs.Rows.{Wide}
+use Rattle.dwt_columns.specs.Columns.{rows, columns, down}
+use Rattle.dwt_columns.specs.Inner.{zipWith3, fromRows, lineRows}
+use Rattle.dwt_columns.proofs.Places.{zip-length, zip-get, zip-drop, zip3-length, zip3-get, zip3-drop}
+use Rattle.dwt_columns.proofs.Wide.{Wide, rows-wide}
 
 -- the first place of a row
 abbrev head : List ℤ → ℤ
@@ -153,12 +153,19 @@ line-count w ls hs v el ek =
     sym (length-map (lineRows ls hs) _) ∙ ap length (line-heads w ls hs el ek) ∙ line-length (heads ls) (heads hs) (rw (a, b) v) ∙ rw (a, b)
 
 -- all columns at once, row by row, are the lines of the columns: low and high rows that are as wide as there are rows of both
-pub line-down : (w : ℕ) (ls hs : List (List ℤ)) → Halves (length ls) (length hs) → length ls + length hs ≡ w → Wide w ls → Wide w hs → lineRows ls hs ≡ down w ls hs
+line-down : (w : ℕ) (ls hs : List (List ℤ)) → Halves (length ls) (length hs) → length ls + length hs ≡ w → Wide w ls → Wide w hs → lineRows ls hs ≡ down w ls hs
 unfolding down
 line-down zero ls hs v e el ek = absurd (omega arith)
 line-down (suc w) ls hs v e el ek =
     let n : length (lineRows ls hs) ≡ suc w = line-count w ls hs v el ek ∙ e in
     sym (ap (columns (suc w)) (line-columns (suc w) ls hs el ek) ∙ (rw n at (columns-back (suc w) (lineRows ls hs) (line-wide (suc w) ls hs el ek))))
+
+-- and so for the rows of two lists
+pub rows-down : (w p q : ℕ) (b d : List ℤ) → Halves p q → w ≡ p + q → p * w ≤ length b → q * w ≤ length d → lineRows (rows w p b) (rows w q d) ≡ down w (rows w p b) (rows w q d)
+rows-down w p q b d v e m n =
+    let r = rows-wide w p b m in
+    let s = rows-wide w q d n in
+    line-down w (rows w p b) (rows w q d) (rw (r .0, s .0) v) (rw (r .0, s .0) (sym e)) (r .1) (s .1)
 
 -- the columns, laid out row by row, take n times n places
 pub down-flat : (n : ℕ) (ls hs : List (List ℤ)) → length (flatten (down n ls hs)) ≡ n * n

@@ -10,8 +10,8 @@ use lib.IntN.{ℤ, pos}
 use lib.ListN.{length, getD, set, take, drop, length-set, length-append, drop-of-length-le, List·getD-append}
 use lib.Seq.{take-all, length-take-le, paste, paste-zero, paste-suc, length-paste, take-paste, getD-take, set-append-left, take-set-lt, drop-set-lt}
 use Rattle.dwt_lines.specs.Line.{edge, even, odd, half, mean, tail}
-use Rattle.dwt_extrapolate.specs.Inner.{zipWith3, pairRows, lastRows, tailRows}
-use Rattle.dwt_extrapolate.proofs.Places.{zip-length, zip-get, zip3-length, zip3-get}
+use Rattle.dwt_columns.specs.Inner.{zipWith3, pairRows, lastRows, tailRows}
+use Rattle.dwt_columns.proofs.Places.{zip-length, zip-get, zip3-length, zip3-get}
 
 -- ════ one front ════
 

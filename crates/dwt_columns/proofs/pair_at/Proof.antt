@@ -1,10 +1,10 @@
--- `dwt_extrapolate::pair_at` meets its contract. Assumes nothing.
+-- `dwt_columns::pair_at` meets its contract. Assumes nothing.
 use Prim.Native.Nat.{_+_, _*_, _-_}
 use native.Mathlib.Omega.{arith}
 use borrow.Author.Needs.{needs}
-use Rattle.dwt_extrapolate.proofs.RowByRow.{pair-put}
-use Rattle.dwt_extrapolate.proofs.pair_at.Statement.{statement}
-use Rattle.dwt_extrapolate.proofs.pair_at.Tie as tie
+use Rattle.dwt_columns.proofs.RowByRow.{pair-put}
+use Rattle.dwt_columns.proofs.pair_at.Statement.{statement}
+use Rattle.dwt_columns.proofs.pair_at.Tie as tie
 
 returns : tie.Need-returns
 returns c =

@@ -1,4 +1,4 @@
--- `dwt_extrapolate::tail_row` meets its contract. Assumes nothing.
+-- `dwt_columns::edge_row` meets its contract. Assumes nothing.
 use mathlib.Core.Path.{_≡_, refl, _∙_}
 use Prim.Native.Nat.{_-_, _≤_}
 use native.Mathlib.Omega.{arith}
@@ -7,39 +7,39 @@ use lib.ListN.{length, getD, length-set}
 use mir.Syntax.{w16}
 use mir.Val.{toZ, ofZ}
 use borrow.Author.Needs.{needs}
-use Rattle.dwt_extrapolate.proofs.Fronts.{TailDone, tail-start, tail-turn, tail-done}
-use Rattle.dwt_extrapolate.proofs.tail_row.Statement.{statement}
-use Rattle.dwt_extrapolate.proofs.tail_row.Tie as tie
+use Rattle.dwt_columns.proofs.Fronts.{EdgeDone, edge-start, edge-turn, edge-done}
+use Rattle.dwt_columns.proofs.edge_row.Statement.{statement}
+use Rattle.dwt_columns.proofs.edge_row.Tie as tie
 
 abbrev Inv-loop : tie.InvT-loop
-Inv-loop h d₀ w i₀ d i = (i ≤ length h) × (length d ≡ length d₀) × TailDone h d₀ i d
+Inv-loop l h d₀ i₀ d i = (i ≤ length l) × (length d ≡ length d₀) × EdgeDone l h d₀ i d
 
 abbrev μ-loop : tie.MeasureT-loop
-μ-loop h d₀ w i₀ d i = length h - i
+μ-loop l h d₀ i₀ d i = length l - i
 
 loop-holds : tie.Need-loop-holds Inv-loop μ-loop
-loop-holds c = (omega arith, refl, tail-start (c .args .h .now) (c .args .d .now))
+loop-holds c = (omega arith, refl, edge-start (c .args .l .now) (c .args .h .now) (c .args .d .now))
 
 loop-again : tie.Need-loop-again Inv-loop μ-loop
 loop-again c =
     let a = c .before .before .before .before .before .args in
     let at = c .before .before .before .before .loop in
-    let x : toZ w16 (ofZ w16 (getD (at .d) (at .i) (pos 0))) ≡ getD (at .d) (at .i) (pos 0) = search needs in
+    let l : toZ w16 (ofZ w16 (getD (a .l .now) (at .i) (pos 0))) ≡ getD (a .l .now) (at .i) (pos 0) = search needs in
     let h : toZ w16 (ofZ w16 (getD (a .h .now) (at .i) (pos 0))) ≡ getD (a .h .now) (at .i) (pos 0) = search needs in
-    let t : toZ w16 (ofZ w16 (c .tail-sample .result)) ≡ c .tail-sample .result = search needs in (
+    let y : toZ w16 (ofZ w16 (c .edge-sample .result)) ≡ c .edge-sample .result = search needs in (
       omega arith,
       simp length-set (omega arith),
-      tail-turn (a .h .now) (a .d .now) (omega arith) (at .d) (at .i) _ (omega arith) (at .inv .2) (t ∙ (rw (x, h) at (c .tail-sample .ensures))),
+      edge-turn (a .l .now) (a .h .now) (a .d .now) (omega arith) (omega arith) (at .d) (at .i) _ (omega arith) (at .inv .2) (y ∙ (rw (l, h) at (c .edge-sample .ensures))),
     )
 
 returns : tie.Need-returns Inv-loop μ-loop
 returns c =
     let a = c .before .before .args in
     let at = c .before .loop in
-    tail-done (a .h .now) (a .d .now) (omega arith) (at .d) (at .i) (omega arith) (at .inv .2)
+    edge-done (a .l .now) (a .h .now) (a .d .now) (omega arith) (omega arith) (at .d) (at .i) (omega arith) (at .inv .2)
 
-pub tail-row-spec : {M : Type 1} → statement M
-tail-row-spec =
+pub edge-row-spec : {M : Type 1} → statement M
+edge-row-spec =
     tie.close
     (tie.spec
     Inv-loop
@@ -52,7 +52,6 @@ tail-row-spec =
     (λ c κs. search needs)
     (λ c. search needs)
     (λ c. search needs)
-    (λ c. omega arith)
     (λ c. search needs)
     (λ c. search needs)
     loop-again

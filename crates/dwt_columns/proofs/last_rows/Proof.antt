@@ -1,4 +1,4 @@
--- `dwt_extrapolate::last_rows` meets its contract. Assumes nothing.
+-- `dwt_columns::last_rows` meets its contract. Assumes nothing.
 use mathlib.Core.Path.{_≡_, refl, _∙_}
 use Prim.Native.Nat.{_-_, _≤_}
 use native.Mathlib.Omega.{arith}
@@ -7,9 +7,9 @@ use lib.ListN.{length, getD, length-set}
 use mir.Syntax.{w16}
 use mir.Val.{toZ, ofZ}
 use borrow.Author.Needs.{needs}
-use Rattle.dwt_extrapolate.proofs.Fronts.{LastDone, last-start, last-turn, last-done}
-use Rattle.dwt_extrapolate.proofs.last_rows.Statement.{statement}
-use Rattle.dwt_extrapolate.proofs.last_rows.Tie as tie
+use Rattle.dwt_columns.proofs.Fronts.{LastDone, last-start, last-turn, last-done}
+use Rattle.dwt_columns.proofs.last_rows.Statement.{statement}
+use Rattle.dwt_columns.proofs.last_rows.Tie as tie
 
 abbrev Inv-loop : tie.InvT-loop
 Inv-loop l h m d₀ w i₀ d i = (i ≤ length l) × (length d ≡ length d₀) × LastDone l h m d₀ i d

@@ -6,7 +6,7 @@ use Prim.Native.Nat.{ℕ, zero, suc, _<_}
 use native.Mathlib.Omega.{arith}
 use lib.IntN.{ℤ}
 use lib.ListN.{length, getD, drop}
-use Rattle.dwt_extrapolate.specs.Inner.{zipWith3}
+use Rattle.dwt_columns.specs.Inner.{zipWith3}
 
 -- ════ of two ════
 
