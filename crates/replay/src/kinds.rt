@@ -20,6 +20,8 @@ fn same(kind: u8, c: &[u8]) -> bool {
         38 => upgrade::dequantize_agrees(c),
         39 => tiles::load_agrees(c),
         40 => ladder::agrees(c),
+        41 | 42 | 43 | 44 => replay_pixels::agrees(kind, c),
+        45 => tiles::pixels_agrees(c),
         _ => leaves::agrees(kind, c),
     }
 }
@@ -47,7 +49,7 @@ fn wrong_case(c: &[u8]) -> bool {
     let kind = c[0];
     let from: usize = 1;
     match kind {
-        32 | 33 | 36 | 37 | 38 | 39 | 40 => !same(kind, &c[from..]),
+        32 | 33 | 36 | 37 | 38 | 39 | 40 | 45 => !same(kind, &c[from..]),
         _ => false,
     }
 }

@@ -1,7 +1,9 @@
-// The tiles of kinds 39 and 40: what a case's seed, shape and other fields give; and kind 39, a tile that is loaded.
+// The tiles of kinds 39, 40 and 45: what a case's seed, shape and other fields give; kind 39, a tile that is loaded; and kind 45, a tile's
+// pixels.
 use replay_input::component;
 use replay_input::digests;
 use replay_input::number;
+use replay_input::outputs;
 use replay_passes::upgrade;
 ghost use Prim.Native.Nat.{_≤_};
 ghost use lib.ListN.{length};
@@ -207,4 +209,23 @@ pub fn load_agrees(c: &[u8]) -> bool {
     let answer = done.answer;
     let t = done.tile;
     same_answer(c, 92, answer, t)
+}
+
+// Makes the pixels of a tile in the bytes that the case lends: the refusal.
+fn paint(c: &[u8], t: tile::TileState, pixels: &mut [u8]) -> u8 {
+    let n = number::at_most(number::u16_at(c, 80) as usize, pixels.len());
+    answer::number_of(t.reconstruct_to_rgba(&mut pixels[..n]))
+}
+
+// Kind 45: whether the port agrees with a case.
+pub fn pixels_agrees(c: &[u8]) -> bool {
+    if c.len() != 91 {
+        return false;
+    }
+    let mut pixels = [0u8; 16640];
+    outputs::fill(&mut pixels);
+    if paint(c, built(c), &mut pixels) != number::u8_at(c, 82) {
+        return false;
+    }
+    digests::with_bytes(0, &pixels) == number::u64_at(c, 83)
 }

@@ -1,4 +1,4 @@
-// The components of kinds 36 to 40: what a seed and a case's shape give. oracle/README.md has the rule.
+// The components of kinds 36 to 40 and 45: what a seed and a case's shape give. oracle/README.md has the rule.
 use crate::digests;
 use crate::number;
 use upgrade_steps::span;

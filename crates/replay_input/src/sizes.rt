@@ -4,17 +4,17 @@
 pub fn case_size(kind: u8) -> usize {
     match kind {
         1 | 3 | 9 => 6,
-        2 => 9,
+        2 | 43 => 9,
         4 | 5 | 6 | 11 => 5,
         7 | 8 => 7,
         10 => 4,
         12 | 21 => 3,
         15 => 2,
-        13 => 12,
+        13 | 34 | 42 | 44 => 12,
         14 => 14,
         20 => 10,
-        31 => 16,
-        34 => 12,
+        31 => 24,
+        41 => 22,
         _ => 0,
     }
 }
@@ -22,7 +22,7 @@ pub fn case_size(kind: u8) -> usize {
 // Whether a record of a kind is one case, whatever its size.
 pub fn is_one_case(kind: u8) -> bool {
     match kind {
-        32 | 33 | 35 | 36 | 37 | 38 | 39 | 40 => true,
+        32 | 33 | 35 | 36 | 37 | 38 | 39 | 40 | 45 => true,
         _ => false,
     }
 }

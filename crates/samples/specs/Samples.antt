@@ -11,6 +11,7 @@ use Rattle.srl.specs.Laws.{streamFrom}
 use Rattle.upgrade_steps.specs.Steps.{Step, stepAt}
 use Rattle.progressive_decoder.specs.Upgrade.{upgradedCoefficients, upgradedSigns}
 use Rattle.progressive_encoder.specs.Encode.{srlDifferences, passFault}
+use Rattle.color.specs.Color.{rgb}
 
 -- ════ SRL, written: one call of `encode`, then `finish` ════
 
@@ -112,6 +113,23 @@ valuedAs s = srlDifferences (placed false (s .from) (s .to)) (s .coefficient ∷
 abbrev pub refusedAs : PassWritten → ℕ
 refusedAs s = passFault (placed false (s .from) (s .to)) (s .coefficient ∷ []) (s .over ∷ []) (pos 0 ∷ [])
 
+-- ════ the colours of a pixel ════
+
+-- a sample: luma and chroma, and red, green and blue
+pub record Coloured : Type 0 where
+  pub y : ℤ
+  pub cb : ℤ
+  pub cr : ℤ
+  pub bytes : List ℕ
+
+-- cr 100
+abbrev pub coloured : List Coloured
+coloured = record { y = pos 0; cb = pos 0; cr = pos 100; bytes = 255 ∷ 57 ∷ 128 ∷ [] } ∷ []
+
+-- what the definitions give for it
+abbrev pub colouredAs : Coloured → List ℕ
+colouredAs s = rgb (s .y) (s .cb) (s .cr)
+
 -- ════ the statement ════
 
 -- each sample is what the definitions give
@@ -124,3 +142,4 @@ pub record BenchSamples : Type 0 where
   pub pass-signs : map signedAs passRead ≡ map (λ s. s .sign ∷ []) passRead
   pub pass-values : map valuedAs passWritten ≡ map (λ s. s .value ∷ []) passWritten
   pub pass-refusals : map refusedAs passWritten ≡ map (λ s. s .refusal) passWritten
+  pub colours : map colouredAs coloured ≡ map (λ s. s .bytes) coloured

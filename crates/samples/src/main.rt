@@ -216,6 +216,73 @@ fn show_dequantized(quantizer: u8, v: i16) {
     show_answer(answer, &coefficients, 0);
 }
 
+// A byte in decimal, after a space.
+fn colour(b: u8) {
+    text(b" ");
+    decimal(b as u64);
+}
+
+// The first bytes of a list, in decimal.
+fn some_colours(bytes: &[u8], count: usize) {
+    let mut i: usize = 0;
+    while i < bytes.len() {
+        if i == count {
+            return;
+        }
+        colour(bytes[i]);
+        i += 1;
+    }
+}
+
+// The colours of a pixel.
+fn show_colours() {
+    text(b"y 0, cb 0, cr 100:");
+    let p = color::ycbcr_to_rgb(0, 0, 100);
+    some_colours(&p, 3);
+    text(b"\n");
+}
+
+// The first sample of a component that has -32768 in the first place of LL3, 1 in the first place of HL1, and else zeros. The two inner
+// blocks leave -32768 in the first place of their picture, which is the LL of the last block: so these are L0 and H0 of its first row, whose
+// first sample stands in the scratch. The first column has no high value, and leaves the sample as it is.
+fn show_transformed() {
+    text(b"L0 -32768, H0 1: first sample, in the scratch and in the picture:");
+    let mut buffer = [0i16; 4096];
+    let mut temp = [0i16; 4096];
+    buffer[4015] = -32768;
+    buffer[0] = 1;
+    let answer = dwt_extrapolate::decode(&mut buffer, &mut temp);
+    value(temp[0]);
+    show_answer(answer, &buffer, 0);
+}
+
+// How many bytes there are before one that is not the byte of its number modulo 4.
+fn alike(bytes: &[u8]) -> usize {
+    let mut i: usize = 0;
+    while i < bytes.len() {
+        if bytes[i] != bytes[i % 4] {
+            return i;
+        }
+        i += 1;
+    }
+    i
+}
+
+// The pixels of a tile of zeros, with positions 0 and base quantizers 6. `TileState::reconstruct_to_rgba` hands its fields to this call.
+fn show_zero_tile() {
+    text(b"a zero extrapolate tile:");
+    let mut bytes = [7u8; 16384];
+    match pixels::reconstruct_to_rgba([0; 12288], [0; 30], [6; 30], true, &mut bytes) {
+        answer::Answer::Accepted => {
+            some_colours(&bytes, 4);
+            text(b", in ");
+            decimal((alike(&bytes) / 4) as u64);
+            text(b" pixels\n");
+        }
+        answer::Answer::Refused(number) => refused(number),
+    }
+}
+
 fn main() {
     bench_samples();
     show_written(&[1i16], 1);
@@ -248,4 +315,7 @@ fn main() {
     show_dequantized(5, 1);
     show_dequantized(5, -3);
     show_dequantized(7, 20000);
+    show_colours();
+    show_transformed();
+    show_zero_tile();
 }

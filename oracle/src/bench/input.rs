@@ -1,7 +1,7 @@
-//! What is timed: components of three sorts, and a pass over them. README.md has the rule.
+//! What is timed: components of three sorts, a pass over them, and tiles. README.md has the rule.
 
 use oracle::codecs::rfx::progressive::ComponentCodecQuant;
-use oracle::progressive::{self, COEFFICIENTS_PER_COMPONENT};
+use oracle::progressive::{self, COEFFICIENTS_PER_COMPONENT, TileState};
 use oracle::random::Random;
 
 /// A number for each band, in band order.
@@ -50,6 +50,24 @@ pub struct Input {
     pub sign: Vec<i8>,
     pub srl: Vec<u8>,
     pub raw: Vec<u8>,
+}
+
+/// Several tiles of a sort, in the form of the text: its coefficients lie one after another, as the port
+/// takes them.
+pub fn tiles(sort: Sort) -> Vec<TileState> {
+    let mut random = Random::new(2, sort.known as u8);
+    (0..16).map(|_| tile(&mut random, sort)).collect()
+}
+
+fn tile(random: &mut Random, sort: Sort) -> TileState {
+    TileState {
+        coefficients: [[(); COEFFICIENTS_PER_COMPONENT]; 3]
+            .map(|component| component.map(|()| coefficient(random, sort))),
+        prog_quant: [ComponentCodecQuant::of_bands(CURR); 3],
+        base_quant: [ComponentCodecQuant::of_bands(QUANT); 3],
+        use_reduce_extrapolate: USE_REDUCE_EXTRAPOLATE,
+        ..TileState::new()
+    }
 }
 
 /// Several components of a sort, so that no side learns one by heart.

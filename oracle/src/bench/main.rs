@@ -9,14 +9,18 @@ use std::process::ExitCode;
 use std::time::Instant;
 
 use oracle::codecs::rfx::progressive::ComponentCodecQuant;
-use oracle::progressive::{self, COEFFICIENTS_PER_COMPONENT, reach};
+use oracle::dwt_extrapolate;
+use oracle::progressive::{self, COEFFICIENTS_PER_COMPONENT, TileState, reach};
 
-use input::{CURR, Input, PREV, QUANT, SORTS, USE_REDUCE_EXTRAPOLATE, inputs};
+use input::{CURR, Input, PREV, QUANT, SORTS, USE_REDUCE_EXTRAPOLATE, inputs, tiles};
 
 /// The bytes of each output that the port gets: more than any pass here takes.
 const ROOM: usize = 16384;
 
-/// How many times a batch goes over the components of its sort.
+/// The bytes of a tile's pixels.
+const PIXELS: usize = 16384;
+
+/// How many times a batch goes over the components or tiles of its sort.
 const ROUNDS: usize = 2;
 
 /// What a call works on, and what it leaves.
@@ -27,6 +31,8 @@ struct Work {
     raw: Vec<u8>,
     /// How many bytes of the two streams were written.
     written: [usize; 2],
+    temp: Vec<i16>,
+    pixels: Vec<u8>,
 }
 
 impl Work {
@@ -37,29 +43,32 @@ impl Work {
             srl: vec![0; ROOM],
             raw: vec![0; ROOM],
             written: [0; 2],
+            temp: vec![0; COEFFICIENTS_PER_COMPONENT],
+            pixels: vec![0; PIXELS],
         }
     }
 
-    fn left(&self) -> (&[i16], &[i8], &[u8], &[u8]) {
+    fn left(&self) -> ([&[i16]; 2], &[i8], [&[u8]; 3]) {
         let [srl, raw] = self.written;
         (
-            &self.coefficients,
+            [&self.coefficients, &self.temp],
             &self.sign,
-            &self.srl[..srl],
-            &self.raw[..raw],
+            [&self.srl[..srl], &self.raw[..raw], &self.pixels],
         )
     }
 }
 
-/// One call on one component, by either side.
-type Call = fn(&Input, &mut Work);
+/// One call on one component or one tile, by either side.
+type Call<I> = fn(&I, &mut Work);
 
 fn main() -> ExitCode {
     let Some(repetitions) = repetitions() else {
         eprintln!("usage: bench [REPETITIONS], at least 1");
         return ExitCode::from(2);
     };
-    println!("One component, in nanoseconds, {repetitions} batches of each side.");
+    println!(
+        "One component, in the last line one tile, in nanoseconds, {repetitions} batches of each side."
+    );
     println!("Ratio: port / Rust of each pair of batches, the median and the middle half.");
     println!("{:<34}{:>16}{:>18}", "", "median of", "lowest of");
     println!(
@@ -101,6 +110,20 @@ fn main() -> ExitCode {
         rust_dequantize,
         port_dequantize,
     );
+    row(
+        "dwt_extrapolate::decode, typical",
+        &typical,
+        repetitions,
+        rust_transform,
+        port_transform,
+    );
+    row(
+        "reconstruct_to_rgba, typical",
+        &tiles(SORTS[1]),
+        repetitions,
+        rust_reconstruct,
+        port_reconstruct,
+    );
     ExitCode::SUCCESS
 }
 
@@ -112,7 +135,7 @@ fn repetitions() -> Option<usize> {
 }
 
 /// Sees that both sides leave the same, times them in turns, and prints a line.
-fn row(name: &str, inputs: &[Input], repetitions: usize, rust: Call, port: Call) {
+fn row<I>(name: &str, inputs: &[I], repetitions: usize, rust: Call<I>, port: Call<I>) {
     let mut works = [Work::new(), Work::new()];
     for input in inputs {
         rust(input, &mut works[0]);
@@ -147,8 +170,8 @@ fn row(name: &str, inputs: &[Input], repetitions: usize, rust: Call, port: Call)
     );
 }
 
-/// Nanoseconds for each component.
-fn batch(inputs: &[Input], work: &mut Work, call: Call) -> f64 {
+/// Nanoseconds for each component or tile.
+fn batch<I>(inputs: &[I], work: &mut Work, call: Call<I>) -> f64 {
     let start = Instant::now();
     for _ in 0..ROUNDS {
         for input in inputs {
@@ -255,4 +278,31 @@ fn port_dequantize(input: &Input, work: &mut Work) {
     refresh(input, work);
     let number = port::dequantize_component(&mut work.coefficients, &QUANT, USE_REDUCE_EXTRAPOLATE);
     assert_eq!(number, 0, "the quantizers are in the domain");
+}
+
+/// The wavelet works in place too; its scratch is lent.
+fn rust_transform(input: &Input, work: &mut Work) {
+    work.coefficients.copy_from_slice(&input.before);
+    dwt_extrapolate::decode(&mut work.coefficients, &mut work.temp);
+}
+
+fn port_transform(input: &Input, work: &mut Work) {
+    work.coefficients.copy_from_slice(&input.before);
+    let number = port::dwt_extrapolate_decode(&mut work.coefficients, &mut work.temp);
+    assert_eq!(number, 0, "the slices are long enough");
+}
+
+fn rust_reconstruct(tile: &TileState, work: &mut Work) {
+    tile.reconstruct_to_rgba(&mut work.pixels);
+}
+
+fn port_reconstruct(tile: &TileState, work: &mut Work) {
+    let number = port::reconstruct_to_rgba(
+        &tile.coefficients,
+        &[CURR; 3],
+        &[QUANT; 3],
+        USE_REDUCE_EXTRAPOLATE,
+        &mut work.pixels,
+    );
+    assert_eq!(number, 0, "the tile has pixels, and there is room");
 }

@@ -1,6 +1,11 @@
 //! The port, by its C ABI.
 
+use oracle::progressive::COEFFICIENTS_PER_COMPONENT;
+
 use crate::input::Row;
+
+/// The coefficients of a tile.
+type Components = [[i16; COEFFICIENTS_PER_COMPONENT]; 3];
 
 unsafe extern "C" {
     fn tarjimp_decode_upgrade_pass(
@@ -39,6 +44,22 @@ unsafe extern "C" {
         coefficients_len: usize,
         quant: *const u8,
         use_reduce_extrapolate: bool,
+    ) -> u8;
+
+    fn tarjimp_dwt_extrapolate_decode(
+        buffer: *mut i16,
+        buffer_len: usize,
+        temp: *mut i16,
+        temp_len: usize,
+    ) -> u8;
+
+    fn tarjimp_tile_reconstruct_to_rgba(
+        coefficients: *const i16,
+        prog_quant: *const u8,
+        base_quant: *const u8,
+        use_reduce_extrapolate: bool,
+        pixels: *mut u8,
+        pixels_len: usize,
     ) -> u8;
 }
 
@@ -119,6 +140,40 @@ pub fn dequantize_component(
             coefficients.len(),
             quant.as_ptr(),
             use_reduce_extrapolate,
+        )
+    }
+}
+
+/// Transforms a component; the answer is the refusal, 0 if there is none.
+pub fn dwt_extrapolate_decode(buffer: &mut [i16], temp: &mut [i16]) -> u8 {
+    // SAFETY: as above.
+    unsafe {
+        tarjimp_dwt_extrapolate_decode(
+            buffer.as_mut_ptr(),
+            buffer.len(),
+            temp.as_mut_ptr(),
+            temp.len(),
+        )
+    }
+}
+
+/// Makes the pixels of a tile; the answer is the refusal, 0 if there is none.
+pub fn reconstruct_to_rgba(
+    coefficients: &Components,
+    prog_quant: &[Row; 3],
+    base_quant: &[Row; 3],
+    use_reduce_extrapolate: bool,
+    pixels: &mut [u8],
+) -> u8 {
+    // SAFETY: as above; the other pointers point to 12,288 numbers and to thirty bytes.
+    unsafe {
+        tarjimp_tile_reconstruct_to_rgba(
+            coefficients.as_flattened().as_ptr(),
+            prog_quant.as_flattened().as_ptr(),
+            base_quant.as_flattened().as_ptr(),
+            use_reduce_extrapolate,
+            pixels.as_mut_ptr(),
+            pixels.len(),
         )
     }
 }

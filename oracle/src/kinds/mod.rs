@@ -1,10 +1,12 @@
 //! The kinds of cases. README.md lists them.
 
 mod bands;
+mod color;
 mod fixed;
 mod progressive;
 mod room;
 mod srl;
+mod wavelet;
 mod wrong;
 
 use std::io;
@@ -25,6 +27,8 @@ pub fn record_all(recording: &mut Recording<'_>) -> io::Result<()> {
     bands::record_all(recording)?;
     let mut models = srl::record_all(recording)?;
     models.extend(progressive::record_all(recording)?);
+    wavelet::record_all(recording)?;
+    color::record_all(recording)?;
     wrong::record_all(recording)?;
     wrong::record_models(recording, &models)?;
     recording.record(END, &[])

@@ -1,4 +1,5 @@
 //! Kinds 36 to 40: a pass over one component, read and written; dequantizing; a tile, loaded and upgraded.
+//! Kind 45: a tile's pixels.
 
 mod component;
 mod decode;
@@ -6,13 +7,15 @@ mod dequantize;
 mod encode;
 mod ladder;
 mod load;
+mod pixels;
 mod tile;
 
 use std::io;
 
 use super::{NO_ROOM, record_kind, short};
 use crate::record::{Case, Recording};
-use component::{Before, Given, PLACES, Row, Shape, Signs};
+use component::{Before, Given, Row, Shape, Signs};
+pub use component::{PLACES, next, with_sign};
 use oracle::random::Random;
 
 /// The port's refusals of a slice that is too short and of a number above 15. The text panics at the
@@ -21,7 +24,7 @@ const TOO_SHORT: u8 = 1;
 const OUT_OF_DOMAIN: u8 = 2;
 
 /// The coefficients of a component.
-const COMPONENT: usize = oracle::progressive::COEFFICIENTS_PER_COMPONENT;
+pub const COMPONENT: usize = oracle::progressive::COEFFICIENTS_PER_COMPONENT;
 
 /// The greatest position, and quantizer.
 const GREATEST: u8 = 15;
@@ -37,11 +40,12 @@ pub fn record_all(recording: &mut Recording<'_>) -> io::Result<Vec<(u8, Case)>> 
     models.extend(dequantize::record_all(recording)?);
     models.extend(load::record_all(recording)?);
     models.extend(ladder::record_all(recording)?);
+    models.extend(pixels::record_all(recording)?);
     Ok(models)
 }
 
 /// The refusal for lengths and rows, 0 if there is none: 1 comes before 2.
-fn refusal(lengths: &[usize], rows: &[Row]) -> u8 {
+pub fn refusal(lengths: &[usize], rows: &[Row]) -> u8 {
     if lengths.iter().any(|&length| length < COMPONENT) {
         return TOO_SHORT;
     }

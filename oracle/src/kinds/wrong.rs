@@ -6,8 +6,8 @@ use crate::record::{Case, Kind, Recording};
 
 const WRONG_ANSWER: Kind = Kind {
     number: 31,
-    inputs: 16,
-    size: 16,
+    inputs: 24,
+    size: 24,
 };
 
 const WRONG_CASE: u8 = 35;

@@ -10,6 +10,10 @@ pub fn clamp_u8(value: i64) -> u8 {
     super::clamp_u8(value)
 }
 
+pub fn ycbcr_to_rgb(y: i16, cb: i16, cr: i16) -> [u8; 3] {
+    super::ycbcr_to_rgb(y, cb, cr)
+}
+
 pub fn round_shift_right(value: i16, shift: u8) -> i16 {
     super::round_shift_right(value, shift)
 }

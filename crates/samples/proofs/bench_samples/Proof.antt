@@ -2,19 +2,20 @@
 use mathlib.Core.Path.{refl}
 use mathlib.Core.List.{[]}
 use native.Mathlib.Omega.{arith}
-use Rattle.fixed.specs.Fixed.{clampI16, addScaled, subScaled, isZero, isOne}
+use Rattle.fixed.specs.Fixed.{clampI16, clampU8, addScaled, subScaled, isZero, isOne}
 use Rattle.bits.specs.Bits.{num, numbers, zeros}
 use Rattle.srl_decoder.specs.Srl.{values}
 use Rattle.srl_decoder.proofs.Due.{values-past}
 use Rattle.upgrade_steps.specs.Steps.{srlWidths, rawWidths}
 use Rattle.progressive_decoder.specs.Upgrade.{signsAfter, coefficientsAfter}
 use Rattle.progressive_encoder.specs.Encode.{srlDifferences, valuesFault}
+use Rattle.color.specs.Color.{red, green, blue}
 use Rattle.samples.specs.Samples.{BenchSamples}
 use Rattle.samples.proofs.bench_samples.Statement.{statement}
 use Rattle.samples.proofs.bench_samples.Tie as tie
 
 samples : BenchSamples
-unfolding values num zeros numbers clampI16 addScaled subScaled isZero isOne srlWidths rawWidths signsAfter coefficientsAfter srlDifferences valuesFault
+unfolding values num zeros numbers clampI16 clampU8 addScaled subScaled isZero isOne srlWidths rawWidths signsAfter coefficientsAfter srlDifferences valuesFault red green blue
 samples = record {
   srl-written = refl;
   srl-read = refl;
@@ -23,6 +24,7 @@ samples = record {
   pass-signs = refl;
   pass-values = refl;
   pass-refusals = refl;
+  colours = refl;
 }
 
 returns : tie.Need-returns

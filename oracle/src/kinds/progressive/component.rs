@@ -203,7 +203,7 @@ fn cut(magnitude: u16, bits: u8) -> u16 {
 }
 
 /// A magnitude with a sign, clamped.
-fn with_sign(magnitude: u16, negative: bool) -> i16 {
+pub fn with_sign(magnitude: u16, negative: bool) -> i16 {
     let value = i32::from(magnitude);
     reach::clamp_i16(if negative { -value } else { value })
 }

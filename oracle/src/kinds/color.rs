@@ -1,0 +1,100 @@
+//! Kinds 43 and 44: the colours of a pixel, `ycbcr_to_rgb`.
+
+use std::io;
+
+use oracle::progressive::reach;
+use oracle::random::{Random, limits};
+
+use crate::digest::mixed;
+use crate::record::{Cases, Kind, Recording};
+
+const YCBCR_TO_RGB: Kind = Kind {
+    number: 43,
+    inputs: 6,
+    size: 9,
+};
+const YCBCR_ROW: Kind = Kind {
+    number: 44,
+    inputs: 4,
+    size: 12,
+};
+
+/// The values of which every three are tried.
+const NINE: [i16; 9] = [-32768, -129, -128, -1, 0, 1, 127, 128, 32767];
+
+/// Those of which every two are tried as cb and cr, with every y.
+const NINETEEN: [i16; 19] = [
+    -32768, -32767, -16384, -1000, -129, -128, -127, -64, -1, 0, 1, 64, 127, 128, 129, 1000, 16384,
+    32766, 32767,
+];
+
+pub fn record_all(recording: &mut Recording<'_>) -> io::Result<()> {
+    ycbcr_to_rgb(recording)?;
+    ycbcr_row(recording)
+}
+
+fn ycbcr_to_rgb(recording: &mut Recording<'_>) -> io::Result<()> {
+    let mut random = recording.random(YCBCR_TO_RGB.number);
+    let count = recording.scaled(500);
+    let mut cases = recording.cases(YCBCR_TO_RGB);
+    add_pixel(&mut cases, 0, 0, 100)?;
+    for y in NINE {
+        for cb in NINE {
+            for cr in NINE {
+                add_pixel(&mut cases, y, cb, cr)?;
+            }
+        }
+    }
+    for _ in 0..count {
+        let [y, cb, cr] = random_pixel(&mut random);
+        add_pixel(&mut cases, y, cb, cr)?;
+    }
+    cases.finish()
+}
+
+fn add_pixel(cases: &mut Cases<'_, '_>, y: i16, cb: i16, cr: i16) -> io::Result<()> {
+    cases.add(&[
+        &y.to_le_bytes(),
+        &cb.to_le_bytes(),
+        &cr.to_le_bytes(),
+        &reach::ycbcr_to_rgb(y, cb, cr),
+    ])
+}
+
+/// Half of them such that most colours are not clamped.
+fn random_pixel(random: &mut Random) -> [i16; 3] {
+    if random.one_in(2) {
+        return [(); 3].map(|()| random.value());
+    }
+    [160, 90, 90].map(|most| random.within(0..=2 * most) as i16 - most as i16)
+}
+
+/// Every two of the nineteen values; at a larger scale every two limits.
+fn ycbcr_row(recording: &mut Recording<'_>) -> io::Result<()> {
+    let mut random = recording.random(YCBCR_ROW.number);
+    let count = recording.scaled(20);
+    let values = if recording.scaled(1) > 1 {
+        limits()
+    } else {
+        NINETEEN.to_vec()
+    };
+    let mut cases = recording.cases(YCBCR_ROW);
+    for &cb in &values {
+        for &cr in &values {
+            add_row(&mut cases, cb, cr)?;
+        }
+    }
+    for _ in 0..count {
+        add_row(&mut cases, random.value(), random.value())?;
+    }
+    cases.finish()
+}
+
+/// Every y, in the order of its bits as an unsigned number.
+fn add_row(cases: &mut Cases<'_, '_>, cb: i16, cr: i16) -> io::Result<()> {
+    let digest = (0..=u16::MAX).fold(0, |digest, y| {
+        let [red, green, blue] = reach::ycbcr_to_rgb(y.cast_signed(), cb, cr);
+        mixed(digest, u32::from_le_bytes([red, green, blue, 0]).into())
+    });
+    cases.add(&[&cb.to_le_bytes(), &cr.to_le_bytes(), &digest.to_le_bytes()])
+}

@@ -1,0 +1,225 @@
+//! Kinds 41 and 42: the inverse wavelet, `decode` of dwt_extrapolate.rs.
+
+use std::io;
+
+use oracle::dwt_extrapolate;
+use oracle::random::{Random, limits};
+
+use super::progressive::{COMPONENT, PLACES, next, refusal, with_sign};
+use super::short;
+use crate::digest::{mixed, with_values};
+use crate::record::{Cases, Kind, Recording};
+
+const DWT_DECODE: Kind = Kind {
+    number: 41,
+    inputs: 13,
+    size: 22,
+};
+const DWT_IMPULSE: Kind = Kind {
+    number: 42,
+    inputs: 4,
+    size: 12,
+};
+
+/// Values with which sums leave sixteen bits, and halves that round.
+const EXTREMES: [i16; 6] = [-32768, -32767, -1, 0, 1, 32767];
+
+/// The amplitudes of impulses. Both roundings of a half, and sums that leave sixteen bits.
+const AMPLITUDES: [i16; 16] = [
+    1, -1, 2, -2, 3, -3, 7, -129, 1000, -4097, 16383, -16385, 21845, -30001, 32767, -32768,
+];
+
+pub fn record_all(recording: &mut Recording<'_>) -> io::Result<()> {
+    decode(recording)?;
+    impulse(recording)
+}
+
+/// What the samples of a list are like.
+#[derive(Clone, Copy)]
+enum Sort {
+    /// Any magnitude of sixteen bits, shifted right so far, with any sign.
+    Any(u8),
+    /// The same at one place of sixteen, 0 at the others.
+    Few(u8),
+    /// Extremes.
+    Extreme,
+    /// The lowest sixteen bits of the seed at every place.
+    Equal,
+}
+
+/// What a case of kind 41 begins with.
+#[derive(Clone, Copy)]
+struct Given {
+    seed: u64,
+    sort: Sort,
+    /// How many elements of the buffer and of the scratch are lent.
+    lengths: [usize; 2],
+}
+
+impl Sort {
+    fn field(self) -> u8 {
+        match self {
+            Self::Any(drop) => drop,
+            Self::Few(drop) => 32 + drop,
+            Self::Extreme => 64,
+            Self::Equal => 96,
+        }
+    }
+
+    fn sample(self, seed: u64, word: u64) -> i16 {
+        match self {
+            Self::Few(_) if !word.is_multiple_of(16) => 0,
+            Self::Any(drop) | Self::Few(drop) => {
+                let magnitude = (word >> 8) as u16;
+                let negative = word >> 28 & 1 == 1;
+                with_sign(magnitude.checked_shr(drop.into()).unwrap_or(0), negative)
+            }
+            Self::Extreme => EXTREMES[(word >> 32) as usize % EXTREMES.len()],
+            Self::Equal => seed as i16,
+        }
+    }
+
+    /// The places of a list, and some behind them.
+    fn list(self, seed: u64) -> Vec<i16> {
+        let mut word = seed;
+        (0..PLACES)
+            .map(|_| {
+                word = next(word);
+                self.sample(seed, word)
+            })
+            .collect()
+    }
+}
+
+/// What lies in the scratch before a call.
+fn scratch(seed: u64) -> Vec<i16> {
+    Sort::Any(1).list(mixed(seed, 1))
+}
+
+/// Asks the text, unless a slice is too short for it: the refusal or 0, and the buffer and the scratch
+/// as one number.
+fn answer(mut buffer: Vec<i16>, mut temp: Vec<i16>, lengths: [usize; 2]) -> (u8, [u8; 8]) {
+    let number = refusal(&lengths, &[]);
+    if number == 0 {
+        dwt_extrapolate::decode(&mut buffer[..lengths[0]], &mut temp[..lengths[1]]);
+    }
+    let digest = with_values(with_values(0, buffer), temp);
+    (number, digest.to_le_bytes())
+}
+
+fn decode(recording: &mut Recording<'_>) -> io::Result<()> {
+    let mut random = recording.random(DWT_DECODE.number);
+    let count = recording.scaled(250);
+    let mut cases = recording.cases(DWT_DECODE);
+    for given in directed() {
+        add_decode(&mut cases, given)?;
+    }
+    for _ in 0..count {
+        add_decode(&mut cases, random_given(&mut random))?;
+    }
+    cases.finish()
+}
+
+fn add_decode(cases: &mut Cases<'_, '_>, given: Given) -> io::Result<()> {
+    let Given {
+        seed,
+        sort,
+        lengths,
+    } = given;
+    let (number, digest) = answer(sort.list(seed), scratch(seed), lengths);
+    cases.add(&[
+        &seed.to_le_bytes(),
+        &[sort.field()],
+        &lengths.map(short).concat(),
+        &[number],
+        &digest,
+    ])
+}
+
+/// Samples of every size, many and few; extremes; every limit at all places; and slices that are too
+/// short, or longer.
+fn directed() -> Vec<Given> {
+    let mut given = Vec::new();
+    let lengths = [COMPONENT; 2];
+    for drop in 0..=16 {
+        for sort in [Sort::Any(drop), Sort::Few(drop)] {
+            let seed = 1 + u64::from(drop);
+            given.push(Given {
+                seed,
+                sort,
+                lengths,
+            });
+        }
+    }
+    for seed in 1..=32 {
+        let sort = Sort::Extreme;
+        given.push(Given {
+            seed,
+            sort,
+            lengths,
+        });
+    }
+    for value in limits::<i16>() {
+        given.push(Given {
+            seed: u64::from(value.cast_unsigned()),
+            sort: Sort::Equal,
+            lengths,
+        });
+    }
+    let lengths = [0, 1, COMPONENT - 1, COMPONENT, COMPONENT + 1, PLACES];
+    for buffer in lengths {
+        for temp in lengths {
+            given.push(Given {
+                seed: (buffer + 2 * temp + 1) as u64,
+                sort: Sort::Any(6),
+                lengths: [buffer, temp],
+            });
+        }
+    }
+    given
+}
+
+fn random_given(random: &mut Random) -> Given {
+    Given {
+        seed: random.word() | 1,
+        sort: match random.below(8) {
+            0 | 1 => Sort::Extreme,
+            2 => Sort::Few(random.below(17)),
+            3 => Sort::Any(0),
+            _ => Sort::Any(random.below(17)),
+        },
+        lengths: [(); 2].map(|()| match random.below(16) {
+            0 => random.within(COMPONENT + 1..=PLACES),
+            1 => random.pick(&[COMPONENT - 1, COMPONENT + 1, PLACES]),
+            _ => COMPONENT,
+        }),
+    }
+}
+
+/// Each place once; at a larger scale each with all amplitudes, one after another.
+fn impulse(recording: &mut Recording<'_>) -> io::Result<()> {
+    let mut random = recording.random(DWT_IMPULSE.number);
+    let rounds = recording.scaled(1).clamp(1, AMPLITUDES.len() as u64) as usize;
+    let count = recording.scaled(100);
+    let mut cases = recording.cases(DWT_IMPULSE);
+    for round in 0..rounds {
+        for place in 0..COMPONENT {
+            // A step that differs from the width of every band, so that the amplitudes mix.
+            let amplitude = AMPLITUDES[(7 * place + place / 13 + round) % AMPLITUDES.len()];
+            add_impulse(&mut cases, place, amplitude)?;
+        }
+    }
+    for _ in 0..count {
+        let place = random.within(0..=COMPONENT - 1);
+        add_impulse(&mut cases, place, random.value())?;
+    }
+    cases.finish()
+}
+
+/// A value at one place, and zeros at the others.
+fn add_impulse(cases: &mut Cases<'_, '_>, place: usize, amplitude: i16) -> io::Result<()> {
+    let mut buffer = vec![0; PLACES];
+    buffer[place] = amplitude;
+    let (_, digest) = answer(buffer, scratch(0), [COMPONENT; 2]);
+    cases.add(&[&short(place), &amplitude.to_le_bytes(), &digest])
+}
