@@ -1,4 +1,4 @@
--- From luma and chroma to red, green and blue (docs/SCOPE.md, "Colour"; MS-RDPRFX 3.1.8.1.3 and 3.1.8.2.5, docs/DIFFERENCES.md).
+-- From luma and chroma to red, green and blue (docs/SCOPE.md, "Colour"; docs/DIFFERENCES.md has the factors of MS-RDPRFX).
 use mathlib.Core.List.{List, [], _∷_}
 use Prim.Native.Nat.{ℕ}
 use lib.IntN.{ℤ, pos, _+ℤ_, _-ℤ_, _*ℤ_}

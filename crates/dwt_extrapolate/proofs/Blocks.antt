@@ -1,4 +1,4 @@
--- Blocks: what a block's two steps leave, how long the buffer stays, the three blocks one after another, and the answers.
+-- Blocks: the rows of a block, what its two steps leave in scratch and buffer, and the three blocks one after another.
 -- Assumes nothing.
 use mathlib.Core.Path.{_≡_, sym, ap, _∙_}
 use mathlib.Core.List.{List, [], _++_, append-assoc, append-nil, flatten}
@@ -7,29 +7,34 @@ use native.Mathlib.Nat.{add-mul}
 use native.Mathlib.Omega.{arith}
 use lib.IntN.{ℤ}
 use lib.ListN.{length, take, drop, length-append, length-drop, drop-of-length-le}
-use lib.Seq.{drop-drop, take-at, drop-at, length-take-le}
+use lib.Seq.{drop-drop, take-at, drop-at}
 use Rattle.dwt_lines.specs.Line.{Halves}
-use Rattle.dwt_extrapolate.specs.Block.{rows, lines, lows, highs, down, scratch, block, blockAt}
+use Rattle.dwt_extrapolate.specs.Block.{lines, lows, highs, scratch, block, blockAt}
 use Rattle.dwt_extrapolate.specs.Transform.{inner, inverse, scratched}
-use Rattle.dwt_extrapolate.specs.Inner.{lineRows, put}
-use Rattle.dwt_extrapolate.proofs.Put.{part-length, to-end, drop-more}
-use Rattle.dwt_extrapolate.proofs.Rows.{Wide, flat-length, flat-rows, lines-wide}
-use Rattle.dwt_extrapolate.proofs.Columns.{line-down, down-flat}
+use Rattle.dwt_columns.specs.Columns.{rows, down}
+use Rattle.dwt_columns.specs.Inner.{put}
+use Rattle.dwt_columns.proofs.Put.{part-length, to-end, drop-more}
+use Rattle.dwt_columns.proofs.Wide.{Wide}
+use Rattle.dwt_extrapolate.proofs.Rows.{flat-length, flat-rows, lines-wide}
 
 -- ════ the rows of a block ════
 
 module _ (p q : ℕ) (v : Halves p q) (b : List ℤ) (nb : (p + q) * (p + q) ≤ length b) where
+  -- how many low rows there are, and how wide
   lows-wide : (length (lows p q b) ≡ p) × Wide (p + q) (lows p q b)
   unfolding lows
   lows-wide = lines-wide p q v p (drop (q * p + p * q + q * q) b) b (simp length-drop (omega arith)) (omega arith)
 
+  -- and high ones
   highs-wide : (length (highs p q b) ≡ q) × Wide (p + q) (highs p q b)
   unfolding highs
   highs-wide = lines-wide p q v q (drop (q * p) b) (drop (q * p + p * q) b) (simp length-drop (omega arith)) (simp length-drop (omega arith))
 
+  -- how long the low rows are, laid out one after another
   lows-length : length (flatten (lows p q b)) ≡ p * (p + q)
   lows-length = flat-length (p + q) (lows p q b) (lows-wide .1) ∙ ap (λ (n : ℕ). n * (p + q)) (lows-wide .0)
 
+  -- and the high ones
   highs-length : length (flatten (highs p q b)) ≡ q * (p + q)
   highs-length = flat-length (p + q) (highs p q b) (highs-wide .1) ∙ ap (λ (n : ℕ). n * (p + q)) (highs-wide .0)
 
@@ -47,6 +52,7 @@ module _ (p q : ℕ) (v : Halves p q) (b : List ℤ) (nb : (p + q) * (p + q) ≤
   -- t is the scratch, t₁ the scratch after the first rows, u its rest after the others
   module _ (t t₁ u : List ℤ) (k : ℕ) (e₁ : t₁ ≡ flatten (lines p q p (drop (q * p + p * q + q * q) b) b) ++ drop (p * (p + q)) t) (ek : k ≡ length t₁ - p * (p + q))
       (e₂ : u ≡ flatten (lines p q q (drop (q * p) b) (drop (q * p + p * q) b)) ++ drop (q * (p + q)) (take k (drop (p * (p + q)) t₁))) where
+    -- the scratch then
     pub block-scratch : put (p * (p + q)) k t₁ u ≡ scratch p q b t
     unfolding scratch lows highs
     block-scratch =
@@ -59,8 +65,8 @@ module _ (p q : ℕ) (v : Halves p q) (b : List ℤ) (nb : (p + q) * (p + q) ≤
         let end : drop (q * (p + q)) (drop half t) ≡ drop ((p + q) * (p + q)) t = drop-drop (q * (p + q)) half t ∙ ap (λ (z : ℕ). drop z t) (sym (add-mul p q (p + q))) in
         rw (none, append-nil, front, e₂, all, back, end)
 
-    -- D is the buffer after the columns
-    pub block-cols : (D : List ℤ) → D ≡ flatten (lineRows (rows (p + q) p (put (p * (p + q)) k t₁ u)) (rows (p + q) q (drop (p * (p + q)) (put (p * (p + q)) k t₁ u)))) ++ drop ((p + q) * (p + q)) b → D ≡ block p q b
+    -- the buffer D after the columns
+    pub block-cols : (D : List ℤ) → D ≡ flatten (down (p + q) (rows (p + q) p (put (p * (p + q)) k t₁ u)) (rows (p + q) q (drop (p * (p + q)) (put (p * (p + q)) k t₁ u)))) ++ drop ((p + q) * (p + q)) b → D ≡ block p q b
     unfolding scratch block
     block-cols D e =
         let half : ℕ = p * (p + q) in
@@ -72,33 +78,7 @@ module _ (p q : ℕ) (v : Halves p q) (b : List ℤ) (nb : (p + q) * (p + q) ≤
         let rl : rows (p + q) p (F ++ (G ++ R)) ≡ lows p q b = rw (l .0) at (flat-rows (p + q) (lows p q b) (G ++ R) (l .1)) in
         let rh : rows (p + q) q (G ++ R) ≡ highs p q b = rw (h .0) at (flat-rows (p + q) (highs p q b) R (h .1)) in
         let back : drop half (F ++ (G ++ R)) ≡ G ++ R = drop-at F (G ++ R) half lows-length in
-        let same : lineRows (lows p q b) (highs p q b) ≡ down (p + q) (lows p q b) (highs p q b) = line-down (p + q) (lows p q b) (highs p q b) (rw (l .0, h .0) v) (rw (l .0, h .0)) (l .1) (h .1) in
-        e ∙ rw (block-scratch, rl, back, rh, same)
-
--- ════ how long the buffer stays ════
-
-block-length : (p q : ℕ) (b : List ℤ) → (p + q) * (p + q) ≤ length b → length (block p q b) ≡ length b
-unfolding block
-block-length p q b n = rw (length-append, down-flat (p + q) (lows p q b) (highs p q b), length-drop) (omega arith)
-
-block-at-length : (i p q : ℕ) (b : List ℤ) → i + (p + q) * (p + q) ≤ length b → length (blockAt i p q b) ≡ length b
-unfolding blockAt
-block-at-length i p q b n =
-    let m : length (take i b) ≡ i = length-take-le i b (omega arith) in
-    rw (length-append, m, block-length p q (drop i b) (simp length-drop (omega arith)), length-drop) (omega arith)
-
-inner-length : (b : List ℤ) → 4096 ≤ length b → length (inner b) ≡ length b
-unfolding inner
-inner-length b n =
-    let e : length (blockAt 3807 9 8 b) ≡ length b = block-at-length 3807 9 8 b (omega arith) in
-    block-at-length 3007 17 16 (blockAt 3807 9 8 b) (omega arith) ∙ e
-
--- as many places as before
-pub inverse-length : (b : List ℤ) → 4096 ≤ length b → length (inverse b) ≡ length b
-unfolding inverse
-inverse-length b n =
-    let e : length (inner b) ≡ length b = inner-length b n in
-    block-at-length 0 33 31 (inner b) (omega arith) ∙ e
+        e ∙ rw (block-scratch, rl, back, rh)
 
 -- ════ the three blocks ════
 
@@ -120,6 +100,7 @@ module _ (b t u₃ t₃ u₂ t₂ b₁ t₁ : List ℤ) (k₃ k₂ : ℕ) (n₃ 
     (nb : 4096 ≤ length b) (nb₃ : length (put 3807 k₃ b u₃) ≡ length b)
     (e₃ : u₃ ≡ block 9 8 (take k₃ (drop 3807 b))) (e₂ : u₂ ≡ block 17 16 (take k₂ (drop 3007 (put 3807 k₃ b u₃)))) (e₁ : b₁ ≡ block 33 31 (put 3007 k₂ (put 3807 k₃ b u₃) u₂))
     (f₃ : t₃ ≡ scratch 9 8 (take k₃ (drop 3807 b)) t) (f₂ : t₂ ≡ scratch 17 16 (take k₂ (drop 3007 (put 3807 k₃ b u₃))) t₃) (f₁ : t₁ ≡ scratch 33 31 (put 3007 k₂ (put 3807 k₃ b u₃) u₂) t₂) where
+  -- the buffer after the first two
   is-inner : put 3007 k₂ (put 3807 k₃ b u₃) u₂ ≡ inner b
   unfolding inner
   is-inner = at-end 17 16 3007 k₂ (put 3807 k₃ b u₃) u₂ n₂ e₂ ∙ ap (blockAt 3007 17 16) (at-end 9 8 3807 k₃ b u₃ n₃ e₃)

@@ -10,15 +10,13 @@ use lib.ListN.{length, take, drop, length-append, length-drop}
 use lib.Seq.{drop-drop, take-at, drop-at, length-take-le}
 use Rattle.dwt_lines.specs.Line.{line, Halves}
 use Rattle.dwt_lines.proofs.Lines.{line-length}
-use Rattle.dwt_extrapolate.specs.Block.{rows, lines}
-use Rattle.dwt_extrapolate.specs.Inner.{put}
-use Rattle.dwt_extrapolate.proofs.Put.{put-take}
+use Rattle.dwt_extrapolate.specs.Block.{lines}
+use Rattle.dwt_columns.specs.Columns.{rows}
+use Rattle.dwt_columns.specs.Inner.{put}
+use Rattle.dwt_columns.proofs.Put.{put-take}
+use Rattle.dwt_columns.proofs.Wide.{Wide}
 
 -- ════ rows of w places ════
-
-abbrev pub Wide : ℕ → List (List ℤ) → Type 0
-Wide w [] = Unit
-Wide w (r ∷ rs) = (length r ≡ w) × Wide w rs
 
 -- so many places they take, laid out one after another
 pub flat-length : (w : ℕ) (rs : List (List ℤ)) → Wide w rs → length (flatten rs) ≡ length rs * w
@@ -34,10 +32,12 @@ flat-rows w (r ∷ rs) t v = rw (append-assoc, take-at r (flatten rs ++ t) w (v 
 
 -- ════ lines ════
 
+-- one more, before the others
 lines-more : (p q m : ℕ) (b e : List ℤ) → flatten (lines p q (suc m) b e) ≡ line (take p b) (take q e) ++ flatten (lines p q m (drop p b) (drop q e))
 unfolding lines rows zipWith flatten
 lines-more p q m b e = refl
 
+-- none
 pub lines-none : (p q : ℕ) (b e : List ℤ) → flatten (lines p q 0 b e) ≡ []
 unfolding lines rows zipWith flatten
 lines-none p q b e = refl

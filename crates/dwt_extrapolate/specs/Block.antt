@@ -1,17 +1,13 @@
 -- One block of the inverse wavelet: "rows first (LL with HL, then LH with HH), then columns" (docs/SCOPE.md, "Inverse wavelet").
 -- A block of p low and q high samples has p + q rows and columns. Its coefficients are HL, LH, HH and LL one after another, each row by row.
-use mathlib.Core.List.{List, [], _∷_, _++_, map, zipWith, flatten}
-use Prim.Native.Nat.{ℕ, zero, suc, _+_, _*_}
-use lib.IntN.{ℤ, pos}
-use lib.ListN.{getD, take, drop}
+use mathlib.Core.List.{List, _++_, zipWith, flatten}
+use Prim.Native.Nat.{ℕ, _+_, _*_}
+use lib.IntN.{ℤ}
+use lib.ListN.{take, drop}
 use Rattle.dwt_lines.specs.Line.{line}
+use Rattle.dwt_columns.specs.Columns.{rows, down}
 
 -- ════ rows ════
-
--- the first n rows of w places
-unfoldable pub rows : ℕ → ℕ → List ℤ → List (List ℤ)
-rows w zero b = []
-rows w (suc n) b = take w b ∷ rows w n (drop w b)
 
 -- n lines: their low halves are the rows from the start of b, their high halves those of d
 unfoldable pub lines : ℕ → ℕ → ℕ → List ℤ → List ℤ → List (List ℤ)
@@ -24,17 +20,6 @@ lows p q b = lines p q p (drop (q * p + p * q + q * q) b) b
 -- "then LH with HH": the q rows of high samples
 unfoldable pub highs : ℕ → ℕ → List ℤ → List (List ℤ)
 highs p q b = lines p q q (drop (q * p) b) (drop (q * p + p * q) b)
-
--- ════ columns ════
-
--- the first w columns of rows; of columns, the first w rows
-unfoldable pub columns : ℕ → List (List ℤ) → List (List ℤ)
-columns zero rs = []
-columns (suc w) rs = map (λ (r : List ℤ). getD r 0 (pos 0)) rs ∷ columns w (map (drop 1) rs)
-
--- "then columns": each column of n rows and columns is the line of a column of the low rows with that of the high ones
-unfoldable pub down : ℕ → List (List ℤ) → List (List ℤ) → List (List ℤ)
-down n ls hs = columns n (zipWith line (columns n ls) (columns n hs))
 
 -- ════ the block ════
 

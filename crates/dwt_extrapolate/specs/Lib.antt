@@ -1,4 +1,3 @@
 -- What the contracts of `dwt_extrapolate` cite.
 pub mod Block
 pub mod Transform
-pub mod Inner

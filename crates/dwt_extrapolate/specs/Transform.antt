@@ -21,7 +21,7 @@ scratched b t = scratch 33 31 (inner b) t
 
 -- ════ what `decode` answers, and what it leaves in the two slices ════
 
--- 1: "a coefficient .. slice or the wavelet's scratch under 4,096 elements"; 0 is none
+-- 1: "a coefficient, sign or scratch slice under 4,096 elements"; 0 is none
 abbrev pub inverseRefusal : List ℤ → List ℤ → ℕ
 inverseRefusal b t = cond (longEnough b && longEnough t) 0 1
 

@@ -90,6 +90,7 @@ line-done Y low high d u x h i n k m e f g w v =
 
 -- ════ how long a line is ════
 
+-- from an even place on
 from-length : (x h : ℤ) (ls hs : List ℤ) → length hs ≤ length ls → length ls ≤ length hs + 2 → length (from x h ls hs) ≡ length ls + length hs + 2
 unfolding from
 from-length x h [] [] e f = refl

@@ -1,4 +1,4 @@
--- The inverse wavelet of one line: its samples, of its low and its high half (docs/SCOPE.md, "Inverse wavelet"; MS-RDPEGFX 3.2.8.1.2.2).
+-- The inverse wavelet of one line: its samples, of its low and its high half (docs/SCOPE.md, "Inverse wavelet").
 -- L and H are the places of the two halves, counted from 0.
 use mathlib.Core.List.{List, [], _∷_}
 use Prim.Native.Nat.{ℕ, _+_, _≤_}

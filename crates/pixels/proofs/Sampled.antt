@@ -14,7 +14,7 @@ use Rattle.planes.proofs.Joined.{Long, upTo, joined-components, parts-long, com
 use Rattle.dequantizer.specs.Dequantize.{dequantizedAll, quantizers}
 use Rattle.dequantizer.proofs.Dequantized.{all-length}
 use Rattle.dwt_extrapolate.specs.Transform.{inverse, inverseBuffer}
-use Rattle.dwt_extrapolate.proofs.Blocks.{inverse-length}
+use Rattle.dwt_extrapolate.proofs.Lengths.{inverse-length}
 use Rattle.color.specs.Color.{picture}
 use Rattle.pixels.specs.Pixels.{samples, samplesOf, rgba}
 

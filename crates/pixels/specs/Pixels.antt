@@ -1,4 +1,4 @@
--- From the coefficients of three components to pixels (docs/SCOPE.md, "Tile"). Only in the extrapolate layout: "3: pixels wanted in the standard layout".
+-- From the coefficients of three components to pixels (docs/SCOPE.md, "Tile"), in the extrapolate layout: in the other it is refused.
 use mathlib.Core.Bool.{Bool, true, cond, _&&_}
 use mathlib.Core.List.{List, _++_}
 use Prim.Native.Nat.{ℕ}

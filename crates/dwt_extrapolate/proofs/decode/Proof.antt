@@ -7,7 +7,7 @@ use lib.Dec.{leb}
 use lib.ListN.{length}
 use borrow.Author.Needs.{needs}
 use borrow.Author.Tests.{lt-leb, le-leb}
-use Rattle.dwt_extrapolate.specs.Inner.{put}
+use Rattle.dwt_columns.specs.Inner.{put}
 use Rattle.dwt_extrapolate.proofs.Blocks.{three-blocks}
 use Rattle.dwt_extrapolate.proofs.decode.Statement.{statement}
 use Rattle.dwt_extrapolate.proofs.decode.Tie as tie

@@ -15,7 +15,7 @@ returns c =
     let r₁ = c .before .before .before .before .before .before .before .before .before .rows-of in
     let r₂ = c .before .before .before .before .before .rows-of2 in
     let k = length (r₁ .last .1 .0) - a .p * (a .p + a .q) in (
-      block-cols (a .p) (a .q) v (a .buffer .now) (omega arith) (a .temp .now) (r₁ .last .1 .0) (r₂ .last .1 .0) k (r₁ .ensures) refl (r₂ .ensures) (c .before .cols-of .last .1 .0) (c .before .cols-of .ensures),
+      block-cols (a .p) (a .q) v (a .buffer .now) (omega arith) (a .temp .now) (r₁ .last .1 .0) (r₂ .last .1 .0) k (r₁ .ensures) refl (r₂ .ensures) (c .before .idwt-cols .last .1 .0) (c .before .idwt-cols .ensures),
       block-scratch (a .p) (a .q) v (a .buffer .now) (omega arith) (a .temp .now) (r₁ .last .1 .0) (r₂ .last .1 .0) k (r₁ .ensures) refl (r₂ .ensures),
     )
 

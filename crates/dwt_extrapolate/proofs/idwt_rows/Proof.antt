@@ -7,8 +7,8 @@ use lib.ListN.{length, take, drop}
 use borrow.Author.Needs.{needs}
 use borrow.Rule.Slice.PartMut.{mid-len}
 use Rattle.dwt_extrapolate.specs.Block.{lines}
-use Rattle.dwt_extrapolate.proofs.Products.{scale}
-use Rattle.dwt_extrapolate.proofs.Put.{put-kept, whole}
+use Rattle.dwt_columns.proofs.Products.{scale}
+use Rattle.dwt_columns.proofs.Put.{put-kept, whole}
 use Rattle.dwt_extrapolate.proofs.Rows.{lines-none, lines-turn}
 use Rattle.dwt_extrapolate.proofs.idwt_rows.Statement.{statement}
 use Rattle.dwt_extrapolate.proofs.idwt_rows.Tie as tie

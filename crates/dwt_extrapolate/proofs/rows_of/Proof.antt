@@ -1,6 +1,6 @@
 -- `dwt_extrapolate::rows_of` meets its contract. Assumes nothing.
 use borrow.Author.Needs.{needs}
-use Rattle.dwt_extrapolate.proofs.Put.{to-end}
+use Rattle.dwt_columns.proofs.Put.{to-end}
 use Rattle.dwt_extrapolate.proofs.rows_of.Statement.{statement}
 use Rattle.dwt_extrapolate.proofs.rows_of.Tie as tie
 

@@ -1,5 +1,5 @@
 -- `dwt_lines::idwt_row` meets its contract. Assumes nothing.
-use mathlib.Core.Path.{_≡_}
+use mathlib.Core.Path.{_≡_, _∙_}
 use mathlib.Core.List.{_++_}
 use Prim.Native.Nat.{_+_, _*_, _-_, _≤_}
 use native.Mathlib.Omega.{arith}
@@ -31,7 +31,7 @@ loop-holds c =
       omega arith,
       omega arith,
       search needs,
-      line-start (a .low .now) (a .high .now) _ _ (omega arith) (omega arith) h (cc (c .edge-sample .ensures)),
+      line-start (a .low .now) (a .high .now) _ _ (omega arith) (omega arith) h (x ∙ (rw l at (c .edge-sample .ensures))),
     )
 
 loop-again : tie.Need-loop-again Inv-loop μ-loop
@@ -48,7 +48,7 @@ loop-again c =
       omega arith,
       simp length-set (omega arith),
       line-turn _ (a .low .now) (a .high .now) (at .dst) (toZ w16 (at .x)) (toZ w16 (at .h)) _ _ _ (at .i) (at .j) (omega arith) (omega arith) (omega arith)
-          k (cc (even .ensures)) (cc (c .odd-sample .ensures)) (at .inv .4),
+          k (y ∙ (rw l at (even .ensures))) (o ∙ c .odd-sample .ensures) (at .inv .4),
     )
 
 returns : tie.Need-returns Inv-loop μ-loop

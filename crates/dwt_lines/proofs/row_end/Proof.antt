@@ -1,5 +1,5 @@
 -- `dwt_lines::row_end` meets its contract: each branch is one ending of a line. Assumes nothing.
-use mathlib.Core.Path.{_≡_}
+use mathlib.Core.Path.{_≡_, _∙_}
 use native.Mathlib.Omega.{arith}
 use lib.IntN.{pos}
 use lib.ListN.{getD, length-set}
@@ -18,7 +18,7 @@ returns c =
     let x : toZ w16 (ofZ w16 (a .x)) ≡ a .x = toZ-ofZ (f .x) in
     let h : toZ w16 (ofZ w16 (a .h)) ≡ a .h = toZ-ofZ (f .h) in
     let t : toZ w16 (ofZ w16 (c .tail-sample .result)) ≡ c .tail-sample .result = search needs in
-    rw x (end-none (a .low .now) (a .dst .now) (a .x) (a .h) _ (omega arith) (omega arith) (cc (c .tail-sample .ensures)))
+    rw x (end-none (a .low .now) (a .dst .now) (a .x) (a .h) _ (omega arith) (omega arith) (t ∙ (rw (x, h) at (c .tail-sample .ensures))))
 
 returns-2 : tie.Need-returns-2
 returns-2 c =
@@ -29,7 +29,7 @@ returns-2 c =
     let l : toZ w16 (ofZ w16 (getD (a .low .now) 0 (pos 0))) ≡ getD (a .low .now) 0 (pos 0) = search needs in
     let y : toZ w16 (ofZ w16 (c .before .edge-sample .result)) ≡ c .before .edge-sample .result = search needs in
     let o : toZ w16 (ofZ w16 (c .odd-sample .result)) ≡ c .odd-sample .result = search needs in
-    rw x (end-one (a .low .now) (a .dst .now) (a .x) (a .h) _ _ (omega arith) (omega arith) (cc (c .before .edge-sample .ensures)) (cc (c .odd-sample .ensures)))
+    rw x (end-one (a .low .now) (a .dst .now) (a .x) (a .h) _ _ (omega arith) (omega arith) (y ∙ (rw (l, h) at (c .before .edge-sample .ensures))) (o ∙ (rw (x, h) at (c .odd-sample .ensures))))
 
 returns-3 : tie.Need-returns-3
 returns-3 c =
@@ -42,7 +42,7 @@ returns-3 c =
     let y : toZ w16 (ofZ w16 (c .before .before .before .half-sample .result)) ≡ c .before .before .before .half-sample .result = search needs in
     let o : toZ w16 (ofZ w16 (c .before .before .odd-sample2 .result)) ≡ c .before .before .odd-sample2 .result = search needs in
     let m : toZ w16 (ofZ w16 (c .mean-sample .result)) ≡ c .mean-sample .result = search needs in
-    rw x (end-two (a .low .now) (a .dst .now) (a .x) (a .h) _ _ _ (omega arith) (omega arith) (cc (c .before .before .before .half-sample .ensures)) (cc (c .before .before .odd-sample2 .ensures)) (cc (c .mean-sample .ensures)))
+    rw x (end-two (a .low .now) (a .dst .now) (a .x) (a .h) _ _ _ (omega arith) (omega arith) (y ∙ (rw (l, h) at (c .before .before .before .half-sample .ensures))) (o ∙ (rw (x, h) at (c .before .before .odd-sample2 .ensures))) (m ∙ (rw k at (c .mean-sample .ensures))))
 
 pub row-end-spec : {M : Type 1} → statement M
 row-end-spec =

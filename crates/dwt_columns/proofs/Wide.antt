@@ -1,0 +1,24 @@
+-- Rows of w places each, and that the rows of a list are such. Assumes nothing.
+use mathlib.Core.Path.{_≡_, refl, ap}
+use mathlib.Core.List.{List, [], _∷_}
+use Prim.Native.Nat.{ℕ, zero, suc, _*_, _≤_, _+_}
+use native.Mathlib.Nat.{suc-mul}
+use native.Mathlib.Omega.{arith}
+use lib.IntN.{ℤ}
+use lib.ListN.{length, drop, length-drop}
+use lib.Seq.{length-take-le}
+use Rattle.dwt_columns.specs.Columns.{rows}
+
+-- each has w
+abbrev pub Wide : ℕ → List (List ℤ) → Type 0
+Wide w [] = Unit
+Wide w (r ∷ rs) = (length r ≡ w) × Wide w rs
+
+-- n rows of a list that is long enough
+pub rows-wide : (w n : ℕ) (b : List ℤ) → n * w ≤ length b → (length (rows w n b) ≡ n) × Wide w (rows w n b)
+unfolding rows
+rows-wide w zero b h = (refl, tt)
+rows-wide w (suc n) b h =
+    let s : suc n * w ≡ n * w + w = suc-mul n w in
+    let r = rows-wide w n (drop w b) (simp length-drop (omega arith)) in
+    (ap suc (r .0), (length-take-le w b (omega arith), r .1))
