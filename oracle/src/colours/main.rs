@@ -11,7 +11,13 @@ type Cited = fn(i64, i64) -> i64;
 /// A channel: its place in a pixel, its name, the cited factors, whether it depends on cb and on cr.
 const CHANNELS: [(usize, &str, Cited, bool, bool); 3] = [
     (0, "red", |_, cr| 1_402_525 * cr, false, true),
-    (1, "green", |cb, cr| -343_730 * cb - 714_401 * cr, true, true),
+    (
+        1,
+        "green",
+        |cb, cr| -343_730 * cb - 714_401 * cr,
+        true,
+        true,
+    ),
     (2, "blue", |cb, _| 1_769_905 * cb, true, false),
 ];
 
@@ -62,7 +68,9 @@ fn main() {
         for channel in CHANNELS {
             let (difference, [y, cb, cr], byte, other) = largest(channel, range.clone());
             let name = channel.1;
-            println!("  {name}: {difference}, at y {y}, cb {cb}, cr {cr}: the Rust {byte}, cited {other}");
+            println!(
+                "  {name}: {difference}, at y {y}, cb {cb}, cr {cr}: the Rust {byte}, cited {other}"
+            );
         }
     }
 }
