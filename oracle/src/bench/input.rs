@@ -17,6 +17,9 @@ pub const CURR: Row = [2; 10];
 /// Quantizers on both sides of 6.
 pub const QUANT: Row = [8, 8, 9, 7, 7, 8, 6, 6, 7, 5];
 
+/// Quantizers so small that few colours leave 0 to 255.
+pub const FAINT: Row = [1, 1, 1, 2, 2, 2, 3, 3, 3, 4];
+
 /// Of 1000 coefficients, how many are known before the pass and how many it brings.
 #[derive(Clone, Copy)]
 pub struct Sort {
@@ -52,21 +55,31 @@ pub struct Input {
     pub raw: Vec<u8>,
 }
 
-/// Several tiles of a sort, in the form of the text: its coefficients lie one after another, as the port
-/// takes them.
-pub fn tiles(sort: Sort) -> Vec<TileState> {
-    let mut random = Random::new(2, sort.known as u8);
-    (0..16).map(|_| tile(&mut random, sort)).collect()
+/// A tile in the form of the text, whose coefficients lie one after another, as the port takes them; and its base
+/// quantizers in band order.
+pub struct Tile {
+    pub state: TileState,
+    pub base_quant: [Row; 3],
 }
 
-fn tile(random: &mut Random, sort: Sort) -> TileState {
-    TileState {
+/// Several tiles of a sort.
+pub fn tiles(sort: Sort, quant: Row) -> Vec<Tile> {
+    let mut random = Random::new(2, sort.known as u8);
+    (0..16).map(|_| tile(&mut random, sort, quant)).collect()
+}
+
+fn tile(random: &mut Random, sort: Sort, quant: Row) -> Tile {
+    let state = TileState {
         coefficients: [[(); COEFFICIENTS_PER_COMPONENT]; 3]
             .map(|component| component.map(|()| coefficient(random, sort))),
         prog_quant: [ComponentCodecQuant::of_bands(CURR); 3],
-        base_quant: [ComponentCodecQuant::of_bands(QUANT); 3],
+        base_quant: [ComponentCodecQuant::of_bands(quant); 3],
         use_reduce_extrapolate: USE_REDUCE_EXTRAPOLATE,
         ..TileState::new()
+    };
+    Tile {
+        state,
+        base_quant: [quant; 3],
     }
 }
 

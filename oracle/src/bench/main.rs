@@ -10,9 +10,9 @@ use std::time::Instant;
 
 use oracle::codecs::rfx::progressive::ComponentCodecQuant;
 use oracle::dwt_extrapolate;
-use oracle::progressive::{self, COEFFICIENTS_PER_COMPONENT, TileState, reach};
+use oracle::progressive::{self, COEFFICIENTS_PER_COMPONENT, reach};
 
-use input::{CURR, Input, PREV, QUANT, SORTS, USE_REDUCE_EXTRAPOLATE, inputs, tiles};
+use input::{CURR, FAINT, Input, PREV, QUANT, SORTS, Tile, USE_REDUCE_EXTRAPOLATE, inputs, tiles};
 
 /// The bytes of each output that the port gets: more than any pass here takes.
 const ROOM: usize = 16384;
@@ -67,7 +67,7 @@ fn main() -> ExitCode {
         return ExitCode::from(2);
     };
     println!(
-        "One component, in the last line one tile, in nanoseconds, {repetitions} batches of each side."
+        "One component, in the last two lines one tile, in nanoseconds, {repetitions} batches of each side."
     );
     println!("Ratio: port / Rust of each pair of batches, the median and the middle half.");
     println!("{:<34}{:>16}{:>18}", "", "median of", "lowest of");
@@ -117,13 +117,15 @@ fn main() -> ExitCode {
         rust_transform,
         port_transform,
     );
-    row(
-        "reconstruct_to_rgba, typical",
-        &tiles(SORTS[1]),
-        repetitions,
-        rust_reconstruct,
-        port_reconstruct,
-    );
+    for (name, quant) in [("typical", QUANT), ("faint", FAINT)] {
+        row(
+            &format!("reconstruct_to_rgba, {name}"),
+            &tiles(SORTS[1], quant),
+            repetitions,
+            rust_reconstruct,
+            port_reconstruct,
+        );
+    }
     ExitCode::SUCCESS
 }
 
@@ -292,15 +294,15 @@ fn port_transform(input: &Input, work: &mut Work) {
     assert_eq!(number, 0, "the slices are long enough");
 }
 
-fn rust_reconstruct(tile: &TileState, work: &mut Work) {
-    tile.reconstruct_to_rgba(&mut work.pixels);
+fn rust_reconstruct(tile: &Tile, work: &mut Work) {
+    tile.state.reconstruct_to_rgba(&mut work.pixels);
 }
 
-fn port_reconstruct(tile: &TileState, work: &mut Work) {
+fn port_reconstruct(tile: &Tile, work: &mut Work) {
     let number = port::reconstruct_to_rgba(
-        &tile.coefficients,
+        &tile.state.coefficients,
         &[CURR; 3],
-        &[QUANT; 3],
+        &tile.base_quant,
         USE_REDUCE_EXTRAPOLATE,
         &mut work.pixels,
     );
