@@ -6,8 +6,8 @@ use Prim.Native.Nat.{ℕ, suc, _+_, _*_}
 use lib.ListN.{getD, replicate}
 use Rattle.bands.specs.declared.BandInfo.{BandInfo}
 
--- so many columns by so many rows
 infix 70 _by_
+-- so many columns by so many rows
 pub data Size : Type 0 where
   _by_ : ℕ → ℕ → Size
 

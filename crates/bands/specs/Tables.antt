@@ -29,6 +29,7 @@ pub record OnlyBand (e : Bool) (p b : ℕ) : Type 0 where
   pub in-band : T (encloses (bandAt e b) p)
   pub no-other : (k : ℕ) → k < 10 → T (encloses (bandAt e k) p) → k ≡ b
 
+-- what both tables are: the statement of `band_tables`
 pub record BandTables : Type 0 where
   -- ten bands in each layout
   pub ten : (e : Bool) → length (layout e) ≡ 10

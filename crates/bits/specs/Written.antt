@@ -48,27 +48,30 @@ Sound k = (k .«bit_count» ≤ 7) × (k .current < 2 ^ k .«bit_count»)
 abbrev pub Room : BitWriter → ℕ → Type 0
 Room k n = k .at + n < 2 ^ 64
 
--- the writer after one bit, and the output
+-- the writer after one bit
 abbrev pub step : BitWriter → Bool → BitWriter
 step k b =
     cond (eqb (k .«bit_count») 7) (writer (k .at + 1) 0 0) (writer (k .at) (k .current * 2 + bitOf b) (k .«bit_count» + 1))
 
+-- the output after it: a byte more where it is the eighth
 abbrev pub put : List ℕ → BitWriter → Bool → List ℕ
 put out k b = cond (eqb (k .«bit_count») 7) (set out (k .at) (k .current * 2 + bitOf b)) out
 
--- the writer after some bits, and the output
+-- the writer after some bits
 abbrev pub after : BitWriter → List Bool → BitWriter
 after k [] = k
 after k (b ∷ bs) = after (step k b) bs
 
+-- the output after them
 abbrev pub write : List ℕ → BitWriter → List Bool → List ℕ
 write out k [] = out
 write out k (b ∷ bs) = write (put out k b) (step k b) bs
 
--- the unfinished bits padded with zeros: how many bytes there are then, and the output
+-- the unfinished bits padded with zeros: how many bytes there are then
 abbrev pub padCount : BitWriter → ℕ
 padCount k = cond (eqb (k .«bit_count») 0) (k .at) (k .at + 1)
 
+-- the output then
 abbrev pub padOut : List ℕ → BitWriter → List ℕ
 padOut out k = cond (eqb (k .«bit_count») 0) out (set out (k .at) (k .current * 2 ^ (8 - k .«bit_count»)))
 

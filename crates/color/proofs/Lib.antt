@@ -1,4 +1,4 @@
--- The laws of `color`, for its own proofs and for those of the crates above it.
+-- The laws of `color`, for its own proofs.
 mod Shifted
 mod Split
-pub mod Picture
+mod Picture

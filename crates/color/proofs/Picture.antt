@@ -12,7 +12,7 @@ use lib.Seq.{drop-cons, drop-set-lt, length-take-le, take-at, sets-eq}
 use Rattle.color.specs.Color.{red, green, blue, picture}
 
 -- four bytes a pixel
-pub picture-length : (y cb cr : List ℤ) → length cb ≡ length y → length cr ≡ length y → length (picture y cb cr) ≡ 4 * length y
+picture-length : (y cb cr : List ℤ) → length cb ≡ length y → length cr ≡ length y → length (picture y cb cr) ≡ 4 * length y
 unfolding picture
 picture-length [] cb cr e f = refl
 picture-length (a ∷ y) [] cr e f = absurd (omega arith)

@@ -7,11 +7,12 @@ use lib.Dec.{ltb}
 use lib.IntN.{ℤ, pos, negsuc, negℤ, _+ℤ_, _-ℤ_, _*ℤ_}
 use lib.Signed.{ltZ, quotZ, shrZ}
 
--- ---- clamping: "Sums clamp to -32768..32767", and colours "all clamp to 0..255"
+-- ---- clamping: "Sums clamp to -32768..32767"
 unfoldable pub clampI16 : ℤ → ℤ
 clampI16 (pos n) = pos (min n 32767)
 clampI16 (negsuc n) = negsuc (min n 32767)
 
+-- colours: "all clamp to 0..255"
 unfoldable pub clampU8 : ℤ → ℕ
 clampU8 (pos n) = min n 255
 clampU8 (negsuc n) = 0
@@ -26,6 +27,7 @@ low16 (negsuc n) = 65535 - n % 65536
 unfoldable pub signed16 : ℕ → ℤ
 signed16 m = cond (ltb m 32768) (pos m) (negsuc (65535 - m))
 
+-- both: the sample that is kept
 unfoldable pub wrapI16 : ℤ → ℤ
 wrapI16 z = signed16 (low16 z)
 
@@ -61,9 +63,11 @@ unfoldable pub subScaled : ℤ → ℕ → ℕ → ℤ
 subScaled c m k = clampI16 (c -ℤ pos (m * 2 ^ k))
 
 -- ---- signs of values
+-- below 0
 abbrev pub isNegative : ℤ → Bool
 isNegative z = ltZ z (pos 0)
 
+-- above 0
 abbrev pub isPositive : ℤ → Bool
 isPositive z = ltZ (pos 0) z
 

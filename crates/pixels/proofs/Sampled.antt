@@ -39,7 +39,7 @@ put quants quant k n cs y whole row d =
 
 -- all three
 module _ (quants : List ℕ) (cs : List ℤ) (n : length cs ≡ 12288) where
-  pub long-samples : Long 4096 (samplesOf quants cs)
+  long-samples : Long 4096 (samplesOf quants cs)
   long-samples k h = samples-length (rowOf k quants) (component k cs) (parts-long 4096 cs n k h)
 
   -- the first k are done

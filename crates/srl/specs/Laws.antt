@@ -25,6 +25,7 @@ pub data Legal : List ℕ → List ℤ → Type 0 where
   none : Legal [] []
   legal : {w : ℕ} {v : ℤ} {ws : List ℕ} {vs : List ℤ} → natAbs v < 2 ^ w → Legal ws vs → Legal (w ∷ ws) (v ∷ vs)
 
+-- every value that is read is legal at its width
 pub record DecodedMagnitudes : Type 0 where
   -- whatever the stream holds and wherever the reader stands
   pub bounded : (s ws : List ℕ) (r : Reader) → Wide ws → Legal ws (values s ws r)
@@ -77,6 +78,7 @@ readBack s st [] = []
 readBack s st (a ∷ asks) =
     decodeOut s st (room a) (a .count) (a .width) ++ readBack s (stateOf (decodeAnswer s st (a .count) (a .count) (a .width))) asks
 
+-- what was written is read back
 pub record RoundTrip : Type 0 where
   -- what `encode` and `finish` wrote is read back: both sides may split the values into calls as they like, so long as each value is
   -- read at the width at which it was written
@@ -84,10 +86,12 @@ pub record RoundTrip : Type 0 where
 
 -- ════ states ════
 
+-- `decode` goes on from where it stopped
 pub record DecoderResumes : Type 0 where
   -- a state that `decode` hands back is one that it accepts, where the one handed in was
   pub again : (s : List ℕ) (st : SrlState) (room n w : ℕ) → stateOk st ≡ true → stateOk (stateOf (decodeAnswer s st room n w)) ≡ true
 
+-- and `encode`
 pub record EncoderResumes : Type 0 where
   -- and so is a state that `encode` hands back with bytes
   pub again : (st : SrlWriter) (vs : List ℤ) (room w : ℕ) → encodeRefusal st vs room w ≡ 0 → writerOk (callAfter w st vs) ≡ true

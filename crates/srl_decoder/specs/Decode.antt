@@ -63,15 +63,17 @@ decodeAnswer s st room n w =
 abbrev pub decodeOut : List ℕ → SrlState → List ℤ → ℕ → ℕ → List ℤ
 decodeOut s st out n w = stored (decodeRefusal s st (length out) n w) (values s (replicate n w) (opened st)) out
 
--- the number, the count of values and the state of each case
+-- the number of each case
 abbrev pub numberOf : Decoded → ℕ
 numberOf (Values n st) = 0
 numberOf (Refused k st) = k
 
+-- the count of values of each case: "zero lengths and counts" with a refusal
 abbrev pub valueCount : Decoded → ℕ
 valueCount (Values n st) = n
 valueCount (Refused k st) = 0
 
+-- the state of each case
 abbrev pub stateOf : Decoded → SrlState
 stateOf (Values n st) = st
 stateOf (Refused k st) = st

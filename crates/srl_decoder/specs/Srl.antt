@@ -68,10 +68,11 @@ past s w n kp zero pending = reader (behind s n w) kp zero false
 abbrev pub readied : List ℕ → Reader → Reader
 readied s r = ready s (r .read) (r .kp) (r .run) (r .pending)
 
--- the next value, and the reader after it. "The width is that of the call in which the value itself is read"
+-- the next value. "The width is that of the call in which the value itself is read"
 abbrev pub nextValue : List ℕ → ℕ → Reader → ℤ
 nextValue s w r = value s w (readied s r .read) (readied s r .run)
 
+-- the reader after it
 abbrev pub nextReader : List ℕ → ℕ → Reader → Reader
 nextReader s w r = past s w (readied s r .read) (readied s r .kp) (readied s r .run) (readied s r .pending)
 

@@ -40,22 +40,24 @@ valueBits w kp z (pos zero) = []
 valueBits w kp z (pos (suc m)) = runBits (suc z) kp z ++ nonzeroBits w false m
 valueBits w kp z (negsuc m) = runBits (suc z) kp z ++ nonzeroBits w true m
 
--- kp and the pending zeros after it
+-- kp after it
 abbrev pub valueKp : ℕ → ℕ → ℤ → ℕ
 valueKp kp z (pos zero) = kp
 valueKp kp z (pos (suc m)) = runKp (suc z) kp z
 valueKp kp z (negsuc m) = runKp (suc z) kp z
 
+-- the pending zeros after it
 abbrev pub valueZeros : ℕ → ℤ → ℕ
 valueZeros z (pos zero) = z + 1
 valueZeros z (pos (suc m)) = 0
 valueZeros z (negsuc m) = 0
 
--- the same of a call's values
+-- the bits of a call's values
 abbrev pub callBits : ℕ → ℕ → ℕ → List ℤ → List Bool
 callBits w kp z [] = []
 callBits w kp z (v ∷ vs) = valueBits w kp z v ++ callBits w (valueKp kp z v) (valueZeros z v) vs
 
+-- kp after them
 abbrev pub callKp : ℕ → ℕ → List ℤ → ℕ
 callKp kp z [] = kp
 callKp kp z (v ∷ vs) = callKp (valueKp kp z v) (valueZeros z v) vs
@@ -136,15 +138,17 @@ encodeAnswer st vs room w = encoded (encodeRefusal st vs room w) (length (callBy
 abbrev pub encodeOut : SrlWriter → List ℤ → List ℕ → ℕ → List ℕ
 encodeOut st vs out w = stored (encodeRefusal st vs (length out) w) (callBytes w st vs) out
 
--- the number, the count of bytes and the state of each case
+-- the number of each case
 abbrev pub encodedNumber : Encoded → ℕ
 encodedNumber (Bytes n st) = 0
 encodedNumber (Refused k st) = k
 
+-- the count of bytes of each case
 abbrev pub encodedCount : Encoded → ℕ
 encodedCount (Bytes n st) = n
 encodedCount (Refused k st) = 0
 
+-- the state of each case
 abbrev pub encodedState : Encoded → SrlWriter
 encodedState (Bytes n st) = st
 encodedState (Refused k st) = st

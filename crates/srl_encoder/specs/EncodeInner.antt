@@ -25,6 +25,7 @@ largest (v ∷ vs) = max (natAbs v) (largest vs)
 abbrev pub planBits : RunPlan → List Bool
 planBits r = replicate (r .steps) false ++ (true ∷ bitsOf (r .kp / 8) (r .rest))
 
+-- its kp is one that a run can have, and its rest has the bits that kp gives it
 abbrev pub GoodPlan : RunPlan → Type 0
 GoodPlan r = (r .kp ≤ 80) × (r .rest < 2 ^ (r .kp / 8))
 
@@ -45,10 +46,11 @@ stopCount w magnitude = cond (ltb magnitude (2 ^ w - 1)) 1 0
 abbrev pub callStart : SrlWriter → CallState
 callStart st = record { sink = sink st; kp = st .kp; zeros = st .«pending_zeros» }
 
+-- what is handed back of it
 abbrev pub writerOf : CallState → SrlWriter
 writerOf c = record { kp = c .kp; «pending_zeros» = c .zeros; current = c .sink .current; «bit_count» = c .sink .«bit_count» }
 
--- the state after a value and after some
+-- the state after a value
 abbrev pub valueState : ℕ → CallState → ℤ → CallState
 valueState w c v =
     record {
@@ -57,6 +59,7 @@ valueState w c v =
       zeros = valueZeros (c .zeros) v;
     }
 
+-- the state after some values
 abbrev pub callState : ℕ → CallState → List ℤ → CallState
 callState w c vs =
     record {
@@ -65,21 +68,25 @@ callState w c vs =
       zeros = callZeros (c .zeros) vs;
     }
 
--- the output after the same
+-- the output after a value
 abbrev pub valueWrite : ℕ → List ℕ → CallState → ℤ → List ℕ
 valueWrite w out c v = write out (c .sink) (valueBits w (c .kp) (c .zeros) v)
 
+-- the output after some
 abbrev pub callWrite : ℕ → List ℕ → CallState → List ℤ → List ℕ
 callWrite w out c vs = write out (c .sink) (callBits w (c .kp) (c .zeros) vs)
 
 -- ════ measuring ════
 
+-- it starts as a call does
 abbrev pub measureStart : SrlWriter → Measured
 measureStart st = record { at = 0; «bit_count» = st .«bit_count»; kp = st .kp; zeros = st .«pending_zeros» }
 
+-- the place alone
 abbrev pub placeOf : Measured → BitCount
 placeOf p = record { at = p .at; «bit_count» = p .«bit_count» }
 
+-- after a value
 abbrev pub valueMeasure : ℕ → Measured → ℤ → Measured
 valueMeasure w p v =
     record {
@@ -95,11 +102,14 @@ callCount w p vs = counted (placeOf p) (length (callBits w (p .kp) (p .zeros) vs
 
 -- ════ what the inner functions ask of a state ════
 
+-- of a call
 abbrev pub Good : CallState → Type 0
 Good c = Sound (c .sink) × (c .kp ≤ 80)
 
+-- of a measure
 abbrev pub GoodMeasure : Measured → Type 0
 GoodMeasure p = (p .«bit_count» ≤ 7) × (p .kp ≤ 80)
 
+-- of a writer that is handed in
 abbrev pub GoodWriter : SrlWriter → Type 0
 GoodWriter st = Sound (sink st) × (st .kp ≤ 80) × (st .«pending_zeros» ≤ 4096)

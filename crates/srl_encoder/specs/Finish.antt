@@ -43,11 +43,12 @@ finishAnswer st room = finished (finishRefusal st room) (length (finishBytes st)
 abbrev pub finishOut : SrlWriter → List ℕ → List ℕ
 finishOut st out = stored (finishRefusal st (length out)) (finishBytes st) out
 
--- the number and the count of bytes of each case
+-- the number of each case
 abbrev pub finishedNumber : Finished → ℕ
 finishedNumber (Stream n) = 0
 finishedNumber (Refused k st) = k
 
+-- the count of bytes of each case
 abbrev pub finishedCount : Finished → ℕ
 finishedCount (Stream n) = n
 finishedCount (Refused k st) = 0
