@@ -15,6 +15,6 @@ unfoldable pub columns : ℕ → List (List ℤ) → List (List ℤ)
 columns zero rs = []
 columns (suc w) rs = map (λ (r : List ℤ). getD r 0 (pos 0)) rs ∷ columns w (map (drop 1) rs)
 
--- "then columns": each column of n rows and columns is the line of a column of the low rows with that of the high ones
+-- "then columns": each of the n columns is the line of a column of the low rows with that of the high ones; they are laid side by side again
 unfoldable pub down : ℕ → List (List ℤ) → List (List ℤ) → List (List ℤ)
 down n ls hs = columns n (zipWith line (columns n ls) (columns n hs))

@@ -13,15 +13,15 @@ use Rattle.dequantizer.specs.Dequantize.{dequantizedAll, quantizers}
 use Rattle.dwt_extrapolate.specs.Transform.{inverse}
 use Rattle.color.specs.Color.{picture}
 
--- the samples of a component: dequantized by a row of quantizers, then the inverse wavelet
+-- "dequantizes each component by its row of base quantizers, does the inverse wavelet": the samples of one component, by such a row
 abbrev pub samples : List ℕ → List ℤ → List ℤ
 samples quant cs = inverse (dequantizedAll (quantizers true quant) cs)
 
--- of component k of three, by its row of quantizers
+-- those of component k of three
 abbrev pub samplesOf : List ℕ → List ℤ → ℕ → List ℤ
 samplesOf quants cs k = samples (rowOf k quants) (component k cs)
 
--- the colours of the samples of Y, Cb and Cr: 4,096 pixels of four bytes
+-- "and colours the samples": those of Y, Cb and Cr at each place make a pixel of four bytes
 unfoldable pub rgba : List ℕ → List ℤ → List ℕ
 rgba quants cs = picture (samplesOf quants cs 0) (samplesOf quants cs 1) (samplesOf quants cs 2)
 

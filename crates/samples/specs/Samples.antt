@@ -122,7 +122,7 @@ pub record Coloured : Type 0 where
   pub cr : ℤ
   pub bytes : List ℕ
 
--- cr 100
+-- the marked sample: y 0, cb 0, cr 100 gives 255, 57, 128
 abbrev pub coloured : List Coloured
 coloured = record { y = pos 0; cb = pos 0; cr = pos 100; bytes = 255 ∷ 57 ∷ 128 ∷ [] } ∷ []
 
