@@ -1,0 +1,2 @@
+-- What the contracts of `srl_held` cite.
+pub mod Held
