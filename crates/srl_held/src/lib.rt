@@ -3,7 +3,7 @@
 
 ghost use mathlib.Core.Path.{_≡_};
 ghost use lib.ListN.{length};
-ghost use Rattle.srl_decoder.specs.Decode.{startState, decodeAnswer, decodeOut};
+ghost use Rattle.srl_decoder.specs.Decode.{startState, decoded, decodeAnswer, decodeOut};
 ghost use Rattle.srl_held.specs.Held.{decoderAt, parts, decodedBy};
 
 // The decoder of a stream: the stream, and where it stands.
@@ -83,4 +83,27 @@ impl<'a> SrlDecoder<'a> {
             },
         }
     }
+}
+
+// The answer that the numbers are.
+pub fn answer_of(number: u8, count: usize, state: srl_decoder::SrlState) -> srl_decoder::Decoded
+    ensures { λ r. ⌜ r ≡ decoded number count state state ⌝ }
+{
+    if number == 0 {
+        return srl_decoder::Decoded::Values(count, state);
+    }
+    srl_decoder::Decoded::Refused(number, state)
+}
+
+// The first `num_values` values of a stream, at the front of `out`.
+pub fn decode_srl(
+    src: &[u8],
+    out: &mut [i16],
+    num_values: usize,
+    num_bits: u8,
+) -> srl_decoder::Decoded
+    ensures { λ r. ⌜ (r ≡ decodeAnswer (now (src .entry)) startState (length (now (out .entry))) «num_values» «num_bits») × (now (out .exit) ≡ decodeOut (now (src .entry)) startState (now (out .entry)) «num_values» «num_bits») ⌝ }
+{
+    let r = SrlDecoder::new(src).decode(out, num_values, num_bits);
+    answer_of(r.number, r.count, r.decoder.state)
 }

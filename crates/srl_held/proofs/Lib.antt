@@ -1,0 +1,2 @@
+-- What the proofs of `srl_held` share.
+pub mod Answers
