@@ -2,9 +2,15 @@
 // The decoder's functions are thin: the work is done on the slice and the plain state (`srl_decoder`). `srl` hands them on.
 
 ghost use mathlib.Core.Path.{_≡_};
+ghost use Prim.Native.Nat.{_^_, _<_};
+ghost use lib.Dec.{ltb};
 ghost use lib.ListN.{length};
+ghost use lib.Seq.{sets};
+ghost use Rattle.srl_rules.specs.Rules.{Width};
 ghost use Rattle.srl_decoder.specs.Decode.{startState, decoded, decodeAnswer, decodeOut};
+ghost use Rattle.srl_encoder.specs.Encode.{fault};
 ghost use Rattle.srl_held.specs.Held.{decoderAt, parts, decodedBy};
+ghost use Rattle.srl_held.specs.Stream.{streamBytes, streamAnswer, streamOut};
 
 // The decoder of a stream: the stream, and where it stands.
 pub struct SrlDecoder<'a> {
@@ -106,4 +112,55 @@ pub fn decode_srl(
 {
     let r = SrlDecoder::new(src).decode(out, num_values, num_bits);
     answer_of(r.number, r.count, r.decoder.state)
+}
+
+// ---- a whole stream, written
+
+// Whether the stream of the values takes more bytes than there is room for. Nothing is stored but in a scratch byte.
+fn stream_exceeds(values: &[i16], num_bits: u8, room: usize) -> bool
+    requires { ⌜ Width «num_bits» × (fault «num_bits» 0 (now values) ≡ 0) × (room < 2 ^ 63) ⌝ }
+    ensures { λ r. ⌜ r ≡ ltb room (length (streamBytes «num_bits» (now (values .entry)))) ⌝ }
+{
+    let fresh = srl_encoder::SrlWriter::new();
+    if srl_encoder::encoder::exceeds(values, fresh, num_bits, room) {
+        return true;
+    }
+    let start = srl_encoder::encoder::call_start(fresh);
+    let mut scratch = [0u8; 1];
+    let done = srl_encoder::encoder::put_values(values, start, &mut scratch, num_bits);
+    let sink = done.sink;
+    let need = srl_encoder::encoder::end_length(srl_encoder::encoder::writer_of(done));
+    room - sink.at < need
+}
+
+// The stream of the values, from the start of `out`: how many bytes it is. The caller has measured it.
+fn put_stream(values: &[i16], out: &mut [u8], num_bits: u8) -> usize
+    requires { ⌜ Width «num_bits» × (fault «num_bits» 0 (now values) ≡ 0) × (length (streamBytes «num_bits» (now values)) < 2 ^ 63) ⌝ }
+    ensures { λ r. ⌜ (r ≡ length (streamBytes «num_bits» (now (values .entry)))) × (now (out .exit) ≡ sets (now (out .entry)) 0 (streamBytes «num_bits» (now (values .entry)))) ⌝ }
+{
+    let start = srl_encoder::encoder::call_start(srl_encoder::SrlWriter::new());
+    let done = srl_encoder::encoder::put_values(values, start, out, num_bits);
+    let sink = srl_encoder::encoder::put_flush(out, done);
+    let n = bits::writer::put_pad(out, sink);
+    bits::writer::store(out, n, 0);
+    n + 1
+}
+
+// Writes the whole stream of the values, of `num_bits` bits where they are nonzero, from the start of `out`.
+pub fn encode_srl(values: &[i16], out: &mut [u8], num_bits: u8) -> srl_encoder::Finished
+    ensures { λ r. ⌜ (r ≡ streamAnswer (now (values .entry)) (length (now (out .entry))) «num_bits») × (now (out .exit) ≡ streamOut (now (values .entry)) (now (out .entry)) «num_bits») ⌝ }
+{
+    let fresh = srl_encoder::SrlWriter::new();
+    if !srl_rules::width_ok(num_bits) {
+        return srl_encoder::Finished::Refused(4, fresh);
+    }
+    let f = srl_encoder::encoder::values_fault(values, 0, num_bits);
+    if f != 0 {
+        return srl_encoder::Finished::Refused(f, fresh);
+    }
+    if stream_exceeds(values, num_bits, out.len()) {
+        return srl_encoder::Finished::Refused(7, fresh);
+    }
+    let n = put_stream(values, out, num_bits);
+    srl_encoder::Finished::Stream(n)
 }
