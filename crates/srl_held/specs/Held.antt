@@ -8,6 +8,7 @@ use Rattle.srl_decoder.specs.declared.Decoded.{Decoded}
 use Rattle.srl_held.specs.declared.SrlDecoder.{SrlDecoder}
 use Rattle.srl_held.specs.declared.Parts.{Parts}
 use Rattle.srl_held.specs.declared.DecodedBy.{DecodedBy}
+use Rattle.srl_held.specs.declared.Outcome.{Outcome}
 
 -- a stream and a state
 abbrev pub decoderAt : RefT (List ℕ) → SrlState → SrlDecoder
@@ -20,3 +21,7 @@ parts r = record { number = numberOf r; count = valueCount r; state = stateOf r 
 -- the same with the decoder at the state that the call left
 abbrev pub decodedBy : RefT (List ℕ) → Decoded → DecodedBy
 decodedBy src r = record { number = numberOf r; count = valueCount r; decoder = decoderAt src (stateOf r) }
+
+-- the number and the count alone
+abbrev pub outcome : Decoded → Outcome
+outcome r = record { number = numberOf r; count = valueCount r }

@@ -7,9 +7,9 @@ ghost use lib.Dec.{ltb};
 ghost use lib.ListN.{length};
 ghost use lib.Seq.{sets};
 ghost use Rattle.srl_rules.specs.Rules.{Width};
-ghost use Rattle.srl_decoder.specs.Decode.{startState, decoded, decodeAnswer, decodeOut};
+ghost use Rattle.srl_decoder.specs.Decode.{startState, decoded, decodeAnswer, decodeOut, stateOf};
 ghost use Rattle.srl_encoder.specs.Encode.{fault};
-ghost use Rattle.srl_held.specs.Held.{decoderAt, parts, decodedBy};
+ghost use Rattle.srl_held.specs.Held.{decoderAt, parts, decodedBy, outcome};
 ghost use Rattle.srl_held.specs.Stream.{streamBytes, streamAnswer, streamOut};
 
 // The decoder of a stream: the stream, and where it stands.
@@ -30,6 +30,12 @@ pub struct DecodedBy<'a> {
     pub number: u8,
     pub count: usize,
     pub decoder: SrlDecoder<'a>,
+}
+
+// The number and the count alone, where the decoder is lent.
+pub struct Outcome {
+    pub number: u8,
+    pub count: usize,
 }
 
 // A call of `srl_decoder::decode`, its answer as numbers.
@@ -87,6 +93,19 @@ impl<'a> SrlDecoder<'a> {
                 src: self.src,
                 state: r.state,
             },
+        }
+    }
+
+    // The same where the decoder is lent, as in the source: it is left at its new places.
+    pub fn decode_mut(&mut self, out: &mut [i16], num_values: usize, num_bits: u8) -> Outcome
+        ensures { λ r. ⌜ (r ≡ outcome (decodeAnswer (now (now (self .entry) .src)) (now (self .entry) .state) (length (now (out .entry))) «num_values» «num_bits»)) × ((now (self .exit) ≡ decoderAt (now (self .entry) .src) (stateOf (decodeAnswer (now (now (self .entry) .src)) (now (self .entry) .state) (length (now (out .entry))) «num_values» «num_bits»))) × (now (out .exit) ≡ decodeOut (now (now (self .entry) .src)) (now (self .entry) .state) (now (out .entry)) «num_values» «num_bits»)) ⌝ }
+    {
+        let d = *self;
+        let r = d.decode(out, num_values, num_bits);
+        *self = r.decoder;
+        Outcome {
+            number: r.number,
+            count: r.count,
         }
     }
 }
