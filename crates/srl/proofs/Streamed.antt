@@ -2,16 +2,15 @@
 use mathlib.Core.Path.{_≡_, refl, ap, sym, _∙_}
 use mathlib.Core.Bool.{Bool, true, false, cond}
 use mathlib.Core.List.{List, [], _∷_, _++_, append-assoc}
-use Prim.Native.Nat.{ℕ, zero, suc, _+_, _≤_}
+use Prim.Native.Nat.{ℕ}
 use native.Mathlib.Omega.{arith}
-use lib.IntN.{ℤ, pos, negsuc}
+use lib.IntN.{ℤ}
 use lib.ListN.{length}
 use borrow.Author.Tests.{lt-ltb, le-leb}
 use Rattle.bits.specs.Written.{pack}
-use Rattle.bits.proofs.Puts.{after-sound}
 use Rattle.bits.proofs.Packed.{pack-append}
 use Rattle.srl_rules.specs.Rules.{widthOk, noRoom}
-use Rattle.srl_encoder.specs.Encode.{valueKp, valueZeros, callBits, callKp, callZeros, sink, bitsFrom, callBytes, callAfter, writerOk, valueFault, firstOf, fault, encodeRefusal}
+use Rattle.srl_encoder.specs.Encode.{callBits, callKp, callZeros, bitsFrom, callBytes, callAfter, writerOk, firstOf, fault, encodeRefusal}
 use Rattle.srl_encoder.specs.Finish.{flush}
 use Rattle.srl.specs.Laws.{Call, streamFrom, EncoderResumes}
 use Rattle.srl_encoder.specs.declared.SrlWriter.{SrlWriter}

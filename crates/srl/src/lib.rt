@@ -14,6 +14,7 @@ pub use srl_encoder::encode;
 pub use srl_encoder::encoder;
 pub use srl_encoder::finish;
 pub use srl_held::DecodedBy;
+pub use srl_held::Outcome;
 pub use srl_held::SrlDecoder;
 pub use srl_held::decode_srl;
 pub use srl_held::encode_srl;

@@ -19,7 +19,7 @@ pub struct SrlDecoder<'a> {
 }
 
 // What a call answers, as numbers: 0 or the refusal's number, how many values were stored, and the state after the call.
-pub struct Parts {
+struct Parts {
     pub number: u8,
     pub count: usize,
     pub state: srl_decoder::SrlState,
@@ -39,7 +39,7 @@ pub struct Outcome {
 }
 
 // A call of `srl_decoder::decode`, its answer as numbers.
-pub fn decode_at(
+fn decode_at(
     src: &[u8],
     state: srl_decoder::SrlState,
     out: &mut [i16],
@@ -111,7 +111,7 @@ impl<'a> SrlDecoder<'a> {
 }
 
 // The answer that the numbers are.
-pub fn answer_of(number: u8, count: usize, state: srl_decoder::SrlState) -> srl_decoder::Decoded
+fn answer_of(number: u8, count: usize, state: srl_decoder::SrlState) -> srl_decoder::Decoded
     ensures { λ r. ⌜ r ≡ decoded number count state state ⌝ }
 {
     if number == 0 {

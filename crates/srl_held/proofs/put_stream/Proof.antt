@@ -1,6 +1,6 @@
 -- `srl_held::put_stream` meets its contract: the values, the pending run, the padding and a byte 0 in a row. Assumes nothing.
 use mathlib.Core.Path.{_≡_, ap, _∙_}
-use Prim.Native.Nat.{_+_, _^_, _<_}
+use Prim.Native.Nat.{_+_}
 use native.Mathlib.Omega.{arith}
 use lib.ListN.{length, set}
 use lib.Seq.{sets}
