@@ -10,7 +10,7 @@ use Rattle.srl_held.specs.declared.Parts.{Parts}
 use Rattle.srl_held.specs.declared.DecodedBy.{DecodedBy}
 use Rattle.srl_held.specs.declared.Outcome.{Outcome}
 
--- a stream and a state
+-- a decoder: its stream, and what a call has as "the state handed in"
 abbrev pub decoderAt : RefT (List ℕ) → SrlState → SrlDecoder
 decoderAt src st = record { src = src; state = st }
 
@@ -18,10 +18,10 @@ decoderAt src st = record { src = src; state = st }
 abbrev pub parts : Decoded → Parts
 parts r = record { number = numberOf r; count = valueCount r; state = stateOf r }
 
--- the same with the decoder at the state that the call left
+-- the same with the decoder of the stream at that state: after values the next one, with a refusal "the state handed in"
 abbrev pub decodedBy : RefT (List ℕ) → Decoded → DecodedBy
 decodedBy src r = record { number = numberOf r; count = valueCount r; decoder = decoderAt src (stateOf r) }
 
--- the number and the count alone
+-- "its number, zero lengths and counts" alone: the decoder is lent, and holds the state
 abbrev pub outcome : Decoded → Outcome
 outcome r = record { number = numberOf r; count = valueCount r }

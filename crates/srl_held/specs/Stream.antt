@@ -9,11 +9,11 @@ use Rattle.srl_encoder.specs.Encode.{freshWriter, callBytes, callAfter, firstOf
 use Rattle.srl_encoder.specs.Finish.{finishBytes, finished}
 use Rattle.srl_encoder.specs.declared.Finished.{Finished}
 
--- the whole bytes of the values from the first state on, and then what "`finish` writes"
+-- "the whole bytes that this call completes" from the first state on; then "`finish` writes a pending run as if a value followed, pads with zeros, and appends one byte 0"
 abbrev pub streamBytes : ℕ → List ℤ → List ℕ
 streamBytes w vs = callBytes w freshWriter vs ++ finishBytes (callAfter w freshWriter vs)
 
--- "order: .. 4, then 5 or 6 by the earlier value, 7". 7: "the answer exceeds an output slice"
+-- "order: .. 4, then 5 or 6 by the earlier value, 7"; 7 is "the answer exceeds an output slice", and the answer is the whole stream
 abbrev pub streamRefusal : List ℤ → ℕ → ℕ → ℕ
 streamRefusal vs room w = cond (widthOk w) (firstOf (fault w 0 vs) (noRoom room (length (streamBytes w vs)))) 4
 
