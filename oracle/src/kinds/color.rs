@@ -8,12 +8,12 @@ use oracle::random::{Random, limits};
 use crate::digest::mixed;
 use crate::record::{Cases, Kind, Recording};
 
-const YCBCR_TO_RGB: Kind = Kind {
+pub const YCBCR_TO_RGB: Kind = Kind {
     number: 43,
     inputs: 6,
     size: 9,
 };
-const YCBCR_ROW: Kind = Kind {
+pub const YCBCR_ROW: Kind = Kind {
     number: 44,
     inputs: 4,
     size: 12,
@@ -30,8 +30,8 @@ const GRID: [i16; 21] = [
 ];
 
 pub fn record_all(recording: &mut Recording<'_>) -> io::Result<()> {
-    ycbcr_to_rgb(recording)?;
-    ycbcr_row(recording)
+    recording.kind(YCBCR_TO_RGB.number, ycbcr_to_rgb)?;
+    recording.kind(YCBCR_ROW.number, ycbcr_row)
 }
 
 fn ycbcr_to_rgb(recording: &mut Recording<'_>) -> io::Result<()> {

@@ -10,12 +10,12 @@ use super::short;
 use crate::digest::{mixed, with_values};
 use crate::record::{Cases, Kind, Recording};
 
-const DWT_DECODE: Kind = Kind {
+pub const DWT_DECODE: Kind = Kind {
     number: 41,
     inputs: 13,
     size: 22,
 };
-const DWT_IMPULSE: Kind = Kind {
+pub const DWT_IMPULSE: Kind = Kind {
     number: 42,
     inputs: 4,
     size: 12,
@@ -30,8 +30,8 @@ const AMPLITUDES: [i16; 16] = [
 ];
 
 pub fn record_all(recording: &mut Recording<'_>) -> io::Result<()> {
-    decode(recording)?;
-    impulse(recording)
+    recording.kind(DWT_DECODE.number, decode)?;
+    recording.kind(DWT_IMPULSE.number, impulse)
 }
 
 /// What the samples of a list are like.

@@ -15,7 +15,7 @@ use crate::kinds::room::Room;
 use crate::record::{Case, Recording};
 use oracle::random::Random;
 
-const ENCODE_UPGRADE: u8 = 37;
+pub const ENCODE_UPGRADE: u8 = 37;
 
 /// The most bytes that an output of a case has room for.
 const MOST_ROOM: usize = 16384;

@@ -13,7 +13,7 @@ use super::{
 };
 use crate::record::{Case, Recording};
 
-const UPGRADE_LADDER: u8 = 40;
+pub const UPGRADE_LADDER: u8 = 40;
 
 /// The longest stream of a case.
 const LONGEST: usize = 16384;

@@ -9,7 +9,7 @@ use super::{Before, COMPONENT, GREATEST, Shape, TOO_SHORT, record_kind, refusal,
 use crate::digest::with_bytes;
 use crate::record::{Case, Recording};
 
-const TILE_PIXELS: u8 = 45;
+pub const TILE_PIXELS: u8 = 45;
 
 /// The port's refusal of pixels in the standard layout, whose wavelet the text names and does not
 /// define: README.md has the rule.

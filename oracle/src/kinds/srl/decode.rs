@@ -12,7 +12,7 @@ use super::{
 use crate::record::{Case, Recording};
 use oracle::random::Random;
 
-const SRL_DECODE: u8 = 32;
+pub const SRL_DECODE: u8 = 32;
 
 /// The longest run that a decoder can be in.
 const LONGEST_RUN: usize = 1024;

@@ -13,7 +13,7 @@ use crate::kinds::room::Room;
 use crate::record::{Case, Recording};
 use oracle::random::Random;
 
-const SRL_ENCODE: u8 = 33;
+pub const SRL_ENCODE: u8 = 33;
 
 /// The most zeros that can wait for a value.
 const MOST_ZEROS: usize = 4096;

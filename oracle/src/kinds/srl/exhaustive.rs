@@ -8,7 +8,7 @@ use oracle::srl::reach;
 use crate::digest::{mixed, with_values};
 use crate::record::{Kind, Recording};
 
-const SRL_EXHAUSTIVE: Kind = Kind {
+pub const SRL_EXHAUSTIVE: Kind = Kind {
     number: 34,
     inputs: 4,
     size: 12,
