@@ -1,14 +1,80 @@
-// The C ABI. Each function returns the number of a refusal (docs/SCOPE.md, "Refusals"), 0 where there is none. A slice is a pointer and
-// then its length in elements, a row of ten a pointer. What is lent to one call must not overlap.
+// The C ABI (include/tarjimp.h). Each function returns the number of a refusal (docs/SCOPE.md, "Refusals"), 0 where there is none. A slice is
+// a pointer and then its length in elements, an array of a fixed size a pointer. What is lent to one call must not overlap.
 
 ghost use mathlib.Core.Path.{_≡_};
 ghost use mathlib.Core.List.{_∷_, []};
+ghost use lib.ListN.{length};
 ghost use Rattle.progressive_decoder.specs.Upgrade.{decodeAnswer, decodeCoefficients, decodeSigns};
 ghost use Rattle.answer.specs.Refusals.{numberOf};
 ghost use Rattle.progressive_encoder.specs.Encode.{writtenNumber, srlCount, rawCount, encodeAnswer, encodeSrlOut, encodeRawOut};
 ghost use Rattle.dwt_extrapolate.specs.Transform.{inverseAnswer, inverseBuffer, inverseScratch};
 ghost use Rattle.pixels.specs.Pixels.{pixelsAnswer, pixelsOut};
 ghost use Rattle.dequantizer.specs.Dequantize.{dequantizeAnswer, dequantizeOut};
+ghost use Rattle.color.specs.Color.{rgb};
+ghost use Rattle.planes.specs.Planes.{three};
+ghost use Rattle.tile.specs.Tile.{decodeUpgrade};
+ghost use Rattle.tarjimp.specs.Calls.{srlDecodeNumber, srlDecodeState, srlDecodeOut, srlEncodeNumber, srlEncodeState, srlEncodeOut, srlEncodeCount, srlFinishNumber, srlFinishOut, srlFinishCount, tileOf};
+
+pub mod answers;
+pub mod states;
+
+// Reads `num_values` values of an SRL stream from a state on. The state is five numbers: byte, bit, kp, zero_run_remaining, nonzero_pending.
+#[no_mangle]
+pub extern "C" fn tarjimp_srl_decode(
+    src: &[u8],
+    state: &mut [u64; 5],
+    out: &mut [i16],
+    num_values: usize,
+    num_bits: u8,
+) -> u8
+    ensures { λ r. ⌜ (r ≡ srlDecodeNumber (now (src .entry)) (now (state .entry)) (length (now (out .entry))) «num_values» «num_bits») × (now (state .exit) ≡ srlDecodeState (now (src .entry)) (now (state .entry)) (length (now (out .entry))) «num_values» «num_bits») × (now (out .exit) ≡ srlDecodeOut (now (src .entry)) (now (state .entry)) (now (out .entry)) «num_values» «num_bits») ⌝ }
+{
+    let s = *state;
+    if !states::reader_fits(s) {
+        return 8;
+    }
+    let d = srl_decoder::decode(src, states::reader_of(s), out, num_values, num_bits);
+    *state = answers::decoded_numbers(d, s);
+    answers::decoded_number(d)
+}
+
+// Writes values to an SRL stream from a state on: the whole bytes that they complete, whose count is in `written` then. The state is four
+// numbers: kp, pending_zeros, current, bit_count.
+#[no_mangle]
+pub extern "C" fn tarjimp_srl_encode(
+    values: &[i16],
+    state: &mut [u64; 4],
+    out: &mut [u8],
+    num_bits: u8,
+    written: &mut usize,
+) -> u8
+    ensures { λ r. ⌜ (r ≡ srlEncodeNumber (now (values .entry)) (now (state .entry)) (length (now (out .entry))) «num_bits») × (now (state .exit) ≡ srlEncodeState (now (values .entry)) (now (state .entry)) (length (now (out .entry))) «num_bits») × (now (out .exit) ≡ srlEncodeOut (now (values .entry)) (now (state .entry)) (now (out .entry)) «num_bits») × (now (written .exit) ≡ srlEncodeCount (now (values .entry)) (now (state .entry)) (length (now (out .entry))) «num_bits») ⌝ }
+{
+    let s = *state;
+    if !states::writer_fits(s) {
+        *written = 0;
+        return 8;
+    }
+    let e = srl_encoder::encode(values, states::writer_of(s), out, num_bits);
+    *state = answers::encoded_numbers(e, s);
+    *written = answers::encoded_count(e);
+    answers::encoded_number(e)
+}
+
+// Writes the end of an SRL stream, whose count of bytes is in `written` then.
+#[no_mangle]
+pub extern "C" fn tarjimp_srl_finish(state: &[u64; 4], out: &mut [u8], written: &mut usize) -> u8
+    ensures { λ r. ⌜ (r ≡ srlFinishNumber (now (state .entry)) (length (now (out .entry)))) × (now (out .exit) ≡ srlFinishOut (now (state .entry)) (now (out .entry))) × (now (written .exit) ≡ srlFinishCount (now (state .entry)) (length (now (out .entry)))) ⌝ }
+{
+    let s = *state;
+    if !states::writer_fits(s) {
+        *written = 0;
+        return 8;
+    }
+    let f = srl_encoder::finish(states::writer_of(s), out);
+    *written = answers::finished_count(f);
+    answers::finished_number(f)
+}
 
 // Reads a pass: the coefficients of each band go from its position in `prev` to that in `curr`.
 #[no_mangle]
@@ -53,36 +119,6 @@ pub extern "C" fn tarjimp_dequantize_component(
     ))
 }
 
-// The number of what a writer answers.
-fn written_number(w: progressive::Written) -> u8
-    ensures { λ r. ⌜ r ≡ writtenNumber w ⌝ }
-{
-    match w {
-        progressive::Written::Bytes(_, _) => 0,
-        progressive::Written::Refused(k) => k,
-    }
-}
-
-// How many bytes of the SRL stream were written.
-fn srl_count(w: progressive::Written) -> usize
-    ensures { λ r. ⌜ r ≡ srlCount w ⌝ }
-{
-    match w {
-        progressive::Written::Bytes(n, _) => n,
-        progressive::Written::Refused(_) => 0,
-    }
-}
-
-// How many bytes of the raw stream were written.
-fn raw_count(w: progressive::Written) -> usize
-    ensures { λ r. ⌜ r ≡ rawCount w ⌝ }
-{
-    match w {
-        progressive::Written::Bytes(_, m) => m,
-        progressive::Written::Refused(_) => 0,
-    }
-}
-
 // Writes a pass. `written` has the counts of bytes of the SRL stream and of the raw stream then, 0 and 0 after a refusal.
 #[no_mangle]
 pub extern "C" fn tarjimp_encode_upgrade_pass(
@@ -110,8 +146,8 @@ pub extern "C" fn tarjimp_encode_upgrade_pass(
         srl_out,
         raw_out,
     );
-    *written = [srl_count(w), raw_count(w)];
-    written_number(w)
+    *written = [answers::srl_count(w), answers::raw_count(w)];
+    answers::written_number(w)
 }
 
 // The inverse wavelet of a component, in place, with a scratch.
@@ -120,6 +156,60 @@ pub extern "C" fn tarjimp_dwt_extrapolate_decode(buffer: &mut [i16], temp: &mut 
     ensures { λ r. ⌜ (r ≡ numberOf (inverseAnswer (now (buffer .entry)) (now (temp .entry)))) × (now (buffer .exit) ≡ inverseBuffer (now (buffer .entry)) (now (temp .entry))) × (now (temp .exit) ≡ inverseScratch (now (buffer .entry)) (now (temp .entry))) ⌝ }
 {
     answer::number_of(dwt_extrapolate::decode(buffer, temp))
+}
+
+// The three bytes of a pixel.
+#[no_mangle]
+pub extern "C" fn tarjimp_ycbcr_to_rgb(y: i16, cb: i16, cr: i16, out: &mut [u8; 3])
+    ensures { λ _. ⌜ now (out .exit) ≡ rgb y cb cr ⌝ }
+{
+    *out = color::ycbcr_to_rgb(y, cb, cr);
+}
+
+// A pass over the three components of a tile, in place: `TileState::decode_upgrade` on the fields that it reads and changes.
+#[no_mangle]
+pub extern "C" fn tarjimp_tile_decode_upgrade(
+    coefficients: &mut [i16; 12288],
+    sign: &mut [i8; 12288],
+    prog_quant: &mut [u8; 30],
+    base_quant: &[u8; 30],
+    use_reduce_extrapolate: bool,
+    pass: &mut u16,
+    quality: &mut u8,
+    prog_quants: &[[u8; 10]; 3],
+    new_quality: u8,
+    y_srl: &[u8],
+    y_raw: &[u8],
+    cb_srl: &[u8],
+    cb_raw: &[u8],
+    cr_srl: &[u8],
+    cr_raw: &[u8],
+) -> u8
+    ensures { λ r. ⌜ (r ≡ numberOf (decodeUpgrade (tileOf (now (coefficients .entry)) (now (sign .entry)) (now («prog_quant» .entry)) (now («base_quant» .entry)) «use_reduce_extrapolate» (now (pass .entry)) (now (quality .entry))) (three (now («y_srl» .entry)) (now («cb_srl» .entry)) (now («cr_srl» .entry))) (three (now («y_raw» .entry)) (now («cb_raw» .entry)) (now («cr_raw» .entry))) (now («prog_quants» .entry)) «new_quality» .answer)) × (tileOf (now (coefficients .exit)) (now (sign .exit)) (now («prog_quant» .exit)) (now («base_quant» .entry)) «use_reduce_extrapolate» (now (pass .exit)) (now (quality .exit)) ≡ decodeUpgrade (tileOf (now (coefficients .entry)) (now (sign .entry)) (now («prog_quant» .entry)) (now («base_quant» .entry)) «use_reduce_extrapolate» (now (pass .entry)) (now (quality .entry))) (three (now («y_srl» .entry)) (now («cb_srl» .entry)) (now («cr_srl» .entry))) (three (now («y_raw» .entry)) (now («cb_raw» .entry)) (now («cr_raw» .entry))) (now («prog_quants» .entry)) «new_quality» .tile) ⌝ }
+{
+    let rows = *prog_quants;
+    let positions = *prog_quant;
+    let quants = *base_quant;
+    if !tile::in_domain(rows, positions, quants) {
+        return 2;
+    }
+    components::upgrade_components(
+        y_srl,
+        y_raw,
+        cb_srl,
+        cb_raw,
+        cr_srl,
+        cr_raw,
+        positions,
+        rows,
+        use_reduce_extrapolate,
+        coefficients,
+        sign,
+    );
+    *prog_quant = planes::flat_rows(rows);
+    *pass = tile::next_pass(*pass);
+    *quality = new_quality;
+    0
 }
 
 // The pixels of a tile, of the fields that they depend on.

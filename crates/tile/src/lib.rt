@@ -37,7 +37,7 @@ pub struct Upgraded {
 }
 
 // The number of a tile's next pass.
-fn next_pass(pass: u16) -> u16
+pub fn next_pass(pass: u16) -> u16
     ensures { λ r. ⌜ r ≡ nextPass pass ⌝ }
 {
     if pass < 65535 {
@@ -47,7 +47,7 @@ fn next_pass(pass: u16) -> u16
 }
 
 // Whether no position or quantizer, given or in the tile, is above 15.
-fn in_domain(rows: [[u8; 10]; 3], positions: [u8; 30], quants: [u8; 30]) -> bool
+pub fn in_domain(rows: [[u8; 10]; 3], positions: [u8; 30], quants: [u8; 30]) -> bool
     ensures { λ r. ⌜ r ≡ (rowsInDomain rows && (rowInDomain positions && rowInDomain quants)) ⌝ }
 {
     if !bands::rows_in_domain(rows) {

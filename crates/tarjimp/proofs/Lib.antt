@@ -1,0 +1,2 @@
+-- Laws of `tarjimp`.
+pub mod Fitting

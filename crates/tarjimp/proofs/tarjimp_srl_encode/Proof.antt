@@ -1,0 +1,30 @@
+-- `tarjimp::tarjimp_srl_encode` meets its contract: that of `srl_encoder::encode` where the numbers fit their fields. Assumes nothing.
+use mathlib.Core.Bool.{true, false}
+use mathlib.Core.Path.{_≡_, sym, _∙_}
+use borrow.Author.Tests.{not-true, not-false}
+use borrow.Author.Needs.{needs}
+use Rattle.tarjimp.specs.States.{writerFits}
+use Rattle.tarjimp.proofs.tarjimp_srl_encode.Statement.{statement}
+use Rattle.tarjimp.proofs.tarjimp_srl_encode.Tie as tie
+
+-- past the test the numbers fit
+fits : (c : tie.Else1) → writerFits (c .before .before .before .before .args .state .now) ≡ true
+fits c = sym (c .before .writer-fits .ensures) ∙ not-false _ (c .if1 .left)
+
+returns : tie.Need-returns
+returns c =
+    let unfit : writerFits (c .before .before .before .before .args .state .now) ≡ false = sym (c .before .writer-fits .ensures) ∙ not-true _ (c .if1 .taken) in
+    (simp unfit, simp unfit, simp unfit, simp unfit)
+
+writer-of-requires : tie.Need-writer-of-requires
+writer-of-requires c κs = fits c
+
+returns-2 : tie.Need-returns-2
+returns-2 c =
+    let ok = fits (c .before .before .before .before .before .before .before .before) in
+    let st = c .before .before .before .before .before .before .before .writer-of .ensures in
+    let e = c .before .before .before .before .before .encode .ensures in
+    (simp ok (rw (c .encoded-number .ensures, e .0, st)), simp ok (rw (c .before .before .encoded-numbers .ensures, e .0, st)), simp ok (rw (e .1, st)), simp ok (rw (c .before .encoded-count .ensures, e .0, st)))
+
+pub tarjimp-srl-encode-spec : {M : Type 1} → statement M
+tarjimp-srl-encode-spec = tie.close (tie.spec (λ c κs. search needs) returns writer-of-requires (λ c κs. search needs) (λ c κs. search needs) (λ c κs. search needs) (λ c κs. search needs) (λ c. search needs) returns-2)

@@ -1,0 +1,89 @@
+-- What the C functions answer and leave, where they have more to say than the call beneath them (include/tarjimp.h; docs/SCOPE.md, "Refusals").
+use mathlib.Core.Bool.{Bool, false, cond}
+use mathlib.Core.List.{List}
+use Prim.Native.Nat.{ℕ}
+use lib.IntN.{ℤ}
+use lib.ListN.{replicate}
+use Rattle.srl_decoder.specs.Decode.{decodeAnswer, decodeOut, numberOf}
+use Rattle.srl_decoder.specs.declared.Decoded.{Decoded}
+use Rattle.srl_decoder.specs.declared.Decoded.the-variants as D
+use Rattle.srl_encoder.specs.Encode.{encodeAnswer, encodeOut, encodedNumber, encodedCount}
+use Rattle.srl_encoder.specs.Finish.{finishAnswer, finishOut, finishedNumber, finishedCount}
+use Rattle.srl_encoder.specs.declared.Encoded.{Encoded}
+use Rattle.srl_encoder.specs.declared.Encoded.the-variants as E
+use Rattle.tile.specs.Tile.{decodeUpgrade}
+use Rattle.tile.specs.declared.TileState.{TileState}
+use Rattle.tile.specs.declared.Upgraded.{Upgraded}
+use Rattle.tarjimp.specs.States.{readerFits, readerOf, readerNumbers, writerFits, writerOf, writerNumbers}
+
+-- ════ `tarjimp_srl_decode`: s is the state's five numbers ════
+
+-- a state's numbers after an answer: "a refusal gives .. the state handed in"
+abbrev pub decodedNumbers : Decoded → List ℕ → List ℕ
+decodedNumbers (D.Values n st) s = readerNumbers st
+decodedNumbers (D.Refused k st) s = s
+
+-- the number returned. 8: "a coder state" that no field can hold is none
+abbrev pub srlDecodeNumber : List ℕ → List ℕ → ℕ → ℕ → ℕ → ℕ
+srlDecodeNumber src s room n w = cond (readerFits s) (numberOf (decodeAnswer src (readerOf s) room n w)) 8
+
+-- the state's numbers then
+abbrev pub srlDecodeState : List ℕ → List ℕ → ℕ → ℕ → ℕ → List ℕ
+srlDecodeState src s room n w = cond (readerFits s) (decodedNumbers (decodeAnswer src (readerOf s) room n w) s) s
+
+-- what `out` holds then
+abbrev pub srlDecodeOut : List ℕ → List ℕ → List ℤ → ℕ → ℕ → List ℤ
+srlDecodeOut src s out n w = cond (readerFits s) (decodeOut src (readerOf s) out n w) out
+
+-- ════ `tarjimp_srl_encode`: s is the state's four numbers ════
+
+-- a state's numbers after an answer: "a refusal gives .. the state handed in"
+abbrev pub encodedNumbers : Encoded → List ℕ → List ℕ
+encodedNumbers (E.Bytes n st) s = writerNumbers st
+encodedNumbers (E.Refused k st) s = s
+
+-- the number returned; 8 as above
+abbrev pub srlEncodeNumber : List ℤ → List ℕ → ℕ → ℕ → ℕ
+srlEncodeNumber vs s room w = cond (writerFits s) (encodedNumber (encodeAnswer (writerOf s) vs room w)) 8
+
+-- the state's numbers then
+abbrev pub srlEncodeState : List ℤ → List ℕ → ℕ → ℕ → List ℕ
+srlEncodeState vs s room w = cond (writerFits s) (encodedNumbers (encodeAnswer (writerOf s) vs room w) s) s
+
+-- what `out` holds then
+abbrev pub srlEncodeOut : List ℤ → List ℕ → List ℕ → ℕ → List ℕ
+srlEncodeOut vs s out w = cond (writerFits s) (encodeOut (writerOf s) vs out w) out
+
+-- the count of bytes: "zero lengths and counts" with a refusal
+abbrev pub srlEncodeCount : List ℤ → List ℕ → ℕ → ℕ → ℕ
+srlEncodeCount vs s room w = cond (writerFits s) (encodedCount (encodeAnswer (writerOf s) vs room w)) 0
+
+-- ════ `tarjimp_srl_finish` ════
+
+-- the number returned; 8 as above
+abbrev pub srlFinishNumber : List ℕ → ℕ → ℕ
+srlFinishNumber s room = cond (writerFits s) (finishedNumber (finishAnswer (writerOf s) room)) 8
+
+-- what `out` holds then
+abbrev pub srlFinishOut : List ℕ → List ℕ → List ℕ
+srlFinishOut s out = cond (writerFits s) (finishOut (writerOf s) out) out
+
+-- the count of bytes
+abbrev pub srlFinishCount : List ℕ → ℕ → ℕ
+srlFinishCount s room = cond (writerFits s) (finishedCount (finishAnswer (writerOf s) room)) 0
+
+-- ════ `tarjimp_tile_decode_upgrade` ════
+
+-- the tile that the arrays and numbers are; an upgrade neither reads nor changes the two fields that are not among them
+abbrev pub tileOf : List ℤ → List ℤ → List ℕ → List ℕ → Bool → ℕ → ℕ → TileState
+tileOf cs ss positions quants e pass quality = record {
+  coefficients = cs;
+  sign = ss;
+  «prog_quant» = positions;
+  «quant_idx» = replicate 3 0;
+  «base_quant» = quants;
+  pass = pass;
+  «is_difference» = false;
+  quality = quality;
+  «use_reduce_extrapolate» = e;
+}

@@ -1,0 +1,3 @@
+-- What the contracts of `tarjimp` cite.
+pub mod States
+pub mod Calls

@@ -1,0 +1,187 @@
+/*
+ * Tarjimp: SRL and raw streams, upgrade passes, dequantizing, the inverse
+ * reduce-extrapolate wavelet and pixels of RemoteFX Progressive tiles.
+ *
+ * Link with libtarjimp.a, which `rt staticlib tarjimp` writes to
+ * target/staticlib/. It needs no other library, keeps no state of its own,
+ * allocates nothing, and any number of threads may call it.
+ *
+ * WHAT A CALL RETURNS
+ *
+ * 0 where the call was accepted, else the number of its refusal:
+ *
+ *   1  a coefficient, sign or scratch slice under 4,096 elements, or pixels
+ *      under 16,384 bytes
+ *   2  a position or quantizer above 15, given or in the tile
+ *   3  pixels wanted in the standard layout
+ *   4  an SRL width outside 1..15 (decode: only where a nonzero value is due)
+ *   5  a magnitude above the maximum of its width, 2^width - 1
+ *   6  more than 4,096 pending zeros
+ *   7  the answer exceeds an output slice
+ *   8  an impossible coder state
+ *
+ * Several reasons: the first in the order 8, 1, 2, 3, 4, 5 or 6 by the earlier
+ * value, 7. With a refusal no buffer, state or field is altered, and counts of
+ * bytes are 0. The bytes of a stream never cause one; past a stream's end
+ * every bit is 0. tarjimp_message() below has the numbers in words.
+ *
+ * WHAT MUST HOLD OF POINTERS
+ *
+ * - A slice is a pointer and its length in ELEMENTS. With length 0 the pointer
+ *   is not read; it may be NULL.
+ * - Else a pointer points to that many elements, aligned for their type, and
+ *   an array parameter (as prev[10]) to as many as it says.
+ * - What one call is lent for writing overlaps nothing else that it is lent.
+ *   What it only reads may overlap what it only reads.
+ * - A length counts what one object can hold: at most PTRDIFF_MAX bytes.
+ * - A bool is 0 or 1.
+ *
+ * Everything else is checked, and refused by number. A slice may be longer
+ * than a call needs: what lies past the answer is left as it was.
+ *
+ * TERMS
+ *
+ * A component has 64 x 64 = 4,096 coefficients in ten bands, in the order HL1
+ * LH1 HH1 HL2 LH2 HH2 HL3 LH3 HH3 LL3; a tile three components, Y, Cb and Cr,
+ * one after another. A row has a number for each band, in that order:
+ * positions (the lowest bit that has arrived) or quantizers. Signs are 1, -1,
+ * or 0 for a coefficient whose first bit has not arrived.
+ */
+#ifndef TARJIMP_H
+#define TARJIMP_H
+
+#include <stdbool.h>
+#include <stddef.h>
+#include <stdint.h>
+
+#ifdef __cplusplus
+extern "C" {
+#endif
+
+/*
+ * SRL streams. A state is handed in and back as numbers, so that a stream may
+ * be read or written in any number of calls. Fresh states:
+ */
+#define TARJIMP_SRL_DECODE_START { 0, 0, 8, 0, 0 }
+#define TARJIMP_SRL_ENCODE_START { 8, 0, 0, 0 }
+
+/*
+ * Stores the next num_values values at the front of out, each 0 or of a
+ * magnitude of num_bits bits.
+ * state: byte, bit, kp, zero_run_remaining, nonzero_pending (0 or 1).
+ * Refusals: 8, 4, 7.
+ */
+uint8_t tarjimp_srl_decode(const uint8_t *data, size_t data_len,
+                           uint64_t state[5],
+                           int16_t *out, size_t out_len,
+                           size_t num_values, uint8_t num_bits);
+
+/*
+ * Writes values: the whole bytes that this call completes, from the start of
+ * out. *written is their count.
+ * state: kp, pending_zeros, current (unfinished bits), bit_count.
+ * Refusals: 8, 4, 5 or 6, 7.
+ */
+uint8_t tarjimp_srl_encode(const int16_t *values, size_t values_len,
+                           uint64_t state[4],
+                           uint8_t *out, size_t out_len,
+                           uint8_t num_bits, size_t written[1]);
+
+/*
+ * Writes the end of a stream from the start of out: pending zeros, padding and
+ * a byte 0. *written is the count of bytes. Refusals: 8, 7.
+ */
+uint8_t tarjimp_srl_finish(const uint64_t state[4],
+                           uint8_t *out, size_t out_len, size_t written[1]);
+
+/*
+ * Reads an upgrade pass over one component, in place: each band goes from its
+ * position in prev to that in curr; a band whose position does not fall is
+ * left alone. Refusals: 1, 2.
+ */
+uint8_t tarjimp_decode_upgrade_pass(const uint8_t *srl, size_t srl_len,
+                                    const uint8_t *raw, size_t raw_len,
+                                    const uint8_t prev[10], const uint8_t curr[10],
+                                    bool use_reduce_extrapolate,
+                                    int16_t *coefficients, size_t coefficients_len,
+                                    int8_t *sign, size_t sign_len);
+
+/*
+ * Writes an upgrade pass over one component: from prev_coefficients, with
+ * their signs, to coefficients. written has the counts of bytes of the SRL
+ * stream and of the raw stream. Refusals: 1, 2, 5, 7.
+ * 5 cannot happen where the coefficients are multiples of 2^position in curr,
+ * prev_coefficients are the same without the bits below prev of their
+ * magnitudes, and signs are those of prev_coefficients.
+ */
+uint8_t tarjimp_encode_upgrade_pass(const int16_t *coefficients, size_t coefficients_len,
+                                    const int16_t *prev_coefficients, size_t prev_coefficients_len,
+                                    const uint8_t prev[10], const uint8_t curr[10],
+                                    const int8_t *sign, size_t sign_len,
+                                    bool use_reduce_extrapolate,
+                                    uint8_t *srl_out, size_t srl_out_len,
+                                    uint8_t *raw_out, size_t raw_out_len,
+                                    size_t written[2]);
+
+/* Dequantizes a component in place. Refusals: 1, 2. */
+uint8_t tarjimp_dequantize_component(int16_t *coefficients, size_t coefficients_len,
+                                     const uint8_t quant[10], bool use_reduce_extrapolate);
+
+/*
+ * The inverse reduce-extrapolate wavelet of a component, in place. temp is
+ * scratch of the same size. Refusal: 1.
+ */
+uint8_t tarjimp_dwt_extrapolate_decode(int16_t *buffer, size_t buffer_len,
+                                       int16_t *temp, size_t temp_len);
+
+/* The red, green and blue of a pixel. */
+void tarjimp_ycbcr_to_rgb(int16_t y, int16_t cb, int16_t cr, uint8_t rgb[3]);
+
+/*
+ * An upgrade pass over a tile, in place, from its positions in prog_quant to
+ * prog_quants (three rows of ten): coefficients and signs, then prog_quant
+ * and *quality are set and *pass rises by 1, up to 65535. Refusal: 2.
+ */
+uint8_t tarjimp_tile_decode_upgrade(int16_t coefficients[12288], int8_t sign[12288],
+                                    uint8_t prog_quant[30], const uint8_t base_quant[30],
+                                    bool use_reduce_extrapolate,
+                                    uint16_t pass[1], uint8_t quality[1],
+                                    const uint8_t prog_quants[30], uint8_t new_quality,
+                                    const uint8_t *y_srl, size_t y_srl_len,
+                                    const uint8_t *y_raw, size_t y_raw_len,
+                                    const uint8_t *cb_srl, size_t cb_srl_len,
+                                    const uint8_t *cb_raw, size_t cb_raw_len,
+                                    const uint8_t *cr_srl, size_t cr_srl_len,
+                                    const uint8_t *cr_raw, size_t cr_raw_len);
+
+/*
+ * The pixels of a tile, row by row, four bytes each: red, green, blue, 255.
+ * Refusals: 1, 2, 3 (only the reduce-extrapolate layout has pixels).
+ */
+uint8_t tarjimp_tile_reconstruct_to_rgba(const int16_t coefficients[12288],
+                                         const uint8_t prog_quant[30], const uint8_t base_quant[30],
+                                         bool use_reduce_extrapolate,
+                                         uint8_t *pixels, size_t pixels_len);
+
+/* What a returned number means, for a log or a message. */
+static inline const char *tarjimp_message(uint8_t number)
+{
+    switch (number) {
+    case 0: return "accepted";
+    case 1: return "a slice is too short: coefficients, signs and scratch have 4096 elements, pixels 16384 bytes";
+    case 2: return "a position or quantizer is above 15";
+    case 3: return "pixels are made in the reduce-extrapolate layout only";
+    case 4: return "an SRL width is outside 1 to 15";
+    case 5: return "a magnitude is above the maximum of its width";
+    case 6: return "more than 4096 zeros are pending";
+    case 7: return "the answer does not fit the output slice";
+    case 8: return "the coder state is impossible";
+    default: return "no number of this library";
+    }
+}
+
+#ifdef __cplusplus
+}
+#endif
+
+#endif
