@@ -14,6 +14,8 @@ extern crate self as oracle;
 
 pub mod digest;
 pub mod kinds;
+#[cfg(feature = "port")]
+pub mod port;
 pub mod random;
 pub mod record;
 pub mod stand_ins;

@@ -49,6 +49,83 @@ impl<W: Write> Sink for Written<W> {
     }
 }
 
+/// Reads the fields of a case, one after another.
+pub struct Fields<'a> {
+    left: &'a [u8],
+}
+
+impl<'a> Fields<'a> {
+    pub fn of(case: &'a [u8]) -> Self {
+        Self { left: case }
+    }
+
+    /// So many bytes.
+    ///
+    /// # Panics
+    ///
+    /// Panics if the case has fewer.
+    pub fn bytes(&mut self, count: usize) -> &'a [u8] {
+        let (bytes, left) = self.left.split_at(count);
+        self.left = left;
+        bytes
+    }
+
+    fn array<const N: usize>(&mut self) -> [u8; N] {
+        self.bytes(N).try_into().expect("as many as asked for")
+    }
+
+    pub fn u8(&mut self) -> u8 {
+        self.array::<1>()[0]
+    }
+
+    pub fn flag(&mut self) -> bool {
+        self.u8() != 0
+    }
+
+    pub fn i16(&mut self) -> i16 {
+        i16::from_le_bytes(self.array())
+    }
+
+    pub fn u16(&mut self) -> u16 {
+        u16::from_le_bytes(self.array())
+    }
+
+    pub fn u64(&mut self) -> u64 {
+        u64::from_le_bytes(self.array())
+    }
+
+    /// A length or a count of 2 bytes.
+    pub fn short(&mut self) -> usize {
+        self.u16().into()
+    }
+
+    /// A number of the machine's size, of 8 bytes.
+    pub fn long(&mut self) -> usize {
+        self.u64() as usize
+    }
+
+    /// A number for each band.
+    pub fn row(&mut self) -> [u8; 10] {
+        self.array()
+    }
+
+    /// Lengths of 2 bytes each.
+    pub fn shorts<const N: usize>(&mut self) -> [usize; N] {
+        [(); N].map(|()| self.short())
+    }
+
+    /// Whether an answer comes next. It is passed over if it does.
+    pub fn has(&mut self, answer: &[u8]) -> bool {
+        match self.left.strip_prefix(answer) {
+            Some(left) => {
+                self.left = left;
+                true
+            }
+            None => false,
+        }
+    }
+}
+
 /// Reads a record of a file; nothing at the end.
 pub fn read_record(input: &mut impl Read) -> io::Result<Option<(u8, Vec<u8>)>> {
     let mut kind = [0];

@@ -1,11 +1,9 @@
 //! What is timed: components of three sorts, a pass over them, and tiles. README.md has the rule.
 
 use oracle::codecs::rfx::progressive::ComponentCodecQuant;
+use oracle::port::Row;
 use oracle::progressive::{self, COEFFICIENTS_PER_COMPONENT, TileState};
 use oracle::random::Random;
-
-/// A number for each band, in band order.
-pub type Row = [u8; 10];
 
 /// The layout that viewers use.
 pub const USE_REDUCE_EXTRAPOLATE: bool = true;

@@ -1,7 +1,6 @@
 //! Times the port beside the Rust: `bench [REPETITIONS]`.
 
 mod input;
-mod port;
 
 use std::env;
 use std::hint::black_box;
@@ -10,6 +9,7 @@ use std::time::Instant;
 
 use oracle::codecs::rfx::progressive::ComponentCodecQuant;
 use oracle::dwt_extrapolate;
+use oracle::port;
 use oracle::progressive::{self, COEFFICIENTS_PER_COMPONENT, reach};
 
 use input::{CURR, FAINT, Input, PREV, QUANT, SORTS, Tile, USE_REDUCE_EXTRAPOLATE, inputs, tiles};
@@ -253,7 +253,7 @@ fn port_encode_exact(input: &Input, work: &mut Work) {
 }
 
 fn write(input: &Input, work: &mut Work, srl_room: usize, raw_room: usize) {
-    let (number, written) = port::encode_upgrade_pass(
+    let number = port::encode_upgrade_pass(
         &input.target,
         &input.before,
         &PREV,
@@ -262,9 +262,9 @@ fn write(input: &Input, work: &mut Work, srl_room: usize, raw_room: usize) {
         USE_REDUCE_EXTRAPOLATE,
         &mut work.srl[..srl_room],
         &mut work.raw[..raw_room],
+        &mut work.written,
     );
     assert_eq!(number, 0, "every value has its width, and there is room");
-    work.written = written;
 }
 
 fn rust_dequantize(input: &Input, work: &mut Work) {
@@ -299,7 +299,7 @@ fn rust_reconstruct(tile: &Tile, work: &mut Work) {
 }
 
 fn port_reconstruct(tile: &Tile, work: &mut Work) {
-    let number = port::reconstruct_to_rgba(
+    let number = port::tile_reconstruct_to_rgba(
         &tile.state.coefficients,
         &[CURR; 3],
         &tile.base_quant,

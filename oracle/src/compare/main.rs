@@ -60,7 +60,8 @@ fn compare(asked: &Arguments, progress: &Arc<Progress>) -> io::Result<Counts> {
     let mut counts = Counts::default();
     if let Some(file) = &asked.file {
         let mut comparison = Comparison::start(None, progress, &found)?;
-        let made = compare_file(file, &mut comparison);
+        let made = compare_file(file, &mut comparison)
+            .map_err(|error| io::Error::new(error.kind(), format!("{}: {error}", file.display())));
         comparison.finish(made, &mut counts)?;
         return Ok(counts);
     }

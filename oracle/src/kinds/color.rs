@@ -92,11 +92,15 @@ fn ycbcr_row(recording: &mut Recording<'_>) -> io::Result<()> {
     cases.finish()
 }
 
+/// A digest with one pixel more.
+pub fn with_pixel(digest: u64, [red, green, blue]: [u8; 3]) -> u64 {
+    mixed(digest, u32::from_le_bytes([red, green, blue, 0]).into())
+}
+
 /// Every y, in the order of its bits as an unsigned number.
 fn add_row(cases: &mut Cases<'_, '_>, cb: i16, cr: i16) -> io::Result<()> {
     let digest = (0..=u16::MAX).fold(0, |digest, y| {
-        let [red, green, blue] = reach::ycbcr_to_rgb(y.cast_signed(), cb, cr);
-        mixed(digest, u32::from_le_bytes([red, green, blue, 0]).into())
+        with_pixel(digest, reach::ycbcr_to_rgb(y.cast_signed(), cb, cr))
     });
     cases.add(&[&cb.to_le_bytes(), &cr.to_le_bytes(), &digest.to_le_bytes()])
 }

@@ -4,7 +4,7 @@ mod bands;
 pub mod color;
 mod fixed;
 pub mod progressive;
-mod room;
+pub mod room;
 pub mod srl;
 pub mod wavelet;
 pub mod wrong;

@@ -11,7 +11,7 @@ use crate::record::{Case, Recording};
 use oracle::random::Random;
 
 /// The most values or bytes that a call of a case has room for.
-const MOST_ROOM: usize = 8192;
+pub const MOST_ROOM: usize = 8192;
 
 /// The greatest kp.
 const MAX_KP: u8 = 80;

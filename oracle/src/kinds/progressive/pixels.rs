@@ -51,13 +51,18 @@ fn case(start: Start, length: usize) -> Case {
 
 /// The refusal, or 0, and the pixels, of which `length` bytes are lent. The text is asked only where
 /// there is no refusal.
-fn pixels(start: &Start, length: usize) -> (u8, Vec<u8>) {
-    let mut pixels: Vec<u8> = (0..BYTES).map(|i| (i % 200) as u8 + 55).collect();
+pub fn pixels(start: &Start, length: usize) -> (u8, Vec<u8>) {
+    let mut pixels = before();
     let number = refusal_of(start, length);
     if number == 0 {
         start.built().reconstruct_to_rgba(&mut pixels[..length]);
     }
     (number, pixels)
+}
+
+/// What is there before a call.
+pub fn before() -> Vec<u8> {
+    (0..BYTES).map(|i| (i % 200) as u8 + 55).collect()
 }
 
 /// 1 comes before 2, and 2 before 3.
