@@ -23,6 +23,8 @@ pub struct Count {
 pub struct Counts {
     kinds: [Count; 256],
     pub seeds: u64,
+    /// Whether the time was over within the last seed.
+    pub cut: bool,
 }
 
 impl Default for Counts {
@@ -30,6 +32,7 @@ impl Default for Counts {
         Self {
             kinds: [Count::default(); 256],
             seeds: 0,
+            cut: false,
         }
     }
 }
@@ -126,12 +129,13 @@ impl Counts {
             1 => "1 seed".into(),
             seeds => format!("{seeds} seeds"),
         };
+        let cut = if self.cut { ", the last one cut" } else { "" };
         let result = if self.differ() {
             "the port differs from the Rust"
         } else {
             "nothing differs"
         };
-        let _ = writeln!(table, "{result}: {seeds}, {} s", time.as_secs());
+        let _ = writeln!(table, "{result}: {seeds}{cut}, {} s", time.as_secs());
         table
     }
 }

@@ -141,6 +141,7 @@ impl<'a> Comparison<'a> {
         }
         self.counts.add_replayed(&replayed)?;
         all.add(&self.counts);
+        all.cut = self.stopped;
         Ok(())
     }
 

@@ -35,10 +35,17 @@ pub fn dwt_impulse(fields: &mut Fields<'_>) -> Agrees {
     same_answer(fields, &lists.digest().to_le_bytes())
 }
 
+/// What the port makes of a pixel, in place of other bytes.
+fn port_rgb(y: i16, cb: i16, cr: i16) -> [u8; 3] {
+    let mut rgb = [y as u8, cb as u8, cr as u8].map(|byte| !byte);
+    port::ycbcr_to_rgb(y, cb, cr, &mut rgb);
+    rgb
+}
+
 /// One pixel.
 pub fn ycbcr_to_rgb(fields: &mut Fields<'_>) -> Agrees {
     let [y, cb, cr] = [(); 3].map(|()| fields.i16());
-    let rgb = port::ycbcr_to_rgb(y, cb, cr);
+    let rgb = port_rgb(y, cb, cr);
     same("colours", rgb, reach::ycbcr_to_rgb(y, cb, cr))?;
     same_answer(fields, &rgb)
 }
@@ -48,7 +55,7 @@ pub fn ycbcr_row(fields: &mut Fields<'_>) -> Agrees {
     let [cb, cr] = [(); 2].map(|()| fields.i16());
     let mut digest = 0;
     for y in (0..=u16::MAX).map(u16::cast_signed) {
-        let rgb = port::ycbcr_to_rgb(y, cb, cr);
+        let rgb = port_rgb(y, cb, cr);
         if rgb != reach::ycbcr_to_rgb(y, cb, cr) {
             return same(&format!("y {y}"), rgb, reach::ycbcr_to_rgb(y, cb, cr));
         }
