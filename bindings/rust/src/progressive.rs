@@ -379,6 +379,8 @@ mod tests {
     #[test]
     fn standard_layout() {
         let bands = get_band_layout(false);
+        let counts = bands.map(|band| band.count());
+        assert_eq!(counts, [1024, 1024, 1024, 256, 256, 256, 64, 64, 64, 64]);
         assert_eq!(bands[9].offset, 4032);
         let mut offset = 0;
         for band in bands {
