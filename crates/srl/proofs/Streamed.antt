@@ -2,21 +2,20 @@
 use mathlib.Core.Path.{_≡_, refl, ap, sym, _∙_}
 use mathlib.Core.Bool.{Bool, true, false, cond}
 use mathlib.Core.List.{List, [], _∷_, _++_, append-assoc}
-use Prim.Native.Nat.{ℕ, zero, suc, _+_, _≤_}
+use Prim.Native.Nat.{ℕ}
 use native.Mathlib.Omega.{arith}
-use lib.IntN.{ℤ, pos, negsuc}
+use lib.IntN.{ℤ}
 use lib.ListN.{length}
 use borrow.Author.Tests.{lt-ltb, le-leb}
 use Rattle.bits.specs.Written.{pack}
-use Rattle.bits.proofs.Puts.{after-sound}
 use Rattle.bits.proofs.Packed.{pack-append}
 use Rattle.srl_rules.specs.Rules.{widthOk, noRoom}
-use Rattle.srl_encoder.specs.Encode.{valueKp, valueZeros, callBits, callKp, callZeros, sink, bitsFrom, callBytes, callAfter, writerOk, valueFault, firstOf, fault, encodeRefusal}
+use Rattle.srl_encoder.specs.Encode.{callBits, callKp, callZeros, bitsFrom, callBytes, callAfter, writerOk, firstOf, fault, encodeRefusal}
 use Rattle.srl_encoder.specs.Finish.{flush}
 use Rattle.srl.specs.Laws.{Call, streamFrom, EncoderResumes}
 use Rattle.srl_encoder.specs.declared.SrlWriter.{SrlWriter}
-use Rattle.srl_encoder.proofs.EncodedCalls.{writerOk-good}
-use Rattle.srl_encoder.proofs.EncodedValues.{value-kp, first-none, passes}
+use Rattle.srl_encoder.proofs.EncodedCalls.{writerOk-good, call-good}
+use Rattle.srl_encoder.proofs.EncodedValues.{first-none}
 
 -- ════ the stream ════
 
@@ -38,21 +37,6 @@ stream-packed st (c ∷ cs) =
 
 -- ════ the state after an accepted call ════
 
-call-kp : (kp z : ℕ) (vs : List ℤ) → kp ≤ 80 → callKp kp z vs ≤ 80
-call-kp kp z [] h = h
-call-kp kp z (v ∷ vs) h = call-kp (valueKp kp z v) (valueZeros z v) vs (value-kp kp z v h)
-
-value-small : (w z : ℕ) (v : ℤ) → z ≤ 4096 → valueFault w z v ≡ 0 → valueZeros z v ≤ 4096
-value-small w z (pos zero) h e = omega (arith, passes z 4096 5 e)
-value-small w z (pos (suc m)) h e = omega arith
-value-small w z (negsuc m) h e = omega arith
-
-call-zeros : (w z : ℕ) (vs : List ℤ) → z ≤ 4096 → fault w z vs ≡ 0 → callZeros z vs ≤ 4096
-call-zeros w z [] h e = h
-call-zeros w z (v ∷ vs) h e =
-    let f = first-none (valueFault w z v) (fault w (valueZeros z v) vs) e in
-    call-zeros w (valueZeros z v) vs (value-small w z v h (f .0)) (f .1)
-
 -- an accepted call passed every test
 tests : (s q : Bool) (f n : ℕ) → _≡_ {A = ℕ} (cond s (cond q (firstOf f n) 4) 8) 0 → (s ≡ true) × (q ≡ true) × (f ≡ 0)
 tests true true f n e = (refl, refl, first-none f n e .0)
@@ -67,7 +51,6 @@ pub resumes : EncoderResumes
 resumes = record {
   again = λ st vs room w e.
       let t = accepted st vs room w e in
-      let g = writerOk-good st (t .0) in
-      let s = after-sound (sink st) (bitsFrom w st vs) (g .0) in
-      simp (le-leb _ _ (call-kp (st .kp) (st .«pending_zeros») vs (g .1)), le-leb _ _ (s .0), le-leb _ _ (call-zeros w (st .«pending_zeros») vs (g .2) (t .2)), lt-ltb _ _ (s .1));
+      let g = call-good w st vs (writerOk-good st (t .0)) (t .2) in
+      simp (le-leb _ _ (g .1), le-leb _ _ (g .0 .0), le-leb _ _ (g .2), lt-ltb _ _ (g .0 .1));
 }

@@ -1,5 +1,5 @@
 // Simplified Run-Length (SRL) coding, both ways: a port of srl.rs. The decoder and the encoder are crates of their own, so that each is
-// proved by itself; here they are handed on, and here are the laws of both.
+// proved by itself, and so is the decoder that holds its stream; here they are handed on, and here are the laws of both coders.
 
 ghost use Rattle.srl.specs.Laws.{Refusals, DecodedMagnitudes, RoundTrip, DecoderResumes, EncoderResumes};
 pub use srl_decoder::Decoded;
@@ -13,6 +13,11 @@ pub use srl_encoder::SrlWriter;
 pub use srl_encoder::encode;
 pub use srl_encoder::encoder;
 pub use srl_encoder::finish;
+pub use srl_held::DecodedBy;
+pub use srl_held::Outcome;
+pub use srl_held::SrlDecoder;
+pub use srl_held::decode_srl;
+pub use srl_held::encode_srl;
 pub use srl_rules::INITIAL_KP;
 pub use srl_rules::MAX_KP;
 

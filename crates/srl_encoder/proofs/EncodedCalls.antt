@@ -6,22 +6,23 @@ use Prim.Native.Nat.{ℕ, zero, suc, _+_, _≤_}
 use native.Mathlib.Nat.{zero-add}
 use native.Mathlib.Omega.{arith}
 use lib.Dec.{ltb, leb}
-use lib.IntN.{ℤ}
+use lib.IntN.{ℤ, pos, negsuc}
 use lib.ListN.{length, drop, set, length-append}
 use lib.Seq.{sets}
 use borrow.Author.Tests.{ltb-true, leb-true}
 use Rattle.bits.specs.Written.{pack, Sound, Room, after, write, padCount, padOut, counted}
 use Rattle.bits.specs.declared.writer.BitWriter.{BitWriter}
-use Rattle.bits.proofs.Puts.{after-append, write-append, Wrote, wrote-sound, wrote-at}
+use Rattle.bits.proofs.Puts.{after-sound, after-append, write-append, Wrote, wrote-sound, wrote-at}
 use Rattle.bits.proofs.Packed.{write-whole, after-whole, count-after, counted-two, sets-start, sets-append, pad-count, pad-out}
 use Rattle.srl_rules.specs.Rules.{widthOk, noRoom, stored}
-use Rattle.srl_encoder.specs.Encode.{valueBits, valueKp, valueZeros, callBits, callKp, callZeros, sink, bitsFrom, callBytes, callAfter, firstOf, fault, writerOk, encodeRefusal, encoded, encodeAnswer, encodeOut}
+use Rattle.srl_encoder.specs.Encode.{valueBits, valueKp, valueZeros, callBits, callKp, callZeros, sink, bitsFrom, callBytes, callAfter, valueFault, firstOf, fault, writerOk, encodeRefusal, encoded, encodeAnswer, encodeOut}
 use Rattle.srl_encoder.specs.Finish.{flush, finishBytes}
 use Rattle.srl_encoder.specs.EncodeInner.{callStart, measureStart, writerOf, valueState, valueWrite, callState, callWrite, placeOf, valueMeasure, callCount, GoodWriter}
 use Rattle.srl_encoder.specs.declared.SrlWriter.{SrlWriter}
 use Rattle.srl_encoder.specs.declared.Encoded.the-variants.{Bytes, Refused}
 use Rattle.srl_encoder.specs.declared.encoder.CallState.{CallState}
 use Rattle.srl_encoder.specs.declared.encoder.Measured.{Measured}
+use Rattle.srl_encoder.proofs.EncodedValues.{value-kp, first-none, passes}
 use Rattle.srl_encoder.proofs.Runs.{length-flush}
 use Rattle.srl_rules.proofs.Widths.{both}
 
@@ -70,6 +71,31 @@ pub call-out : (w : ℕ) (out : List ℕ) (st : SrlWriter) (vs : List ℤ) → l
     → callWrite w out (callStart st) vs ≡ callBytes w st vs ++ drop (length (callBytes w st vs)) out
 call-out w out st vs h =
     write-whole (bitsFrom w st vs) out 0 (st .current) (st .«bit_count») ∙ sets-start (callBytes w st vs) out h
+
+-- ════ the state after a call whose values cause no refusal ════
+
+call-kp : (kp z : ℕ) (vs : List ℤ) → kp ≤ 80 → callKp kp z vs ≤ 80
+call-kp kp z [] h = h
+call-kp kp z (v ∷ vs) h = call-kp (valueKp kp z v) (valueZeros z v) vs (value-kp kp z v h)
+
+value-few : (w z : ℕ) (v : ℤ) → z ≤ 4096 → valueFault w z v ≡ 0 → valueZeros z v ≤ 4096
+value-few w z (pos zero) h e = omega (arith, passes z 4096 5 e)
+value-few w z (pos (suc m)) h e = omega arith
+value-few w z (negsuc m) h e = omega arith
+
+call-few : (w z : ℕ) (vs : List ℤ) → z ≤ 4096 → fault w z vs ≡ 0 → callZeros z vs ≤ 4096
+call-few w z [] h e = h
+call-few w z (v ∷ vs) h e =
+    let f = first-none (valueFault w z v) (fault w (valueZeros z v) vs) e in
+    call-few w (valueZeros z v) vs (value-few w z v h (f .0)) (f .1)
+
+-- it is good again
+pub call-good : (w : ℕ) (st : SrlWriter) (vs : List ℤ) → GoodWriter st → fault w (st .«pending_zeros») vs ≡ 0 → GoodWriter (callAfter w st vs)
+call-good w st vs g e = (
+  after-sound (sink st) (bitsFrom w st vs) (g .0),
+  call-kp (st .kp) (st .«pending_zeros») vs (g .1),
+  call-few w (st .«pending_zeros») vs (g .2) e,
+)
 
 -- ════ what `encode` refuses, test by test, and what it answers then ════
 

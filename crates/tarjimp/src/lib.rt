@@ -15,8 +15,8 @@ ghost use Rattle.planes.specs.Planes.{three};
 ghost use Rattle.tile.specs.Tile.{decodeUpgrade};
 ghost use Rattle.tarjimp.specs.Calls.{srlDecodeNumber, srlDecodeState, srlDecodeOut, srlEncodeNumber, srlEncodeState, srlEncodeOut, srlEncodeCount, srlFinishNumber, srlFinishOut, srlFinishCount, tileOf};
 
-pub mod answers;
-pub mod states;
+mod answers;
+mod states;
 
 // Reads `num_values` values of an SRL stream from a state on. The state is five numbers: byte, bit, kp, zero_run_remaining, nonzero_pending.
 #[no_mangle]

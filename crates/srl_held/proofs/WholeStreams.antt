@@ -1,0 +1,137 @@
+-- Laws of a whole stream: the values' bits, the pending run, the padding and a byte 0 in a row are its bytes; what is refused of it, test by test. Assumes nothing.
+use mathlib.Core.Path.{_≡_, refl, ap, sym, _∙_, subst}
+use mathlib.Core.Bool.{Bool, true, false, cond}
+use mathlib.Core.List.{List, [], _∷_, _++_, append-assoc}
+use Prim.Native.Nat.{ℕ, zero, suc, _+_, _-_, _^_, _≤_, _<_}
+use native.Mathlib.Nat.{zero-add}
+use native.Mathlib.Omega.{arith}
+use lib.Dec.{ltb}
+use lib.IntN.{ℤ}
+use lib.ListN.{length, set, length-append}
+use lib.Seq.{sets}
+use borrow.Author.Tests.{lt-ltb, le-ltb, ltb-true, ltb-false}
+use Rattle.bits.specs.Written.{pack, writer, Sound, Room, after, write, padCount, padOut}
+use Rattle.bits.specs.declared.writer.BitWriter.{BitWriter}
+use Rattle.bits.proofs.Puts.{Wrote, then, wrote-sound, wrote-at}
+use Rattle.bits.proofs.Packed.{pack-append, sets-append, sets-start, padded}
+use Rattle.srl_rules.specs.Rules.{widthOk, noRoom, stored}
+use Rattle.srl_encoder.specs.Encode.{freshWriter, bitsFrom, callBytes, callAfter, firstOf, fault}
+use Rattle.srl_encoder.specs.Finish.{flush, finishBytes, finished}
+use Rattle.srl_encoder.specs.EncodeInner.{callStart, callState, callWrite, GoodWriter, Good}
+use Rattle.srl_encoder.specs.declared.SrlWriter.{SrlWriter}
+use Rattle.srl_encoder.specs.declared.Finished.the-variants.{Stream, Refused}
+use Rattle.srl_encoder.specs.declared.encoder.CallState.{CallState}
+use Rattle.srl_encoder.proofs.EncodedCalls.{call-sink, call-good, stored-some}
+use Rattle.srl_encoder.proofs.Runs.{length-flush}
+use Rattle.srl_held.specs.Stream.{streamBytes, streamRefusal, streamAnswer, streamOut}
+
+-- the first state is good
+pub fresh-good : GoodWriter freshWriter
+fresh-good = ((omega arith, omega arith), omega arith, omega arith)
+
+module _ (w : ℕ) (vs : List ℤ) where
+  abbrev last : SrlWriter
+  last = callAfter w freshWriter vs
+
+  abbrev run : List Bool
+  run = flush (last .kp) (last .«pending_zeros»)
+
+  abbrev bits : List Bool
+  bits = bitsFrom w freshWriter vs ++ run
+
+  -- ════ the bytes ════
+
+  pub stream-length : length (streamBytes w vs) ≡ length (callBytes w freshWriter vs) + length (finishBytes last)
+  stream-length = length-append (callBytes w freshWriter vs) (finishBytes last)
+
+  -- all bits packed, and a byte 0
+  pub stream-packed : streamBytes w vs ≡ pack 0 0 bits ++ (0 ∷ [])
+  stream-packed =
+      sym (append-assoc (callBytes w freshWriter vs) (pack (last .current) (last .«bit_count») run) (0 ∷ []))
+      ∙ ap (λ l. l ++ (0 ∷ [])) (sym (pack-append (bitsFrom w freshWriter vs) run 0 0 0))
+
+  -- d and o are the state and the output after the values, k and p the writer and the output after the run, n and q what the padding gives
+  pub stream-out : (out : List ℕ) {c d : CallState} {k : BitWriter} {o p q : List ℕ} {n : ℕ} → c ≡ callStart freshWriter → d ≡ callState w c vs → o ≡ callWrite w out c vs
+      → Wrote o (d .sink) (flush (d .kp) (d .zeros)) k p → n ≡ padCount k → q ≡ padOut p k
+      → (n + 1 ≡ length (streamBytes w vs)) × (set q n 0 ≡ sets out 0 (streamBytes w vs))
+  stream-out out {c} {d} {k} {o} {p} {q} {n} a b f e g h =
+      let s : d ≡ callState w (callStart freshWriter) vs = b ∙ ap (λ x. callState w x vs) a in
+      let y : Wrote out (writer 0 0 0) (bitsFrom w freshWriter vs) (d .sink) o = (ap (λ x. x .sink) s, f ∙ ap (λ x. callWrite w out x vs) a) in
+      let z : flush (d .kp) (d .zeros) ≡ run = ap (λ x. flush (x .kp) (x .zeros)) s in
+      let t = then out (writer 0 0 0) (bitsFrom w freshWriter vs) run y (e .0 ∙ ap (after (d .sink)) z, e .1 ∙ ap (write o (d .sink)) z) in
+      let r = padded bits out (t .0) (t .1) g h in
+      let i : n ≡ 0 + length (pack 0 0 bits) = r .0 ∙ sym (zero-add (length (pack 0 0 bits))) in (
+        omega (arith, r .0, length-append (pack 0 0 bits) (0 ∷ []), ap length stream-packed),
+        ap (λ l. set l n 0) (r .1) ∙ ap (λ j. set (sets out 0 (pack 0 0 bits)) j 0) i ∙ sym (sets-append (pack 0 0 bits) (0 ∷ []) out 0) ∙ ap (sets out 0) (sym stream-packed),
+      )
+
+  -- ════ what the inner functions ask, where no value is refused ════
+
+  module _ (ok : fault w 0 vs ≡ 0) where
+    pub last-good : GoodWriter last
+    last-good = call-good w freshWriter vs fresh-good ok
+
+    -- the values are stored: d is the state after them
+    pub flush-room : {d : CallState} → length (streamBytes w vs) < 2 ^ 63 → d ≡ callState w (callStart freshWriter) vs → Good d × Room (d .sink) (d .zeros + 40)
+    flush-room {d} h e =
+        let g = last-good in
+        subst (λ x. Good x × Room (x .sink) (x .zeros + 40)) (sym e)
+        ((g .0, g .1), omega (arith, call-sink w freshWriter vs, stream-length, g .2))
+
+    -- so is the run: k is the writer after it
+    pub pad-room : {d : CallState} {k : BitWriter} → length (streamBytes w vs) < 2 ^ 63 → d ≡ callState w (callStart freshWriter) vs → k ≡ after (d .sink) (flush (d .kp) (d .zeros)) → Sound k × Room k 1
+    pad-room {d} {k} h e f =
+        let r = flush-room {d = d} h e in
+        (wrote-sound (d .sink) (flush (d .kp) (d .zeros)) f (r .0 .0), omega (arith, wrote-at (d .sink) (flush (d .kp) (d .zeros)) f, length-flush (d .kp) (d .zeros) (r .0 .1), r .1))
+
+  -- ════ measuring ════
+
+  -- the values alone exceed the room
+  pub values-exceed : (room : ℕ) → ltb room (length (callBytes w freshWriter vs)) ≡ true → true ≡ ltb room (length (streamBytes w vs))
+  values-exceed room h =
+      sym (lt-ltb room (length (streamBytes w vs)) (omega (arith, stream-length, ltb-true room (length (callBytes w freshWriter vs)) h)))
+
+  -- they do not: what is left is held against the end
+  pub end-exceeds : (room : ℕ) {at need : ℕ} → at ≤ room → at ≡ length (callBytes w freshWriter vs) → need ≡ length (finishBytes last)
+      → ltb (room - at) need ≡ ltb room (length (streamBytes w vs))
+  end-exceeds room {at} {need} h a b = by (ltb room (length (streamBytes w vs))) refl
+    where
+      by : (e : Bool) → ltb room (length (streamBytes w vs)) ≡ e → ltb (room - at) need ≡ e
+      by true q = lt-ltb (room - at) need (omega (arith, stream-length, ltb-true room (length (streamBytes w vs)) q))
+      by false q = le-ltb (room - at) need (omega (arith, stream-length, ltb-false room (length (streamBytes w vs)) q))
+
+-- ════ what `encode_srl` refuses, test by test, and what it answers then ════
+
+finished-some : (n m : ℕ) (st : SrlWriter) → (n ≡ 0 → ⊥) → finished n m st ≡ Refused n st
+finished-some zero m st h = absurd (h refl)
+finished-some (suc n) m st h = refl
+
+module _ (vs : List ℤ) (out : List ℕ) (w : ℕ) where
+  -- `streamRefusal` by its test and the values' refusal
+  abbrev refusal : Bool → ℕ → ℕ
+  refusal q f = cond q (firstOf f (noRoom (length out) (length (streamBytes w vs)))) 4
+
+  pub refusal-width : widthOk w ≡ false → streamRefusal vs (length out) w ≡ 4
+  refusal-width q = ap (λ b. refusal b (fault w 0 vs)) q
+
+  pub refusal-rest : widthOk w ≡ true → {f : ℕ} → f ≡ fault w 0 vs → streamRefusal vs (length out) w ≡ firstOf f (noRoom (length out) (length (streamBytes w vs)))
+  refusal-rest q e = ap (λ b. refusal b (fault w 0 vs)) q ∙ ap (refusal true) (sym e)
+
+  -- past the values' refusals it is that of the bytes measured
+  pub refusal-room : widthOk w ≡ true → fault w 0 vs ≡ 0 → {r : Bool} → r ≡ ltb (length out) (length (streamBytes w vs)) → streamRefusal vs (length out) w ≡ cond r 7 0
+  refusal-room q z m = refusal-rest q (sym z) ∙ ap (λ b. cond b 7 0) (sym m)
+
+  pub refused : {fresh : SrlWriter} (n : ℕ) → fresh ≡ freshWriter → (n ≡ 0 → ⊥) → streamRefusal vs (length out) w ≡ n
+      → (Refused n fresh ≡ streamAnswer vs (length out) w) × (out ≡ streamOut vs out w)
+  refused n e h r = (
+    ap (Refused n) e ∙ sym (ap (λ x. finished x (length (streamBytes w vs)) freshWriter) r ∙ finished-some n (length (streamBytes w vs)) freshWriter h),
+    sym (ap (λ x. stored x (streamBytes w vs) out) r ∙ stored-some n (streamBytes w vs) out h),
+  )
+
+  pub accepted : {n : ℕ} {o : List ℕ} → streamRefusal vs (length out) w ≡ 0 → length (streamBytes w vs) ≤ length out
+      → n ≡ length (streamBytes w vs) → o ≡ sets out 0 (streamBytes w vs)
+      → (Stream n ≡ streamAnswer vs (length out) w) × (o ≡ streamOut vs out w)
+  accepted r h a b = (
+    ap Stream a ∙ sym (ap (λ x. finished x (length (streamBytes w vs)) freshWriter) r),
+    b ∙ sets-start (streamBytes w vs) out h ∙ sym (ap (λ x. stored x (streamBytes w vs) out) r),
+  )

@@ -1,0 +1,3 @@
+-- What the contracts of `srl_held` cite.
+pub mod Held
+pub mod Stream

@@ -1,0 +1,185 @@
+// SRL streams as srl.rs holds them: a decoder that keeps its lent stream beside its places, and a whole stream in one call.
+// The decoder's functions are thin: the work is done on the slice and the plain state (`srl_decoder`). `srl` hands them on.
+
+ghost use mathlib.Core.Path.{_≡_};
+ghost use Prim.Native.Nat.{_^_, _<_};
+ghost use lib.Dec.{ltb};
+ghost use lib.ListN.{length};
+ghost use lib.Seq.{sets};
+ghost use Rattle.srl_rules.specs.Rules.{Width};
+ghost use Rattle.srl_decoder.specs.Decode.{startState, decoded, decodeAnswer, decodeOut, stateOf};
+ghost use Rattle.srl_encoder.specs.Encode.{fault};
+ghost use Rattle.srl_held.specs.Held.{decoderAt, parts, decodedBy, outcome};
+ghost use Rattle.srl_held.specs.Stream.{streamBytes, streamAnswer, streamOut};
+
+// The decoder of a stream: the stream, and where it stands.
+pub struct SrlDecoder<'a> {
+    pub src: &'a [u8],
+    pub state: srl_decoder::SrlState,
+}
+
+// What a call answers, as numbers: 0 or the refusal's number, how many values were stored, and the state after the call.
+struct Parts {
+    pub number: u8,
+    pub count: usize,
+    pub state: srl_decoder::SrlState,
+}
+
+// The same with the decoder at its new places.
+pub struct DecodedBy<'a> {
+    pub number: u8,
+    pub count: usize,
+    pub decoder: SrlDecoder<'a>,
+}
+
+// The number and the count alone, where the decoder is lent.
+pub struct Outcome {
+    pub number: u8,
+    pub count: usize,
+}
+
+// A call of `srl_decoder::decode`, its answer as numbers.
+fn decode_at(
+    src: &[u8],
+    state: srl_decoder::SrlState,
+    out: &mut [i16],
+    num_values: usize,
+    num_bits: u8,
+) -> Parts
+    ensures { λ r. ⌜ (r ≡ parts (decodeAnswer (now (src .entry)) state (length (now (out .entry))) «num_values» «num_bits»)) × (now (out .exit) ≡ decodeOut (now (src .entry)) state (now (out .entry)) «num_values» «num_bits») ⌝ }
+{
+    match srl_decoder::decode(src, state, out, num_values, num_bits) {
+        srl_decoder::Decoded::Values(count, next) => Parts {
+            number: 0,
+            count,
+            state: next,
+        },
+        srl_decoder::Decoded::Refused(number, kept) => Parts {
+            number,
+            count: 0,
+            state: kept,
+        },
+    }
+}
+
+impl<'a> SrlDecoder<'a> {
+    // The decoder at the start of a stream.
+    pub fn new(src: &'a [u8]) -> SrlDecoder<'a>
+        ensures { λ r. ⌜ r ≡ decoderAt (src .entry) startState ⌝ }
+    {
+        SrlDecoder {
+            src,
+            state: srl_decoder::SrlState {
+                reader: bits::reader::BitReader {
+                    byte_idx: 0,
+                    bit_idx: 0,
+                },
+                kp: srl_rules::INITIAL_KP,
+                zero_run_remaining: 0,
+                nonzero_pending: false,
+            },
+        }
+    }
+
+    // Stores the next `num_values` values at the front of `out`, and hands the decoder back at its new places.
+    pub fn decode(self, out: &mut [i16], num_values: usize, num_bits: u8) -> DecodedBy<'a>
+        ensures { λ r. ⌜ (r ≡ decodedBy (self .entry .src) (decodeAnswer (now (self .entry .src)) (self .entry .state) (length (now (out .entry))) «num_values» «num_bits»)) × (now (out .exit) ≡ decodeOut (now (self .entry .src)) (self .entry .state) (now (out .entry)) «num_values» «num_bits») ⌝ }
+    {
+        let r = decode_at(self.src, self.state, out, num_values, num_bits);
+        DecodedBy {
+            number: r.number,
+            count: r.count,
+            decoder: SrlDecoder {
+                src: self.src,
+                state: r.state,
+            },
+        }
+    }
+
+    // The same where the decoder is lent, as in the source: it is left at its new places.
+    pub fn decode_mut(&mut self, out: &mut [i16], num_values: usize, num_bits: u8) -> Outcome
+        ensures { λ r. ⌜ (r ≡ outcome (decodeAnswer (now (now (self .entry) .src)) (now (self .entry) .state) (length (now (out .entry))) «num_values» «num_bits»)) × ((now (self .exit) ≡ decoderAt (now (self .entry) .src) (stateOf (decodeAnswer (now (now (self .entry) .src)) (now (self .entry) .state) (length (now (out .entry))) «num_values» «num_bits»))) × (now (out .exit) ≡ decodeOut (now (now (self .entry) .src)) (now (self .entry) .state) (now (out .entry)) «num_values» «num_bits»)) ⌝ }
+    {
+        let d = *self;
+        let r = d.decode(out, num_values, num_bits);
+        *self = r.decoder;
+        Outcome {
+            number: r.number,
+            count: r.count,
+        }
+    }
+}
+
+// The answer that the numbers are.
+fn answer_of(number: u8, count: usize, state: srl_decoder::SrlState) -> srl_decoder::Decoded
+    ensures { λ r. ⌜ r ≡ decoded number count state state ⌝ }
+{
+    if number == 0 {
+        return srl_decoder::Decoded::Values(count, state);
+    }
+    srl_decoder::Decoded::Refused(number, state)
+}
+
+// The first `num_values` values of a stream, at the front of `out`.
+pub fn decode_srl(
+    src: &[u8],
+    out: &mut [i16],
+    num_values: usize,
+    num_bits: u8,
+) -> srl_decoder::Decoded
+    ensures { λ r. ⌜ (r ≡ decodeAnswer (now (src .entry)) startState (length (now (out .entry))) «num_values» «num_bits») × (now (out .exit) ≡ decodeOut (now (src .entry)) startState (now (out .entry)) «num_values» «num_bits») ⌝ }
+{
+    let r = SrlDecoder::new(src).decode(out, num_values, num_bits);
+    answer_of(r.number, r.count, r.decoder.state)
+}
+
+// ---- a whole stream, written
+
+// Whether the stream of the values takes more bytes than there is room for. Nothing is stored but in a scratch byte.
+fn stream_exceeds(values: &[i16], num_bits: u8, room: usize) -> bool
+    requires { ⌜ Width «num_bits» × (fault «num_bits» 0 (now values) ≡ 0) × (room < 2 ^ 63) ⌝ }
+    ensures { λ r. ⌜ r ≡ ltb room (length (streamBytes «num_bits» (now (values .entry)))) ⌝ }
+{
+    let fresh = srl_encoder::SrlWriter::new();
+    if srl_encoder::encoder::exceeds(values, fresh, num_bits, room) {
+        return true;
+    }
+    let start = srl_encoder::encoder::call_start(fresh);
+    let mut scratch = [0u8; 1];
+    let done = srl_encoder::encoder::put_values(values, start, &mut scratch, num_bits);
+    let sink = done.sink;
+    let need = srl_encoder::encoder::end_length(srl_encoder::encoder::writer_of(done));
+    room - sink.at < need
+}
+
+// The stream of the values, from the start of `out`: how many bytes it is. The caller has measured it.
+fn put_stream(values: &[i16], out: &mut [u8], num_bits: u8) -> usize
+    requires { ⌜ Width «num_bits» × (fault «num_bits» 0 (now values) ≡ 0) × (length (streamBytes «num_bits» (now values)) < 2 ^ 63) ⌝ }
+    ensures { λ r. ⌜ (r ≡ length (streamBytes «num_bits» (now (values .entry)))) × (now (out .exit) ≡ sets (now (out .entry)) 0 (streamBytes «num_bits» (now (values .entry)))) ⌝ }
+{
+    let start = srl_encoder::encoder::call_start(srl_encoder::SrlWriter::new());
+    let done = srl_encoder::encoder::put_values(values, start, out, num_bits);
+    let sink = srl_encoder::encoder::put_flush(out, done);
+    let n = bits::writer::put_pad(out, sink);
+    bits::writer::store(out, n, 0);
+    n + 1
+}
+
+// Writes the whole stream of the values, of `num_bits` bits where they are nonzero, from the start of `out`.
+pub fn encode_srl(values: &[i16], out: &mut [u8], num_bits: u8) -> srl_encoder::Finished
+    ensures { λ r. ⌜ (r ≡ streamAnswer (now (values .entry)) (length (now (out .entry))) «num_bits») × (now (out .exit) ≡ streamOut (now (values .entry)) (now (out .entry)) «num_bits») ⌝ }
+{
+    let fresh = srl_encoder::SrlWriter::new();
+    if !srl_rules::width_ok(num_bits) {
+        return srl_encoder::Finished::Refused(4, fresh);
+    }
+    let f = srl_encoder::encoder::values_fault(values, 0, num_bits);
+    if f != 0 {
+        return srl_encoder::Finished::Refused(f, fresh);
+    }
+    if stream_exceeds(values, num_bits, out.len()) {
+        return srl_encoder::Finished::Refused(7, fresh);
+    }
+    let n = put_stream(values, out, num_bits);
+    srl_encoder::Finished::Stream(n)
+}
