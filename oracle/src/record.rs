@@ -128,10 +128,16 @@ impl<'a> Fields<'a> {
 
 /// Reads a record of a file; nothing at the end.
 pub fn read_record(input: &mut impl Read) -> io::Result<Option<(u8, Vec<u8>)>> {
+    let mut fill = |bytes: &mut [u8]| match input.read_exact(bytes) {
+        Err(error) if error.kind() == io::ErrorKind::UnexpectedEof => {
+            Err(io::Error::other("the recording is cut"))
+        }
+        filled => filled,
+    };
     let mut kind = [0];
     let mut length = [0; 4];
-    input.read_exact(&mut kind)?;
-    input.read_exact(&mut length)?;
+    fill(&mut kind)?;
+    fill(&mut length)?;
     let length = u32::from_le_bytes(length) as usize;
     if kind == [END] {
         return Ok(None);
@@ -140,7 +146,7 @@ pub fn read_record(input: &mut impl Read) -> io::Result<Option<(u8, Vec<u8>)>> {
         return Err(io::Error::other("a record is too long"));
     }
     let mut payload = vec![0; length];
-    input.read_exact(&mut payload)?;
+    fill(&mut payload)?;
     Ok(Some((kind[0], payload)))
 }
 

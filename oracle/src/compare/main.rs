@@ -10,6 +10,7 @@ mod replay;
 use std::env;
 use std::fs::File;
 use std::io::{self, BufReader};
+use std::panic;
 use std::path::Path;
 use std::process::ExitCode;
 use std::sync::Arc;
@@ -90,6 +91,9 @@ fn compare(asked: &Arguments, progress: &Arc<Progress>) -> io::Result<Counts> {
 fn compare_file(file: &Path, comparison: &mut Comparison<'_>) -> io::Result<()> {
     let mut input = BufReader::new(File::open(file)?);
     while let Some((kind, payload)) = read_record(&mut input)? {
+        if !kinds::is_known(kind) {
+            return Err(io::Error::other(format!("there is no kind {kind}")));
+        }
         for _ in kinds::cases(kind, &payload) {
             comparison.made(kind)?;
         }
@@ -150,7 +154,12 @@ impl<'a> Comparison<'a> {
         let count = self.counts.of(kind);
         count.made += 1;
         let number = count.made;
-        let Some(agrees) = functions::agree(kind, case) else {
+        let agrees = panic::catch_unwind(|| functions::agree(kind, case)).unwrap_or_else(|_| {
+            Some(Err(
+                "a panic: the case of a file is cut, or a function of the Rust panics".into(),
+            ))
+        });
+        let Some(agrees) = agrees else {
             return;
         };
         count.asked += 1;

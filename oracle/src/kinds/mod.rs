@@ -56,6 +56,11 @@ pub fn name(kind: u8) -> &'static str {
     named.expect("a kind that is recorded has a name").1
 }
 
+/// Whether there is a kind of this number.
+pub fn is_known(kind: u8) -> bool {
+    KINDS.iter().any(|(number, _)| *number == kind)
+}
+
 /// The size of a case, if all cases of the kind have the same.
 fn size(kind: u8) -> Option<usize> {
     let one_size = fixed::KINDS.iter().chain(&[
