@@ -75,9 +75,10 @@ fn a_pass_that_is_written() {
     assert_eq!(refused, Err(Error::MagnitudeOutOfRange { magnitude, max }));
     target[0] = 7;
     let written = encode_upgrade_pass(&target, &[0; 4096], &prev, &curr, &[0; 4096], false);
-    let (srl, raw) = written.expect("7 fits");
-    assert_eq!(srl[0], 0x80);
-    assert!(raw.is_empty());
+    assert_eq!(
+        written,
+        Ok((vec![0x80, 0x00, 0x01, 0x00, 0x80, 0x00], vec![]))
+    );
 }
 
 #[test]
