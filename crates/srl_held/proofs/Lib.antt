@@ -1,3 +1,4 @@
 -- What the proofs of `srl_held` share.
 pub mod Answers
 pub mod WholeStreams
+pub mod Samples

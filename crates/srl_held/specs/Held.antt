@@ -10,7 +10,7 @@ use Rattle.srl_held.specs.declared.Parts.{Parts}
 use Rattle.srl_held.specs.declared.DecodedBy.{DecodedBy}
 use Rattle.srl_held.specs.declared.Outcome.{Outcome}
 
--- a stream and a state
+-- "a decoder may hold its stream beside its state"
 abbrev pub decoderAt : RefT (List ℕ) → SrlState → SrlDecoder
 decoderAt src st = record { src = src; state = st }
 
@@ -18,7 +18,7 @@ decoderAt src st = record { src = src; state = st }
 abbrev pub parts : Decoded → Parts
 parts r = record { number = numberOf r; count = valueCount r; state = stateOf r }
 
--- the same with the decoder at the state that the call left
+-- the same, and "leaves the decoder at the new state"
 abbrev pub decodedBy : RefT (List ℕ) → Decoded → DecodedBy
 decodedBy src r = record { number = numberOf r; count = valueCount r; decoder = decoderAt src (stateOf r) }
 

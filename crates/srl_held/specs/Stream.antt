@@ -9,7 +9,7 @@ use Rattle.srl_encoder.specs.Encode.{freshWriter, callBytes, callAfter, firstOf
 use Rattle.srl_encoder.specs.Finish.{finishBytes, finished}
 use Rattle.srl_encoder.specs.declared.Finished.{Finished}
 
--- the whole bytes of the values from the first state on, and then what "`finish` writes"
+-- "a whole stream: the bytes of `encode` from the first state on and then those of `finish`"
 abbrev pub streamBytes : ℕ → List ℤ → List ℕ
 streamBytes w vs = callBytes w freshWriter vs ++ finishBytes (callAfter w freshWriter vs)
 
