@@ -49,12 +49,14 @@ fn main() {
     fs::write(Path::new(&out).join("source.rs"), generated).expect("the build folder is writable");
 }
 
-/// Has the program `bench` linked with the port.
+/// Has the programs `compare` and `bench` linked with the port.
 fn link_port() {
     let folder = env::var("CARGO_MANIFEST_DIR").expect("cargo names the package's folder");
     let library = Path::new(&folder).join("..").join(PORT);
     println!("cargo::rerun-if-changed={}", library.display());
-    println!("cargo::rustc-link-arg-bin=bench={}", library.display());
+    for program in ["compare", "bench"] {
+        println!("cargo::rustc-link-arg-bin={program}={}", library.display());
+    }
 }
 
 /// Reads a file of the source and has cargo watch it. A build script runs in the folder of its

@@ -2,13 +2,22 @@
 //!
 //! `build.rs` fetches them from the folder that `TARJIMP_RUST_SRC` names. Each has one child module
 //! added, `reach`, which opens its private functions. What the text names outside of the three
-//! files is in [`stand_ins`]. [`random`] serves the programs that call them.
+//! files is in [`stand_ins`]. [`kinds`] makes the cases that are recorded and compared, each with the
+//! text's answer; [`record`], [`digest`] and [`random`] serve it.
 
 // The text names two crates beside its own. Both are this crate.
 extern crate self as ironrdp_core;
 extern crate self as ironrdp_pdu;
 
+// The makers of cases name this crate as the programs do.
+extern crate self as oracle;
+
+pub mod digest;
+pub mod kinds;
+#[cfg(feature = "port")]
+pub mod port;
 pub mod random;
+pub mod record;
 pub mod stand_ins;
 
 pub(crate) use stand_ins::invalid_field_err;

@@ -1,14 +1,11 @@
 //! Writes recorded cases to standard output: `record SEED [SCALE]`.
 
-mod digest;
-mod kinds;
-mod record;
-
 use std::env;
-use std::io::{self, BufWriter, Write};
+use std::io::{self, BufWriter};
 use std::process::ExitCode;
 
-use record::Recording;
+use oracle::kinds;
+use oracle::record::{Recording, Written};
 
 fn main() -> ExitCode {
     let Some((seed, scale)) = arguments() else {
@@ -33,7 +30,7 @@ fn arguments() -> Option<(u64, u32)> {
 }
 
 fn write_cases(seed: u64, scale: u32) -> io::Result<()> {
-    let mut out = BufWriter::new(io::stdout().lock());
+    let mut out = Written(BufWriter::new(io::stdout().lock()));
     kinds::record_all(&mut Recording::new(&mut out, seed, scale))?;
-    out.flush()
+    out.end()
 }

@@ -1,11 +1,11 @@
-//! What is timed: components of three sorts, a pass over them, and tiles. README.md has the rule.
+//! What is timed: components of three sorts, a pass over them, tiles, SRL streams and rows of pixels. README.md has
+//! the rule.
 
 use oracle::codecs::rfx::progressive::ComponentCodecQuant;
+use oracle::port::Row;
 use oracle::progressive::{self, COEFFICIENTS_PER_COMPONENT, TileState};
 use oracle::random::Random;
-
-/// A number for each band, in band order.
-pub type Row = [u8; 10];
+use oracle::srl;
 
 /// The layout that viewers use.
 pub const USE_REDUCE_EXTRAPOLATE: bool = true;
@@ -60,6 +60,85 @@ pub struct Input {
 pub struct Tile {
     pub state: TileState,
     pub base_quant: [Row; 3],
+}
+
+/// A tile before a pass, and the pass of each component as the text writes it.
+pub struct Upgrade {
+    pub before: TileState,
+    pub srl: [Vec<u8>; 3],
+    pub raw: [Vec<u8>; 3],
+}
+
+/// Several tiles, each of three components of a sort.
+pub fn upgrades(sort: Sort) -> Vec<Upgrade> {
+    let mut random = Random::new(3, sort.known as u8);
+    let mut upgrades = Vec::new();
+    for _ in 0..16 {
+        let mut upgrade = Upgrade {
+            before: TileState {
+                prog_quant: [ComponentCodecQuant::of_bands(PREV); 3],
+                use_reduce_extrapolate: USE_REDUCE_EXTRAPOLATE,
+                ..TileState::new()
+            },
+            srl: Default::default(),
+            raw: Default::default(),
+        };
+        for k in 0..3 {
+            let input = input(&mut random, sort);
+            upgrade.before.coefficients[k].copy_from_slice(&input.before);
+            upgrade.before.sign[k].copy_from_slice(&input.sign);
+            (upgrade.srl[k], upgrade.raw[k]) = (input.srl, input.raw);
+        }
+        upgrades.push(upgrade);
+    }
+    upgrades
+}
+
+/// The bits of a value in an SRL stream that is timed by itself.
+pub const SRL_WIDTH: u8 = 3;
+
+/// Values, and the SRL stream that the text writes of them.
+pub struct Stream {
+    pub values: Vec<i16>,
+    pub bytes: Vec<u8>,
+}
+
+/// Several streams of as many values as the bands above the bottom have places. One of 20 values is not zero, and
+/// smaller magnitudes are more frequent.
+pub fn streams() -> Vec<Stream> {
+    let mut random = Random::new(4, 0);
+    let stream = |_| {
+        let values: Vec<i16> = (0..4015).map(|_| value(&mut random)).collect();
+        let bytes = srl::encode_srl(&values, SRL_WIDTH).expect("the values fit");
+        Stream { values, bytes }
+    };
+    (0..16).map(stream).collect()
+}
+
+fn value(random: &mut Random) -> i16 {
+    if !random.one_in(20) {
+        return 0;
+    }
+    let magnitude = 1 + random.below(7).min(random.below(7));
+    if random.one_in(2) {
+        i16::from(magnitude)
+    } else {
+        -i16::from(magnitude)
+    }
+}
+
+/// The samples of a row of pixels, such that most colours are not clamped.
+pub type Pixels = Vec<[i16; 3]>;
+
+/// Several rows.
+pub fn rows() -> Vec<Pixels> {
+    let mut random = Random::new(5, 0);
+    let sample =
+        |random: &mut Random, most: usize| random.within(0..=2 * most) as i16 - most as i16;
+    let pixel = |random: &mut Random| [100, 60, 60].map(|most| sample(random, most));
+    (0..16)
+        .map(|_| (0..64).map(|_| pixel(&mut random)).collect())
+        .collect()
 }
 
 /// Several tiles of a sort.

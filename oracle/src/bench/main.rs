@@ -1,7 +1,6 @@
 //! Times the port beside the Rust: `bench [REPETITIONS]`.
 
 mod input;
-mod port;
 
 use std::env;
 use std::hint::black_box;
@@ -10,9 +9,15 @@ use std::time::Instant;
 
 use oracle::codecs::rfx::progressive::ComponentCodecQuant;
 use oracle::dwt_extrapolate;
-use oracle::progressive::{self, COEFFICIENTS_PER_COMPONENT, reach};
+use oracle::port;
+use oracle::progressive::{self, COEFFICIENTS_PER_COMPONENT, TileState, reach};
 
-use input::{CURR, FAINT, Input, PREV, QUANT, SORTS, Tile, USE_REDUCE_EXTRAPOLATE, inputs, tiles};
+use oracle::srl::{SrlDecoder, SrlEncoder};
+
+use input::{
+    CURR, FAINT, Input, PREV, Pixels, QUANT, SORTS, SRL_WIDTH, Stream, Tile,
+    USE_REDUCE_EXTRAPOLATE, Upgrade, inputs, rows, streams, tiles, upgrades,
+};
 
 /// The bytes of each output that the port gets: more than any pass here takes.
 const ROOM: usize = 16384;
@@ -33,6 +38,8 @@ struct Work {
     written: [usize; 2],
     temp: Vec<i16>,
     pixels: Vec<u8>,
+    values: Vec<i16>,
+    tile: Box<TileState>,
 }
 
 impl Work {
@@ -45,30 +52,42 @@ impl Work {
             written: [0; 2],
             temp: vec![0; COEFFICIENTS_PER_COMPONENT],
             pixels: vec![0; PIXELS],
+            values: Vec::new(),
+            tile: Box::default(),
         }
     }
 
-    fn left(&self) -> ([&[i16]; 2], &[i8], [&[u8]; 3]) {
-        let [srl, raw] = self.written;
-        (
-            [&self.coefficients, &self.temp],
-            &self.sign,
-            [&self.srl[..srl], &self.raw[..raw], &self.pixels],
-        )
+    /// Whether a call of the other side left the same.
+    fn is_as(&self, other: &Self) -> bool {
+        let lists = |work: &Self| {
+            let [srl, raw] = work.written;
+            let streams = [&work.srl[..srl], &work.raw[..raw], &work.pixels].map(<[u8]>::to_vec);
+            let values = [&work.coefficients, &work.temp, &work.values].map(|list| list.to_vec());
+            (streams, values, work.sign.clone())
+        };
+        let tile = |work: &Self| {
+            let tile = &work.tile;
+            (
+                tile.coefficients,
+                tile.sign,
+                tile.prog_quant,
+                tile.pass,
+                tile.quality,
+            )
+        };
+        lists(self) == lists(other) && tile(self) == tile(other)
     }
 }
 
-/// One call on one component or one tile, by either side.
+/// One call on one component, tile, stream or row, by either side.
 type Call<I> = fn(&I, &mut Work);
 
 fn main() -> ExitCode {
     let Some(repetitions) = repetitions() else {
-        eprintln!("usage: bench [REPETITIONS], at least 1");
+        eprintln!("usage: oracle/bench [REPETITIONS], at least 1");
         return ExitCode::from(2);
     };
-    println!(
-        "One component, in the last two lines one tile, in nanoseconds, {repetitions} batches of each side."
-    );
+    println!("One call, in nanoseconds, {repetitions} batches of each side.");
     println!("Ratio: port / Rust of each pair of batches, the median and the middle half.");
     println!("{:<34}{:>16}{:>18}", "", "median of", "lowest of");
     println!(
@@ -126,6 +145,34 @@ fn main() -> ExitCode {
             port_reconstruct,
         );
     }
+    row(
+        "TileState::decode_upgrade, typical",
+        &upgrades(SORTS[1]),
+        repetitions,
+        rust_upgrade,
+        port_upgrade,
+    );
+    row(
+        "srl decode, 4015 values",
+        &streams(),
+        repetitions,
+        rust_srl_decode,
+        port_srl_decode,
+    );
+    row(
+        "srl encode and finish, 4015 values",
+        &streams(),
+        repetitions,
+        rust_srl_encode,
+        port_srl_encode,
+    );
+    row(
+        "ycbcr_to_rgb, 64 pixels",
+        &rows(),
+        repetitions,
+        rust_colours,
+        port_colours,
+    );
     ExitCode::SUCCESS
 }
 
@@ -142,10 +189,7 @@ fn row<I>(name: &str, inputs: &[I], repetitions: usize, rust: Call<I>, port: Cal
     for input in inputs {
         rust(input, &mut works[0]);
         port(input, &mut works[1]);
-        assert!(
-            works[0].left() == works[1].left(),
-            "{name}: the two sides differ"
-        );
+        assert!(works[0].is_as(&works[1]), "{name}: the two sides differ");
     }
     let mut times = [Vec::new(), Vec::new()];
     for repetition in 0..repetitions {
@@ -172,7 +216,7 @@ fn row<I>(name: &str, inputs: &[I], repetitions: usize, rust: Call<I>, port: Cal
     );
 }
 
-/// Nanoseconds for each component or tile.
+/// Nanoseconds for each component, tile, stream or row.
 fn batch<I>(inputs: &[I], work: &mut Work, call: Call<I>) -> f64 {
     let start = Instant::now();
     for _ in 0..ROUNDS {
@@ -253,7 +297,7 @@ fn port_encode_exact(input: &Input, work: &mut Work) {
 }
 
 fn write(input: &Input, work: &mut Work, srl_room: usize, raw_room: usize) {
-    let (number, written) = port::encode_upgrade_pass(
+    let number = port::encode_upgrade_pass(
         &input.target,
         &input.before,
         &PREV,
@@ -262,9 +306,9 @@ fn write(input: &Input, work: &mut Work, srl_room: usize, raw_room: usize) {
         USE_REDUCE_EXTRAPOLATE,
         &mut work.srl[..srl_room],
         &mut work.raw[..raw_room],
+        &mut work.written,
     );
     assert_eq!(number, 0, "every value has its width, and there is room");
-    work.written = written;
 }
 
 fn rust_dequantize(input: &Input, work: &mut Work) {
@@ -299,7 +343,7 @@ fn rust_reconstruct(tile: &Tile, work: &mut Work) {
 }
 
 fn port_reconstruct(tile: &Tile, work: &mut Work) {
-    let number = port::reconstruct_to_rgba(
+    let number = port::tile_reconstruct_to_rgba(
         &tile.state.coefficients,
         &[CURR; 3],
         &tile.base_quant,
@@ -307,4 +351,114 @@ fn port_reconstruct(tile: &Tile, work: &mut Work) {
         &mut work.pixels,
     );
     assert_eq!(number, 0, "the tile has pixels, and there is room");
+}
+
+/// A fresh copy of the tile: both sides work in place, and both are timed with it.
+fn refresh_tile(upgrade: &Upgrade, work: &mut Work) {
+    let tile = &mut work.tile;
+    tile.coefficients = upgrade.before.coefficients;
+    tile.sign = upgrade.before.sign;
+    tile.prog_quant = upgrade.before.prog_quant;
+    tile.pass = upgrade.before.pass;
+    tile.quality = upgrade.before.quality;
+    tile.use_reduce_extrapolate = USE_REDUCE_EXTRAPOLATE;
+}
+
+fn rust_upgrade(upgrade: &Upgrade, work: &mut Work) {
+    refresh_tile(upgrade, work);
+    work.tile
+        .decode_upgrade(
+            upgrade.srl.each_ref().map(Vec::as_slice),
+            upgrade.raw.each_ref().map(Vec::as_slice),
+            [ComponentCodecQuant::of_bands(CURR); 3],
+            50,
+        )
+        .expect("a stream causes no refusal");
+}
+
+fn port_upgrade(upgrade: &Upgrade, work: &mut Work) {
+    refresh_tile(upgrade, work);
+    let tile = &mut *work.tile;
+    let mut prog_quant = [PREV; 3];
+    let number = port::tile_decode_upgrade(
+        port::Tile {
+            coefficients: &mut tile.coefficients,
+            sign: &mut tile.sign,
+            prog_quant: &mut prog_quant,
+            base_quant: &[[6; 10]; 3],
+            use_reduce_extrapolate: USE_REDUCE_EXTRAPOLATE,
+            pass: &mut tile.pass,
+            quality: &mut tile.quality,
+        },
+        &[CURR; 3],
+        50,
+        upgrade.srl.each_ref().map(Vec::as_slice),
+        upgrade.raw.each_ref().map(Vec::as_slice),
+    );
+    assert_eq!(number, 0, "a stream causes no refusal");
+    tile.prog_quant = prog_quant.map(ComponentCodecQuant::of_bands);
+}
+
+/// The text hands out a new list; the work keeps it.
+fn rust_srl_decode(stream: &Stream, work: &mut Work) {
+    let mut decoder = SrlDecoder::new(&stream.bytes).expect("every stream is one");
+    let values = decoder.decode(stream.values.len(), SRL_WIDTH);
+    work.values = values.expect("the width is one the decoder takes");
+}
+
+/// The port writes into an output that is lent.
+fn port_srl_decode(stream: &Stream, work: &mut Work) {
+    let count = stream.values.len();
+    work.values.resize(count, 0);
+    let mut state = [0, 0, 8, 0, 0];
+    let number = port::srl_decode(
+        &stream.bytes,
+        &mut state,
+        &mut work.values,
+        count,
+        SRL_WIDTH,
+    );
+    assert_eq!(
+        number, 0,
+        "the width is one the decoder takes, and there is room"
+    );
+}
+
+fn rust_srl_encode(stream: &Stream, work: &mut Work) {
+    let mut encoder = SrlEncoder::new();
+    encoder
+        .encode(&stream.values, SRL_WIDTH)
+        .expect("the values fit");
+    work.srl = encoder.finish().expect("the zeros are few");
+    work.written = [work.srl.len(), 0];
+}
+
+fn port_srl_encode(stream: &Stream, work: &mut Work) {
+    let mut state = [8, 0, 0, 0];
+    let mut written = 0;
+    let number = port::srl_encode(
+        &stream.values,
+        &mut state,
+        &mut work.srl,
+        SRL_WIDTH,
+        &mut written,
+    );
+    assert_eq!(number, 0, "the values fit, and there is room");
+    let mut last = 0;
+    let number = port::srl_finish(&state, &mut work.srl[written..], &mut last);
+    assert_eq!(number, 0, "there is room");
+    work.written = [written + last, 0];
+}
+
+fn rust_colours(pixels: &Pixels, work: &mut Work) {
+    for (&[y, cb, cr], rgba) in pixels.iter().zip(work.pixels.chunks_exact_mut(4)) {
+        rgba[..3].copy_from_slice(&reach::ycbcr_to_rgb(y, cb, cr));
+    }
+}
+
+fn port_colours(pixels: &Pixels, work: &mut Work) {
+    for (&[y, cb, cr], rgba) in pixels.iter().zip(work.pixels.chunks_exact_mut(4)) {
+        let rgb = rgba.first_chunk_mut().expect("a pixel has four bytes");
+        port::ycbcr_to_rgb(y, cb, cr, rgb);
+    }
 }

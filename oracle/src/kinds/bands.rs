@@ -6,12 +6,12 @@ use oracle::progressive::reach;
 
 use crate::record::{Kind, Recording};
 
-const BAND: Kind = Kind {
+pub const BAND: Kind = Kind {
     number: 20,
     inputs: 2,
     size: 10,
 };
-const LL3_OFFSET: Kind = Kind {
+pub const LL3_OFFSET: Kind = Kind {
     number: 21,
     inputs: 1,
     size: 3,
@@ -21,8 +21,8 @@ const LL3_OFFSET: Kind = Kind {
 const LAYOUTS: [(u8, bool); 2] = [(0, false), (1, true)];
 
 pub fn record_all(recording: &mut Recording<'_>) -> io::Result<()> {
-    band(recording)?;
-    ll3_offset(recording)
+    recording.kind(BAND.number, band)?;
+    recording.kind(LL3_OFFSET.number, ll3_offset)
 }
 
 fn band(recording: &mut Recording<'_>) -> io::Result<()> {

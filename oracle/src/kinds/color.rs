@@ -8,12 +8,12 @@ use oracle::random::{Random, limits};
 use crate::digest::mixed;
 use crate::record::{Cases, Kind, Recording};
 
-const YCBCR_TO_RGB: Kind = Kind {
+pub const YCBCR_TO_RGB: Kind = Kind {
     number: 43,
     inputs: 6,
     size: 9,
 };
-const YCBCR_ROW: Kind = Kind {
+pub const YCBCR_ROW: Kind = Kind {
     number: 44,
     inputs: 4,
     size: 12,
@@ -30,8 +30,8 @@ const GRID: [i16; 21] = [
 ];
 
 pub fn record_all(recording: &mut Recording<'_>) -> io::Result<()> {
-    ycbcr_to_rgb(recording)?;
-    ycbcr_row(recording)
+    recording.kind(YCBCR_TO_RGB.number, ycbcr_to_rgb)?;
+    recording.kind(YCBCR_ROW.number, ycbcr_row)
 }
 
 fn ycbcr_to_rgb(recording: &mut Recording<'_>) -> io::Result<()> {
@@ -92,11 +92,15 @@ fn ycbcr_row(recording: &mut Recording<'_>) -> io::Result<()> {
     cases.finish()
 }
 
+/// A digest with one pixel more.
+pub fn with_pixel(digest: u64, [red, green, blue]: [u8; 3]) -> u64 {
+    mixed(digest, u32::from_le_bytes([red, green, blue, 0]).into())
+}
+
 /// Every y, in the order of its bits as an unsigned number.
 fn add_row(cases: &mut Cases<'_, '_>, cb: i16, cr: i16) -> io::Result<()> {
     let digest = (0..=u16::MAX).fold(0, |digest, y| {
-        let [red, green, blue] = reach::ycbcr_to_rgb(y.cast_signed(), cb, cr);
-        mixed(digest, u32::from_le_bytes([red, green, blue, 0]).into())
+        with_pixel(digest, reach::ycbcr_to_rgb(y.cast_signed(), cb, cr))
     });
     cases.add(&[&cb.to_le_bytes(), &cr.to_le_bytes(), &digest.to_le_bytes()])
 }

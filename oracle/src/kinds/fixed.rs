@@ -1,4 +1,4 @@
-//! Kinds 1 to 14: the arithmetic on single values.
+//! Kinds 1 to 15: the arithmetic on single values.
 
 use std::io;
 use std::ops::RangeInclusive;
@@ -28,6 +28,25 @@ const HALVES: Kind = kind(13, 4, 12);
 const WIDEN: Kind = kind(14, 2, 14);
 const SIGN_USE: Kind = kind(15, 1, 2);
 
+/// All of these.
+pub const KINDS: [Kind; 15] = [
+    CLAMP_I16,
+    CLAMP_U8,
+    T,
+    ROUND_SHIFT_RIGHT,
+    SHIFT_LEFT_CLAMP,
+    SHIFT_RIGHT_FLOOR,
+    ADD_SCALED,
+    SUB_SCALED,
+    SUB_CLAMP,
+    MAGNITUDE,
+    WITH_SIGN,
+    SIGN_OF,
+    HALVES,
+    WIDEN,
+    SIGN_USE,
+];
+
 const fn kind(number: u8, inputs: usize, size: usize) -> Kind {
     Kind {
         number,
@@ -51,21 +70,31 @@ const COEFFICIENTS: [i16; 13] = [
 const MAGNITUDES: [u16; 7] = [0, 1, 2, 16383, 16384, 32766, 32767];
 
 pub fn record_all(recording: &mut Recording<'_>) -> io::Result<()> {
-    clamp_i16(recording)?;
-    clamp_u8(recording)?;
-    t(recording)?;
-    shifted(recording, ROUND_SHIFT_RIGHT, 1, reach::round_shift_right)?;
-    shifted(recording, SHIFT_LEFT_CLAMP, 0, shift_left_clamp)?;
-    shifted(recording, SHIFT_RIGHT_FLOOR, 0, shift_right_floor)?;
-    scaled(recording, ADD_SCALED, SIGN_POSITIVE)?;
-    scaled(recording, SUB_SCALED, SIGN_NEGATIVE)?;
-    sub_clamp(recording)?;
-    magnitude(recording)?;
-    with_sign(recording)?;
-    sign_of(recording)?;
-    halves(recording)?;
-    widen(recording)?;
-    sign_use(recording)
+    recording.kind(CLAMP_I16.number, clamp_i16)?;
+    recording.kind(CLAMP_U8.number, clamp_u8)?;
+    recording.kind(T.number, t)?;
+    recording.kind(ROUND_SHIFT_RIGHT.number, |recording| {
+        shifted(recording, ROUND_SHIFT_RIGHT, 1, reach::round_shift_right)
+    })?;
+    recording.kind(SHIFT_LEFT_CLAMP.number, |recording| {
+        shifted(recording, SHIFT_LEFT_CLAMP, 0, shift_left_clamp)
+    })?;
+    recording.kind(SHIFT_RIGHT_FLOOR.number, |recording| {
+        shifted(recording, SHIFT_RIGHT_FLOOR, 0, shift_right_floor)
+    })?;
+    recording.kind(ADD_SCALED.number, |recording| {
+        scaled(recording, ADD_SCALED, SIGN_POSITIVE)
+    })?;
+    recording.kind(SUB_SCALED.number, |recording| {
+        scaled(recording, SUB_SCALED, SIGN_NEGATIVE)
+    })?;
+    recording.kind(SUB_CLAMP.number, sub_clamp)?;
+    recording.kind(MAGNITUDE.number, magnitude)?;
+    recording.kind(WITH_SIGN.number, with_sign)?;
+    recording.kind(SIGN_OF.number, sign_of)?;
+    recording.kind(HALVES.number, halves)?;
+    recording.kind(WIDEN.number, widen)?;
+    recording.kind(SIGN_USE.number, sign_use)
 }
 
 /// Records a case for every limit and for `count` random values, times the scale.

@@ -1,14 +1,14 @@
 //! Kinds 36 to 40: a pass over one component, read and written; dequantizing; a tile, loaded and upgraded.
 //! Kind 45: a tile's pixels.
 
-mod component;
-mod decode;
-mod dequantize;
-mod encode;
-mod ladder;
+pub mod component;
+pub mod decode;
+pub mod dequantize;
+pub mod encode;
+pub mod ladder;
 mod load;
-mod pixels;
-mod tile;
+pub mod pixels;
+pub mod tile;
 
 use std::io;
 
@@ -35,12 +35,12 @@ const LAYOUTS: [bool; 2] = [false, true];
 /// Records the cases of these kinds; the answer is cases that stand for all sorts of answers, each
 /// with its kind.
 pub fn record_all(recording: &mut Recording<'_>) -> io::Result<Vec<(u8, Case)>> {
-    let mut models = decode::record_all(recording)?;
-    models.extend(encode::record_all(recording)?);
-    models.extend(dequantize::record_all(recording)?);
-    models.extend(load::record_all(recording)?);
-    models.extend(ladder::record_all(recording)?);
-    models.extend(pixels::record_all(recording)?);
+    let mut models = recording.kind(decode::DECODE_UPGRADE, decode::record_all)?;
+    models.extend(recording.kind(encode::ENCODE_UPGRADE, encode::record_all)?);
+    models.extend(recording.kind(dequantize::DEQUANTIZE, dequantize::record_all)?);
+    models.extend(recording.kind(load::TILE_LOAD, load::record_all)?);
+    models.extend(recording.kind(ladder::UPGRADE_LADDER, ladder::record_all)?);
+    models.extend(recording.kind(pixels::TILE_PIXELS, pixels::record_all)?);
     Ok(models)
 }
 

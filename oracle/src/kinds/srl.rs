@@ -1,8 +1,8 @@
 //! Kinds 32 to 34: the SRL coders.
 
-mod decode;
-mod encode;
-mod exhaustive;
+pub mod decode;
+pub mod encode;
+pub mod exhaustive;
 
 use std::io;
 
@@ -11,7 +11,7 @@ use crate::record::{Case, Recording};
 use oracle::random::Random;
 
 /// The most values or bytes that a call of a case has room for.
-const MOST_ROOM: usize = 8192;
+pub const MOST_ROOM: usize = 8192;
 
 /// The greatest kp.
 const MAX_KP: u8 = 80;
@@ -25,9 +25,9 @@ const IMPOSSIBLE_STATE: u8 = 8;
 /// Records the cases of these kinds; the answer is cases that stand for all sorts of answers, each
 /// with its kind.
 pub fn record_all(recording: &mut Recording<'_>) -> io::Result<Vec<(u8, Case)>> {
-    let mut models = decode::record_all(recording)?;
-    models.extend(encode::record_all(recording)?);
-    exhaustive::record_all(recording)?;
+    let mut models = recording.kind(decode::SRL_DECODE, decode::record_all)?;
+    models.extend(recording.kind(encode::SRL_ENCODE, encode::record_all)?);
+    recording.kind(exhaustive::SRL_EXHAUSTIVE.number, exhaustive::record_all)?;
     Ok(models)
 }
 

@@ -8,14 +8,14 @@ use oracle::random::{Random, limits};
 use super::progressive::{COMPONENT, PLACES, next, refusal, with_sign};
 use super::short;
 use crate::digest::{mixed, with_values};
-use crate::record::{Cases, Kind, Recording};
+use crate::record::{Cases, Fields, Kind, Recording};
 
-const DWT_DECODE: Kind = Kind {
+pub const DWT_DECODE: Kind = Kind {
     number: 41,
     inputs: 13,
     size: 22,
 };
-const DWT_IMPULSE: Kind = Kind {
+pub const DWT_IMPULSE: Kind = Kind {
     number: 42,
     inputs: 4,
     size: 12,
@@ -30,13 +30,13 @@ const AMPLITUDES: [i16; 16] = [
 ];
 
 pub fn record_all(recording: &mut Recording<'_>) -> io::Result<()> {
-    decode(recording)?;
-    impulse(recording)
+    recording.kind(DWT_DECODE.number, decode)?;
+    recording.kind(DWT_IMPULSE.number, impulse)
 }
 
 /// What the samples of a list are like.
 #[derive(Clone, Copy)]
-enum Sort {
+pub enum Sort {
     /// Any magnitude of sixteen bits, shifted right so far, with any sign.
     Any(u8),
     /// The same at one place of sixteen, 0 at the others.
@@ -49,11 +49,63 @@ enum Sort {
 
 /// What a case of kind 41 begins with.
 #[derive(Clone, Copy)]
-struct Given {
+pub struct Given {
     seed: u64,
     sort: Sort,
     /// How many elements of the buffer and of the scratch are lent.
     lengths: [usize; 2],
+}
+
+/// The buffer and the scratch of a call, and how many elements of them are lent.
+#[derive(Clone)]
+pub struct Lists {
+    pub buffer: Vec<i16>,
+    pub temp: Vec<i16>,
+    pub lengths: [usize; 2],
+}
+
+impl Lists {
+    /// What the text makes of them, unless a slice is too short for it: the refusal, or 0.
+    pub fn decode(&mut self) -> u8 {
+        let [buffer, temp] = self.lengths;
+        let number = refusal(&self.lengths, &[]);
+        if number == 0 {
+            dwt_extrapolate::decode(&mut self.buffer[..buffer], &mut self.temp[..temp]);
+        }
+        number
+    }
+
+    /// Both as one number.
+    pub fn digest(&self) -> u64 {
+        let buffer = with_values(0, self.buffer.iter().copied());
+        with_values(buffer, self.temp.iter().copied())
+    }
+}
+
+impl Given {
+    /// Reads the fields of a case.
+    pub fn read(fields: &mut Fields<'_>) -> Self {
+        let seed = fields.u64();
+        let sort = match fields.u8() {
+            drop @ 0..32 => Sort::Any(drop),
+            drop @ 32..64 => Sort::Few(drop - 32),
+            64 => Sort::Extreme,
+            _ => Sort::Equal,
+        };
+        Self {
+            seed,
+            sort,
+            lengths: fields.shorts(),
+        }
+    }
+
+    pub fn lists(&self) -> Lists {
+        Lists {
+            buffer: self.sort.list(self.seed),
+            temp: scratch(self.seed),
+            lengths: self.lengths,
+        }
+    }
 }
 
 impl Sort {
@@ -96,15 +148,15 @@ fn scratch(seed: u64) -> Vec<i16> {
     Sort::Any(1).list(mixed(seed, 1))
 }
 
-/// Asks the text, unless a slice is too short for it: the refusal or 0, and the buffer and the scratch
-/// as one number.
-fn answer(mut buffer: Vec<i16>, mut temp: Vec<i16>, lengths: [usize; 2]) -> (u8, [u8; 8]) {
-    let number = refusal(&lengths, &[]);
-    if number == 0 {
-        dwt_extrapolate::decode(&mut buffer[..lengths[0]], &mut temp[..lengths[1]]);
+/// The lists of kind 42: a value at one place, and zeros at the others.
+pub fn impulse_lists(place: usize, amplitude: i16) -> Lists {
+    let mut buffer = vec![0; PLACES];
+    buffer[place] = amplitude;
+    Lists {
+        buffer,
+        temp: scratch(0),
+        lengths: [COMPONENT; 2],
     }
-    let digest = with_values(with_values(0, buffer), temp);
-    (number, digest.to_le_bytes())
 }
 
 fn decode(recording: &mut Recording<'_>) -> io::Result<()> {
@@ -126,13 +178,14 @@ fn add_decode(cases: &mut Cases<'_, '_>, given: Given) -> io::Result<()> {
         sort,
         lengths,
     } = given;
-    let (number, digest) = answer(sort.list(seed), scratch(seed), lengths);
+    let mut lists = given.lists();
+    let number = lists.decode();
     cases.add(&[
         &seed.to_le_bytes(),
         &[sort.field()],
         &lengths.map(short).concat(),
         &[number],
-        &digest,
+        &lists.digest().to_le_bytes(),
     ])
 }
 
@@ -216,10 +269,9 @@ fn impulse(recording: &mut Recording<'_>) -> io::Result<()> {
     cases.finish()
 }
 
-/// A value at one place, and zeros at the others.
 fn add_impulse(cases: &mut Cases<'_, '_>, place: usize, amplitude: i16) -> io::Result<()> {
-    let mut buffer = vec![0; PLACES];
-    buffer[place] = amplitude;
-    let (_, digest) = answer(buffer, scratch(0), [COMPONENT; 2]);
+    let mut lists = impulse_lists(place, amplitude);
+    lists.decode();
+    let digest = lists.digest().to_le_bytes();
     cases.add(&[&short(place), &amplitude.to_le_bytes(), &digest])
 }

@@ -5,6 +5,7 @@ use oracle::codecs::rfx::progressive::ComponentCodecQuant;
 use oracle::progressive::reach;
 
 use crate::kinds::short;
+use crate::record::Fields;
 
 /// A number for each band, in band order.
 pub type Row = [u8; 10];
@@ -74,6 +75,17 @@ pub struct Made {
 }
 
 impl Given {
+    /// Reads the fields of a case.
+    pub fn read(fields: &mut Fields<'_>) -> Self {
+        Self {
+            shape: Shape::read(fields),
+            use_reduce_extrapolate: fields.flag(),
+            prev: fields.row(),
+            curr: fields.row(),
+            lengths: fields.shorts(),
+        }
+    }
+
     /// As fields of a case.
     pub fn fields(&self) -> Vec<u8> {
         let mut fields = self.shape.fields().to_vec();
@@ -125,6 +137,23 @@ impl Given {
 }
 
 impl Shape {
+    /// Reads the fields of a case.
+    pub fn read(fields: &mut Fields<'_>) -> Self {
+        let seed = fields.u64();
+        let [density, drop, spread, mode] = [(); 4].map(|()| fields.u8());
+        let befores = [Before::Cut, Before::Floor, Before::Any, Before::Extreme];
+        let signs = [Signs::Before, Signs::Any, Signs::Zero, Signs::Later];
+        Self {
+            seed,
+            density,
+            drop,
+            spread,
+            before: befores[usize::from(mode % 4)],
+            signs: signs[usize::from(mode / 4 % 4)],
+            cut: mode / 16 % 2 == 1,
+        }
+    }
+
     /// As fields of a case.
     pub fn fields(&self) -> [u8; 12] {
         let Self {

@@ -13,7 +13,7 @@ use crate::digest::with_values;
 use crate::record::{Case, Recording};
 use oracle::random::Random;
 
-const DECODE_UPGRADE: u8 = 36;
+pub const DECODE_UPGRADE: u8 = 36;
 
 /// Records all cases; the answer is the cases whose answers kind 35 makes wrong.
 pub fn record_all(recording: &mut Recording<'_>) -> io::Result<Vec<(u8, Case)>> {

@@ -11,7 +11,7 @@ use crate::digest::with_values;
 use crate::record::{Case, Recording};
 use oracle::random::Random;
 
-const DEQUANTIZE: u8 = 38;
+pub const DEQUANTIZE: u8 = 38;
 
 /// Records all cases; the answer is the cases whose answers kind 35 makes wrong.
 pub fn record_all(recording: &mut Recording<'_>) -> io::Result<Vec<(u8, Case)>> {
@@ -30,19 +30,25 @@ pub fn record_all(recording: &mut Recording<'_>) -> io::Result<Vec<(u8, Case)>> 
 fn case(given: Given) -> Case {
     let mut case = Case::default();
     case.given(&given.fields());
-    let mut made = given.make();
+    let mut target = given.make().target;
+    let number = dequantize(&given, &mut target);
+    case.answer(&[number]);
+    case.answer(&with_values(0, target).to_le_bytes());
+    case
+}
+
+/// What the text makes of a target: the refusal, or 0.
+pub fn dequantize(given: &Given, target: &mut [i16]) -> u8 {
     let length = given.lengths[0];
     let number = refusal(&[length], &[given.curr]);
     if number == 0 {
         reach::dequantize_component_ccq(
-            &mut made.target[..length],
+            &mut target[..length],
             &given.curr_quant(),
             given.use_reduce_extrapolate,
         );
     }
-    case.answer(&[number]);
-    case.answer(&with_values(0, made.target).to_le_bytes());
-    case
+    number
 }
 
 /// Each quantizer in all bands, and each in each band; values of any size, small ones, and the least

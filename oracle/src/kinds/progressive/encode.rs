@@ -15,7 +15,7 @@ use crate::kinds::room::Room;
 use crate::record::{Case, Recording};
 use oracle::random::Random;
 
-const ENCODE_UPGRADE: u8 = 37;
+pub const ENCODE_UPGRADE: u8 = 37;
 
 /// The most bytes that an output of a case has room for.
 const MOST_ROOM: usize = 16384;
@@ -43,39 +43,70 @@ pub fn record_all(recording: &mut Recording<'_>) -> io::Result<Vec<(u8, Case)>> 
 }
 
 fn case(given: Given, srl_room: Room, raw_room: Room) -> Case {
+    let answer = answer(&given, [srl_room, raw_room]);
+    let mut case = Case::default();
+    case.given(&given.fields());
+    case.given(&answer.rooms.map(short).concat());
+    case.answer(&answer.fields());
+    case
+}
+
+/// What comes of a call, and of reading what it wrote.
+pub struct Answer {
+    /// How many bytes of each output are lent.
+    pub rooms: [usize; 2],
+    /// The number of the refusal, 0 if there is none.
+    pub number: u8,
+    /// How many bytes of each output are written.
+    pub written: [usize; 2],
+    /// The outputs, also past what is lent.
+    pub outputs: [Vec<u8>; 2],
+    /// The component after the pass was read.
+    pub made: Made,
+}
+
+impl Answer {
+    /// As fields of a case.
+    pub fn fields(&self) -> Vec<u8> {
+        let [srl, raw] = &self.outputs;
+        let mut fields = vec![self.number];
+        fields.extend(self.written.map(short).concat());
+        fields.extend(with_bytes(with_bytes(0, srl), raw).to_le_bytes());
+        fields.extend(decode::digest(&self.made).to_le_bytes());
+        fields
+    }
+}
+
+/// What the text answers, with the port's refusal of an output that is too short.
+pub fn answer(given: &Given, rooms: [Room; 2]) -> Answer {
     let mut made = given.make();
-    let (number, srl, raw) = match write(&given, &made) {
-        Ok((srl, raw)) => (0, srl, raw),
-        Err(number) => (number, Vec::new(), Vec::new()),
+    let (number, streams) = match write(given, &made) {
+        Ok((srl, raw)) => (0, [srl, raw]),
+        Err(number) => (number, Default::default()),
     };
-    let srl_room = srl_room.bytes(srl.len(), MOST_ROOM);
-    let raw_room = raw_room.bytes(raw.len(), MOST_ROOM);
-    let fits = srl.len() <= srl_room && raw.len() <= raw_room;
+    let rooms: [usize; 2] = core::array::from_fn(|k| rooms[k].bytes(streams[k].len(), MOST_ROOM));
+    let fits = (0..2).all(|k| streams[k].len() <= rooms[k]);
     let number = if number == 0 && !fits {
         NO_ROOM
     } else {
         number
     };
-    let (srl, raw) = if number == 0 {
-        (srl, raw)
+    let streams = if number == 0 {
+        streams
     } else {
         Default::default()
     };
     if number == 0 {
-        assert_eq!(decode::read(&given, &srl, &raw, &mut made), 0);
+        let [srl, raw] = &streams;
+        assert_eq!(decode::read(given, srl, raw, &mut made), 0);
     }
-
-    let mut case = Case::default();
-    case.given(&given.fields());
-    case.given(&short(srl_room));
-    case.given(&short(raw_room));
-    case.answer(&[number]);
-    case.answer(&short(srl.len()));
-    case.answer(&short(raw.len()));
-    let streams = with_bytes(with_bytes(0, &held(&srl)), &held(&raw));
-    case.answer(&streams.to_le_bytes());
-    case.answer(&decode::digest(&made).to_le_bytes());
-    case
+    Answer {
+        rooms,
+        number,
+        written: [streams[0].len(), streams[1].len()],
+        outputs: streams.map(|stream| held(&stream)),
+        made,
+    }
 }
 
 /// The streams that the text writes, or the refusal.
@@ -100,7 +131,7 @@ pub fn write(given: &Given, made: &Made) -> Result<(Vec<u8>, Vec<u8>), u8> {
 
 /// What an output holds after the call, also past the room that is lent: the stream, and behind it
 /// what was there before.
-fn held(stream: &[u8]) -> Vec<u8> {
+pub fn held(stream: &[u8]) -> Vec<u8> {
     let mut held = stream.to_vec();
     held.extend((stream.len()..MOST_ROOM).map(|place| (place % 200) as u8 + 55));
     held

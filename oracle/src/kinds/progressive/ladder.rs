@@ -11,16 +11,16 @@ use super::tile::{Fields, Start, bad_fields, digest, random_start, typical};
 use super::{
     Before, COMPONENT, GREATEST, LAYOUTS, Shape, Signs, encode, load, record_kind, refusal,
 };
-use crate::record::{Case, Recording};
+use crate::record::{self, Case, Recording};
 
-const UPGRADE_LADDER: u8 = 40;
+pub const UPGRADE_LADDER: u8 = 40;
 
 /// The longest stream of a case.
 const LONGEST: usize = 16384;
 
 /// Where a ladder begins.
 #[derive(Clone, Copy)]
-enum From {
+pub enum From {
     /// `TileState::new`.
     New,
     /// A loaded tile.
@@ -56,7 +56,7 @@ enum Streams {
 
 /// One upgrade of a ladder.
 #[derive(Clone, Copy)]
-struct Step {
+pub struct Step {
     rows: Rows,
     /// A place of the thirty that has a number above 15.
     bad: Option<u8>,
@@ -87,29 +87,96 @@ pub fn record_all(recording: &mut Recording<'_>) -> io::Result<Vec<(u8, Case)>> 
 }
 
 fn case(start: Start, from: From, steps: &[Step]) -> Case {
-    let (number, mut tile) = match from {
-        From::New => (0, TileState::new()),
-        From::Loaded => load::load(&start, [COMPONENT; 6]),
-        From::Built => (0, start.built()),
-    };
+    let (number, mut tile) = from.tile(&start);
     let mut case = Case::default();
     case.given(&start.bytes());
     case.given(&[from as u8, steps.len() as u8]);
     add_answer(&mut case, number, &tile);
     for (index, step) in steps.iter().enumerate() {
         case.given(&step.bytes());
-        let number = step.upgrade(&start, index, &mut tile);
+        let upgrade = step.upgrade(&start, index, &tile);
+        let number = upgrade.apply(&mut tile);
         add_answer(&mut case, number, &tile);
     }
     case
 }
 
 fn add_answer(case: &mut Case, number: u8, tile: &TileState) {
-    case.answer(&[number]);
-    case.answer(&digest(tile).to_le_bytes());
+    case.answer(&answer_fields(number, tile));
+}
+
+/// An answer as fields of a case.
+pub fn answer_fields(number: u8, tile: &TileState) -> Vec<u8> {
+    let mut fields = vec![number];
+    fields.extend(digest(tile).to_le_bytes());
+    fields
+}
+
+impl From {
+    /// Reads the field of a case.
+    pub fn read(fields: &mut record::Fields<'_>) -> Self {
+        [Self::New, Self::Loaded, Self::Built][usize::from(fields.u8())]
+    }
+
+    /// The refusal, or 0, and the tile that a ladder begins with.
+    pub fn tile(self, start: &Start) -> (u8, TileState) {
+        match self {
+            Self::New => (0, TileState::new()),
+            Self::Loaded => load::load(start, [COMPONENT; 6]),
+            Self::Built => (0, start.built()),
+        }
+    }
+}
+
+/// What a call of `decode_upgrade` is given.
+pub struct Upgrade {
+    pub srl: [Vec<u8>; 3],
+    pub raw: [Vec<u8>; 3],
+    pub rows: [Row; 3],
+    pub quality: u8,
+}
+
+impl Upgrade {
+    /// Upgrades a tile: the refusal, or 0. The text gives no refusal, and takes no number above 15
+    /// from the wire: it is asked only where there is none.
+    pub fn apply(&self, tile: &mut TileState) -> u8 {
+        let Fields {
+            prog_quant,
+            base_quant,
+            ..
+        } = Fields::of(tile);
+        let number = refusal(&[], &[self.rows, prog_quant, base_quant].concat());
+        if number == 0 {
+            tile.decode_upgrade(
+                self.srl.each_ref().map(Vec::as_slice),
+                self.raw.each_ref().map(Vec::as_slice),
+                self.rows.map(ComponentCodecQuant::of_bands),
+                self.quality,
+            )
+            .expect("a stream causes no refusal");
+        }
+        number
+    }
 }
 
 impl Step {
+    /// Reads the fields of a case.
+    pub fn read(fields: &mut record::Fields<'_>) -> Self {
+        let [rows, bad, streams, lengths] = [(); 4].map(|()| fields.u8());
+        let sorts = [Streams::None, Streams::Written, Streams::Cut, Streams::Any];
+        Self {
+            rows: match rows / 16 {
+                0 => Rows::Down(rows % 16),
+                1 => Rows::Up(rows % 16),
+                2 => Rows::Any,
+                _ => Rows::All(rows % 16),
+            },
+            bad: bad.checked_sub(1),
+            streams: [0, 2, 4].map(|place| sorts[usize::from(streams >> place & 3)]),
+            lengths,
+        }
+    }
+
     fn bytes(&self) -> [u8; 4] {
         let rows = match self.rows {
             Rows::Down(mask) => mask,
@@ -122,26 +189,23 @@ impl Step {
         [rows, bad, y + 4 * cb + 16 * cr, self.lengths]
     }
 
-    /// Upgrades a tile: the refusal, or 0. The text gives no refusal, and takes no number above 15
-    /// from the wire: it is asked only where there is none.
-    fn upgrade(&self, start: &Start, index: usize, tile: &mut TileState) -> u8 {
+    /// What the upgrade with number `index` is given.
+    pub fn upgrade(&self, start: &Start, index: usize, tile: &TileState) -> Upgrade {
         let words: [u64; 4] =
             core::array::from_fn(|k| next(start.seed(4 * (index as u64 + 1) + k as u64)));
         let fields = Fields::of(tile);
         let rows = self.rows_of(&fields, words);
-        let streams: [(Vec<u8>, Vec<u8>); 3] =
-            core::array::from_fn(|k| self.streams_of(start, tile, k, rows[k], next(words[k])));
-        let number = refusal(&[], &[rows, fields.prog_quant, fields.base_quant].concat());
-        if number == 0 {
-            tile.decode_upgrade(
-                core::array::from_fn(|k| streams[k].0.as_slice()),
-                core::array::from_fn(|k| streams[k].1.as_slice()),
-                rows.map(ComponentCodecQuant::of_bands),
-                words[3] as u8,
-            )
-            .expect("a stream causes no refusal");
+        let mut upgrade = Upgrade {
+            srl: Default::default(),
+            raw: Default::default(),
+            rows,
+            quality: words[3] as u8,
+        };
+        for k in 0..3 {
+            (upgrade.srl[k], upgrade.raw[k]) =
+                self.streams_of(start, tile, k, rows[k], next(words[k]));
         }
-        number
+        upgrade
     }
 
     fn rows_of(&self, fields: &Fields, words: [u64; 4]) -> [Row; 3] {

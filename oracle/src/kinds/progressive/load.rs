@@ -9,7 +9,7 @@ use super::tile::{Start, bad_fields, digest, random_start, typical};
 use super::{COMPONENT, GREATEST, PLACES, record_kind, refusal, short};
 use crate::record::{Case, Recording};
 
-const TILE_LOAD: u8 = 39;
+pub const TILE_LOAD: u8 = 39;
 
 /// How many elements are lent: coefficients and signs of the first component, then of the others.
 type Lengths = [usize; 6];

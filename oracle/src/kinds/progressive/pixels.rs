@@ -9,7 +9,7 @@ use super::{Before, COMPONENT, GREATEST, Shape, TOO_SHORT, record_kind, refusal,
 use crate::digest::with_bytes;
 use crate::record::{Case, Recording};
 
-const TILE_PIXELS: u8 = 45;
+pub const TILE_PIXELS: u8 = 45;
 
 /// The port's refusal of pixels in the standard layout, whose wavelet the text names and does not
 /// define: README.md has the rule.
@@ -51,13 +51,18 @@ fn case(start: Start, length: usize) -> Case {
 
 /// The refusal, or 0, and the pixels, of which `length` bytes are lent. The text is asked only where
 /// there is no refusal.
-fn pixels(start: &Start, length: usize) -> (u8, Vec<u8>) {
-    let mut pixels: Vec<u8> = (0..BYTES).map(|i| (i % 200) as u8 + 55).collect();
+pub fn pixels(start: &Start, length: usize) -> (u8, Vec<u8>) {
+    let mut pixels = before();
     let number = refusal_of(start, length);
     if number == 0 {
         start.built().reconstruct_to_rgba(&mut pixels[..length]);
     }
     (number, pixels)
+}
+
+/// What is there before a call.
+pub fn before() -> Vec<u8> {
+    (0..BYTES).map(|i| (i % 200) as u8 + 55).collect()
 }
 
 /// 1 comes before 2, and 2 before 3.

@@ -8,6 +8,7 @@ use oracle::random::Random;
 use super::component::{Made, Row};
 use super::{Before, COMPONENT, GREATEST, Given, Shape, Signs, random_shape};
 use crate::digest::{mixed, with_bytes, with_values};
+use crate::record;
 
 /// What a tile has beside its coefficients and signs.
 #[derive(Clone, Copy)]
@@ -29,6 +30,22 @@ pub struct Start {
 }
 
 impl Start {
+    /// Reads the fields of a case.
+    pub fn read(fields: &mut record::Fields<'_>) -> Self {
+        Self {
+            shape: Shape::read(fields),
+            fields: Fields {
+                prog_quant: [(); 3].map(|()| fields.row()),
+                quant_idx: [(); 3].map(|()| fields.u8()),
+                base_quant: [(); 3].map(|()| fields.row()),
+                pass: fields.u16(),
+                is_difference: fields.flag(),
+                quality: fields.u8(),
+                use_reduce_extrapolate: fields.flag(),
+            },
+        }
+    }
+
     /// As fields of a case.
     pub fn bytes(&self) -> Vec<u8> {
         let mut bytes = self.shape.fields().to_vec();

@@ -9,10 +9,10 @@ use super::{
     BAD_WIDTHS, IMPOSSIBLE_STATE, MAX_KP, MOST_ROOM, NO_ROOM, long, random_width, record_kind,
     short,
 };
-use crate::record::{Case, Recording};
+use crate::record::{Case, Fields, Recording};
 use oracle::random::Random;
 
-const SRL_DECODE: u8 = 32;
+pub const SRL_DECODE: u8 = 32;
 
 /// The longest run that a decoder can be in.
 const LONGEST_RUN: usize = 1024;
@@ -31,19 +31,43 @@ const HUGE: [u64; 6] = [u64::MAX, u64::MAX - 1, 1 << 63, 1 << 32, 65536, 8193];
 
 /// What is asked in one call.
 #[derive(Clone, Copy)]
-struct Call {
-    num_values: u64,
-    num_bits: u8,
+pub struct Call {
+    pub num_values: u64,
+    pub num_bits: u8,
     /// How many values the output has room for.
-    room: usize,
+    pub room: usize,
 }
 
 /// What comes of it.
-struct Answer {
+pub struct Answer {
     /// The number of the refusal, 0 if there is none.
-    number: u8,
-    values: Vec<i16>,
-    state: DecoderState,
+    pub number: u8,
+    pub values: Vec<i16>,
+    pub state: DecoderState,
+}
+
+impl Call {
+    /// Reads the fields of a case.
+    pub fn read(fields: &mut Fields<'_>) -> Self {
+        Self {
+            num_values: fields.u64(),
+            num_bits: fields.u8(),
+            room: fields.short(),
+        }
+    }
+}
+
+impl Answer {
+    /// As fields of a case.
+    pub fn fields(&self) -> Vec<u8> {
+        let mut fields = vec![self.number];
+        fields.extend(short(self.values.len()));
+        fields.extend(state_fields(self.state));
+        for value in &self.values {
+            fields.extend(value.to_le_bytes());
+        }
+        fields
+    }
 }
 
 /// A call with just the room for its values.
@@ -92,12 +116,7 @@ fn case(stream: &[u8], start: DecoderState, calls: &[Call]) -> Case {
         case.given(&[call.num_bits]);
         case.given(&short(call.room));
         let answer = answer(stream, state, call);
-        case.answer(&[answer.number]);
-        case.answer(&short(answer.values.len()));
-        case.answer(&state_fields(answer.state));
-        for value in answer.values {
-            case.answer(&value.to_le_bytes());
-        }
+        case.answer(&answer.fields());
         state = answer.state;
     }
     case
@@ -113,9 +132,20 @@ fn state_fields(state: DecoderState) -> Vec<u8> {
     .concat()
 }
 
+/// Reads the fields of a state.
+pub fn read_state(fields: &mut Fields<'_>) -> DecoderState {
+    DecoderState {
+        byte_idx: fields.long(),
+        bit_idx: fields.u8(),
+        kp: fields.u8(),
+        zero_run_remaining: fields.long(),
+        nonzero_pending: fields.flag(),
+    }
+}
+
 /// What the text answers to a call, with the port's two refusals more. A refusal leaves the state
 /// as it was; the text moves on.
-fn answer(stream: &[u8], state: DecoderState, call: Call) -> Answer {
+pub fn answer(stream: &[u8], state: DecoderState, call: Call) -> Answer {
     assert!(call.room <= MOST_ROOM, "the output of a case is short");
     let refused = |number| Answer {
         number,

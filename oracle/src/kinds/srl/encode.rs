@@ -10,10 +10,10 @@ use super::{
     short,
 };
 use crate::kinds::room::Room;
-use crate::record::{Case, Recording};
+use crate::record::{Case, Fields, Recording};
 use oracle::random::Random;
 
-const SRL_ENCODE: u8 = 33;
+pub const SRL_ENCODE: u8 = 33;
 
 /// The most zeros that can wait for a value.
 const MOST_ZEROS: usize = 4096;
@@ -73,50 +73,65 @@ fn case(start: EncoderState, calls: &[Call], end: Room) -> Case {
     case.given(&state_fields(start));
     let mut state = start;
     for call in calls {
-        let (number, bytes, after) = encoded(state, call);
-        let room = call.room.bytes(bytes.len(), MOST_ROOM);
+        let answer = encoded(state, &call.values, call.num_bits, call.room);
         case.given(&[call.num_bits]);
-        case.given(&short(room));
+        case.given(&short(answer.room));
         case.given(&short(call.values.len()));
         for value in &call.values {
             case.given(&value.to_le_bytes());
         }
-        state = answer(&mut case, number, &bytes, room, (state, after), true);
+        case.answer(&answer.fields(true));
+        state = answer.state;
     }
-    let (number, bytes) = finished(state);
-    let room = end.bytes(bytes.len(), MOST_ROOM);
-    case.given(&short(room));
-    answer(&mut case, number, &bytes, room, (state, state), false);
+    let answer = finished(state, end);
+    case.given(&short(answer.room));
+    case.answer(&answer.fields(false));
     case
 }
 
-/// Adds an answer, with the refusal for too little room: its number, the count of bytes, the state
-/// after it unless the stream ends, and the bytes. Returns that state.
-fn answer(
-    case: &mut Case,
-    number: u8,
-    bytes: &[u8],
-    room: usize,
-    (before, after): (EncoderState, EncoderState),
-    goes_on: bool,
-) -> EncoderState {
-    let number = if number == 0 && bytes.len() > room {
-        NO_ROOM
-    } else {
-        number
-    };
-    let (bytes, state) = if number == 0 {
-        (bytes, after)
-    } else {
-        (&[][..], before)
-    };
-    case.answer(&[number]);
-    case.answer(&short(bytes.len()));
-    if goes_on {
-        case.answer(&state_fields(state));
+/// What comes of a call of `encode` or of `finish`.
+pub struct Answer {
+    /// How many bytes the output has room for.
+    pub room: usize,
+    /// The number of the refusal, 0 if there is none.
+    pub number: u8,
+    pub bytes: Vec<u8>,
+    pub state: EncoderState,
+}
+
+impl Answer {
+    /// What the text answers if there is room for everything, with the refusal for too little room. A
+    /// refusal leaves the state as it was.
+    fn given_room(
+        text: Result<(Vec<u8>, EncoderState), u8>,
+        before: EncoderState,
+        room: Room,
+    ) -> Self {
+        let needed = text.as_ref().map_or(0, |(bytes, _)| bytes.len());
+        let room = room.bytes(needed, MOST_ROOM);
+        let (number, (bytes, state)) = match text {
+            Ok(_) if needed > room => (NO_ROOM, (Vec::new(), before)),
+            Ok(answer) => (0, answer),
+            Err(number) => (number, (Vec::new(), before)),
+        };
+        Self {
+            room,
+            number,
+            bytes,
+            state,
+        }
     }
-    case.answer(bytes);
-    state
+
+    /// As fields of a case: with the state unless the stream ends.
+    pub fn fields(&self, goes_on: bool) -> Vec<u8> {
+        let mut fields = vec![self.number];
+        fields.extend(short(self.bytes.len()));
+        if goes_on {
+            fields.extend(state_fields(self.state));
+        }
+        fields.extend(&self.bytes);
+        fields
+    }
 }
 
 fn state_fields(state: EncoderState) -> Vec<u8> {
@@ -128,33 +143,44 @@ fn state_fields(state: EncoderState) -> Vec<u8> {
     .concat()
 }
 
-/// What the text answers to a call of `encode` if there is room for everything: the refusal or 0,
-/// the whole bytes, and the state then. An impossible state is the port's refusal.
-fn encoded(state: EncoderState, call: &Call) -> (u8, Vec<u8>, EncoderState) {
-    if !possible(state) {
-        return (IMPOSSIBLE_STATE, Vec::new(), state);
+/// Reads the fields of a state.
+pub fn read_state(fields: &mut Fields<'_>) -> EncoderState {
+    EncoderState {
+        kp: fields.u8(),
+        pending_zeros: fields.long(),
+        current: fields.u8(),
+        bit_count: fields.u8(),
     }
-    let mut encoder = reach::encoder(state);
-    let number = match encoder.encode(&call.values, call.num_bits) {
-        Ok(()) => {
-            let (bytes, after) = reach::encoder_parts(encoder);
-            return (0, bytes, after);
-        }
-        Err(SrlError::InvalidBitCount(_)) => 4,
-        Err(SrlError::MagnitudeOutOfRange { .. }) => 5,
-        Err(SrlError::ZeroRunTooLong) => 6,
-        Err(error) => panic!("the encoder does not answer {error}"),
-    };
-    (number, Vec::new(), state)
 }
 
-/// What the text answers to `finish` if there is room for everything.
-fn finished(state: EncoderState) -> (u8, Vec<u8>) {
-    if !possible(state) {
-        return (IMPOSSIBLE_STATE, Vec::new());
-    }
-    let stream = reach::encoder(state).finish();
-    (0, stream.expect("the zeros are few"))
+/// What the text answers to a call of `encode`. An impossible state is the port's refusal.
+pub fn encoded(state: EncoderState, values: &[i16], num_bits: u8, room: Room) -> Answer {
+    let text = || {
+        if !possible(state) {
+            return Err(IMPOSSIBLE_STATE);
+        }
+        let mut encoder = reach::encoder(state);
+        match encoder.encode(values, num_bits) {
+            Ok(()) => Ok(reach::encoder_parts(encoder)),
+            Err(SrlError::InvalidBitCount(_)) => Err(4),
+            Err(SrlError::MagnitudeOutOfRange { .. }) => Err(5),
+            Err(SrlError::ZeroRunTooLong) => Err(6),
+            Err(error) => panic!("the encoder does not answer {error}"),
+        }
+    };
+    Answer::given_room(text(), state, room)
+}
+
+/// What the text answers to `finish`.
+pub fn finished(state: EncoderState, room: Room) -> Answer {
+    let text = || {
+        if !possible(state) {
+            return Err(IMPOSSIBLE_STATE);
+        }
+        let stream = reach::encoder(state).finish();
+        Ok((stream.expect("the zeros are few"), state))
+    };
+    Answer::given_room(text(), state, room)
 }
 
 fn possible(state: EncoderState) -> bool {

@@ -3,12 +3,12 @@
 use std::io;
 
 use oracle::srl::SrlDecoder;
-use oracle::srl::reach;
+use oracle::srl::reach::{self, DecoderState};
 
 use crate::digest::{mixed, with_values};
 use crate::record::{Kind, Recording};
 
-const SRL_EXHAUSTIVE: Kind = Kind {
+pub const SRL_EXHAUSTIVE: Kind = Kind {
     number: 34,
     inputs: 4,
     size: 12,
@@ -38,17 +38,27 @@ fn digest(begin: &[u8], width: u8, count: u8) -> u64 {
     let mut digest = 0;
     for last in 0..=255 {
         let stream = [begin, &[last]].concat();
-        let mut decoder = SrlDecoder::new(&stream).expect("every stream is one");
-        let values = decoder
-            .decode(usize::from(count), width)
-            .expect("the width is one the decoder takes");
-        digest = with_values(digest, values);
-        let state = reach::decoder_state(&decoder);
-        digest = mixed(digest, state.byte_idx as u64);
-        digest = mixed(digest, u64::from(state.bit_idx));
-        digest = mixed(digest, u64::from(state.kp));
-        digest = mixed(digest, state.zero_run_remaining as u64);
-        digest = mixed(digest, u64::from(state.nonzero_pending));
+        let (values, state) = decoded(&stream, width, count);
+        digest = with_answer(digest, &values, state);
     }
     digest
+}
+
+/// What the text decodes from a stream, and the state then.
+pub fn decoded(stream: &[u8], width: u8, count: u8) -> (Vec<i16>, DecoderState) {
+    let mut decoder = SrlDecoder::new(stream).expect("every stream is one");
+    let values = decoder
+        .decode(usize::from(count), width)
+        .expect("the width is one the decoder takes");
+    (values, reach::decoder_state(&decoder))
+}
+
+/// A digest with the values of a stream more, and the state.
+pub fn with_answer(digest: u64, values: &[i16], state: DecoderState) -> u64 {
+    let mut digest = with_values(digest, values.iter().copied());
+    digest = mixed(digest, state.byte_idx as u64);
+    digest = mixed(digest, u64::from(state.bit_idx));
+    digest = mixed(digest, u64::from(state.kp));
+    digest = mixed(digest, state.zero_run_remaining as u64);
+    mixed(digest, u64::from(state.nonzero_pending))
 }

@@ -1,0 +1,600 @@
+//! Upgrade passes, dequantizing, colours, and tiles.
+
+use crate::ComponentCodecQuant;
+use crate::dwt_extrapolate::{BandInfo, band_layout};
+use crate::error::defect;
+use crate::ffi;
+use crate::srl::{SrlError, too_large};
+
+/// The coefficients of a component.
+pub const COEFFICIENTS_PER_COMPONENT: usize = 4096;
+
+/// The columns and rows of a tile, in pixels.
+pub const TILE_DIM: u16 = 64;
+
+/// The bytes of a pixel: red, green, blue, and 255.
+pub const TILE_BYTES_PER_PIXEL: usize = 4;
+
+/// The bands of a component.
+pub const NUM_BANDS: usize = 10;
+
+/// The sign of a coefficient of which nothing is known yet.
+pub const SIGN_ZERO: i8 = 0;
+/// The sign of a positive coefficient.
+pub const SIGN_POSITIVE: i8 = 1;
+/// The sign of a negative coefficient.
+pub const SIGN_NEGATIVE: i8 = -1;
+
+/// No raw stream of a pass is longer: fifteen bits for each coefficient.
+const MOST_RAW_BYTES: usize = COEFFICIENTS_PER_COMPONENT * 15 / 8;
+
+/// No SRL stream of a pass is longer: a sign, the greatest magnitude and a run for each coefficient, and
+/// the end.
+const MOST_SRL_BYTES: usize = COEFFICIENTS_PER_COMPONENT * (12 + 32767) / 8 + 4;
+
+/// The room that an SRL stream gets at first. Few are longer.
+const USUAL_SRL_BYTES: usize = 8192;
+
+/// Reads an upgrade pass over one component, in place: the coefficients of each band go from its position
+/// in `prev_prog_quant` to that in `curr_prog_quant`.
+///
+/// # Errors
+///
+/// [`SrlError::SliceTooShort`] if `coefficients` or `sign` has fewer than 4,096 elements,
+/// [`SrlError::OutOfDomain`] if a position is above 15. Both slices are as they were then.
+pub fn decode_upgrade_pass(
+    srl_data: &[u8],
+    raw_data: &[u8],
+    prev_prog_quant: &ComponentCodecQuant,
+    curr_prog_quant: &ComponentCodecQuant,
+    use_reduce_extrapolate: bool,
+    coefficients: &mut [i16],
+    sign: &mut [i8],
+) -> Result<(), SrlError> {
+    let number = ffi::decode_upgrade_pass(
+        srl_data,
+        raw_data,
+        &prev_prog_quant.bands(),
+        &curr_prog_quant.bands(),
+        use_reduce_extrapolate,
+        coefficients,
+        sign,
+    );
+    match number {
+        0 => Ok(()),
+        1 => Err(SrlError::SliceTooShort),
+        2 => Err(SrlError::OutOfDomain),
+        number => defect("tarjimp_decode_upgrade_pass", number),
+    }
+}
+
+/// Writes an upgrade pass over one component, from `prev_coefficients`, with their signs, to
+/// `coefficients`: the SRL stream and the raw stream.
+///
+/// # Errors
+///
+/// [`SrlError::SliceTooShort`] if a slice has fewer than 4,096 elements, [`SrlError::OutOfDomain`] if a
+/// position is above 15, [`SrlError::MagnitudeOutOfRange`] if a value of the SRL stream does not fit its
+/// band's width.
+///
+/// ```
+/// use tarjimp::ComponentCodecQuant;
+/// use tarjimp::progressive::{decode_upgrade_pass, encode_upgrade_pass};
+///
+/// let prev = ComponentCodecQuant::of_bands([3; 10]);
+/// let curr = ComponentCodecQuant::of_bands([1; 10]);
+/// let (mut coefficients, mut sign) = ([0; 4096], [0; 4096]);
+/// let mut target = coefficients;
+/// target[100] = 6;
+///
+/// let (srl, raw) = encode_upgrade_pass(&target, &coefficients, &prev, &curr, &sign, true)?;
+/// decode_upgrade_pass(&srl, &raw, &prev, &curr, true, &mut coefficients, &mut sign)?;
+/// assert_eq!((coefficients, sign[100]), (target, 1));
+/// # Ok::<(), tarjimp::Error>(())
+/// ```
+pub fn encode_upgrade_pass(
+    coefficients: &[i16],
+    prev_coefficients: &[i16],
+    prev_prog_quant: &ComponentCodecQuant,
+    curr_prog_quant: &ComponentCodecQuant,
+    sign: &[i8],
+    use_reduce_extrapolate: bool,
+) -> Result<(Vec<u8>, Vec<u8>), SrlError> {
+    let mut srl_data = vec![0; USUAL_SRL_BYTES];
+    let mut raw_data = vec![0; MOST_RAW_BYTES];
+    let mut written = [0; 2];
+    loop {
+        let number = ffi::encode_upgrade_pass(
+            coefficients,
+            prev_coefficients,
+            &prev_prog_quant.bands(),
+            &curr_prog_quant.bands(),
+            sign,
+            use_reduce_extrapolate,
+            &mut srl_data,
+            &mut raw_data,
+            &mut written,
+        );
+        match number {
+            0 => {
+                srl_data.truncate(written[0]);
+                raw_data.truncate(written[1]);
+                return Ok((srl_data, raw_data));
+            }
+            1 => return Err(SrlError::SliceTooShort),
+            2 => return Err(SrlError::OutOfDomain),
+            5 => {
+                let refusal = first_too_large(
+                    coefficients,
+                    prev_coefficients,
+                    prev_prog_quant,
+                    curr_prog_quant,
+                    sign,
+                    use_reduce_extrapolate,
+                );
+                return Err(refusal.unwrap_or_else(|| defect("tarjimp_encode_upgrade_pass", 5)));
+            }
+            // The refusal altered nothing, so the call is made again with more room.
+            7 if srl_data.len() < MOST_SRL_BYTES => {
+                srl_data.resize((8 * srl_data.len()).min(MOST_SRL_BYTES), 0);
+            }
+            number => defect("tarjimp_encode_upgrade_pass", number),
+        }
+    }
+}
+
+/// The refusal of the first value of a pass that does not fit its band's width. The library gives its
+/// number alone.
+fn first_too_large(
+    coefficients: &[i16],
+    prev_coefficients: &[i16],
+    prev_prog_quant: &ComponentCodecQuant,
+    curr_prog_quant: &ComponentCodecQuant,
+    sign: &[i8],
+    use_reduce_extrapolate: bool,
+) -> Option<SrlError> {
+    let bands = get_band_layout(use_reduce_extrapolate);
+    // The bottom band has no SRL values.
+    let upper = bands.iter().enumerate().take(NUM_BANDS - 1);
+    for (index, band) in upper {
+        let position = curr_prog_quant.for_band(index);
+        let width = prev_prog_quant.for_band(index).saturating_sub(position);
+        if width == 0 {
+            continue;
+        }
+        let places = band.offset..band.offset + band.count();
+        let refusal = places
+            .filter(|&place| sign[place] == SIGN_ZERO)
+            .map(|place| {
+                let before = prev_coefficients[place] >> position;
+                (coefficients[place] >> position).saturating_sub(before)
+            })
+            .find_map(|value| too_large(&[value], width));
+        if refusal.is_some() {
+            return refusal;
+        }
+    }
+    None
+}
+
+/// Dequantizes a component in place.
+///
+/// # Errors
+///
+/// [`SrlError::SliceTooShort`] if `coefficients` has fewer than 4,096 elements,
+/// [`SrlError::OutOfDomain`] if a quantizer is above 15.
+pub fn dequantize_component_ccq(
+    coefficients: &mut [i16],
+    quant: &ComponentCodecQuant,
+    use_reduce_extrapolate: bool,
+) -> Result<(), SrlError> {
+    match ffi::dequantize_component(coefficients, &quant.bands(), use_reduce_extrapolate) {
+        0 => Ok(()),
+        1 => Err(SrlError::SliceTooShort),
+        2 => Err(SrlError::OutOfDomain),
+        number => defect("tarjimp_dequantize_component", number),
+    }
+}
+
+/// The red, green and blue of a pixel.
+///
+/// ```
+/// assert_eq!(tarjimp::progressive::ycbcr_to_rgb(0, 0, 100), [255, 57, 128]);
+/// ```
+pub fn ycbcr_to_rgb(y: i16, cb: i16, cr: i16) -> [u8; 3] {
+    ffi::ycbcr_to_rgb(y, cb, cr)
+}
+
+/// The bands of either layout.
+fn get_band_layout(use_reduce_extrapolate: bool) -> [BandInfo; NUM_BANDS] {
+    if use_reduce_extrapolate {
+        return band_layout();
+    }
+    let sides = [32, 32, 32, 16, 16, 16, 8, 8, 8, 8];
+    let mut offset = 0;
+    sides.map(|side| {
+        let band = BandInfo {
+            width: side,
+            height: side,
+            offset,
+        };
+        offset += band.count();
+        band
+    })
+}
+
+/// A tile of 64 x 64 pixels: three components, Y, Cb and Cr, with what has arrived of them.
+#[derive(Debug, Clone, PartialEq, Eq)]
+pub struct TileState {
+    /// The coefficients of each component.
+    pub coefficients: [[i16; COEFFICIENTS_PER_COMPONENT]; 3],
+    /// The sign of each coefficient.
+    pub sign: [[i8; COEFFICIENTS_PER_COMPONENT]; 3],
+    /// The positions after the last pass.
+    pub prog_quant: [ComponentCodecQuant; 3],
+    /// Indices of base quantizers. No call looks at them.
+    pub quant_idx: [u8; 3],
+    /// The quantizers that pixels are made with.
+    pub base_quant: [ComponentCodecQuant; 3],
+    /// The number of passes so far, which stays at 65535.
+    pub pass: u16,
+    /// Whether the tile is a difference. No call looks at it.
+    pub is_difference: bool,
+    /// The quality of the last pass.
+    pub quality: u8,
+    /// Whether the layout is reduce-extrapolate.
+    pub use_reduce_extrapolate: bool,
+}
+
+impl TileState {
+    /// The fresh tile: zeros, base quantizers 6, in the standard layout.
+    pub const fn new() -> Self {
+        Self {
+            coefficients: [[0; COEFFICIENTS_PER_COMPONENT]; 3],
+            sign: [[SIGN_ZERO; COEFFICIENTS_PER_COMPONENT]; 3],
+            prog_quant: [ComponentCodecQuant::LOSSLESS; 3],
+            quant_idx: [0; 3],
+            base_quant: [ComponentCodecQuant::of_bands([6; NUM_BANDS]); 3],
+            pass: 0,
+            is_difference: false,
+            quality: 0,
+            use_reduce_extrapolate: false,
+        }
+    }
+
+    /// A tile after its first pass, which is not part of this library: the first 4,096 of each slice, with
+    /// positions, base quantizers and the layout. Its pass number is 1.
+    ///
+    /// # Errors
+    ///
+    /// [`SrlError::SliceTooShort`] if a slice has fewer than 4,096 elements, [`SrlError::OutOfDomain`] if
+    /// a position or quantizer is above 15.
+    pub fn load(
+        coefficients: [&[i16]; 3],
+        sign: [&[i8]; 3],
+        prog_quants: [ComponentCodecQuant; 3],
+        base_quants: [ComponentCodecQuant; 3],
+        use_reduce_extrapolate: bool,
+    ) -> Result<Self, SrlError> {
+        let mut tile = Self::new();
+        for k in 0..3 {
+            tile.coefficients[k] = *component(coefficients[k])?;
+            tile.sign[k] = *component(sign[k])?;
+        }
+        let mut quants = prog_quants.iter().chain(&base_quants);
+        if !quants.all(ComponentCodecQuant::is_in_domain) {
+            return Err(SrlError::OutOfDomain);
+        }
+        tile.prog_quant = prog_quants;
+        tile.base_quant = base_quants;
+        tile.pass = 1;
+        tile.use_reduce_extrapolate = use_reduce_extrapolate;
+        Ok(tile)
+    }
+
+    /// Reads an upgrade pass over the tile, from its positions to `prog_quants`.
+    ///
+    /// # Errors
+    ///
+    /// [`SrlError::OutOfDomain`] if a position or quantizer is above 15, given or in the tile, which is as
+    /// it was then.
+    pub fn decode_upgrade(
+        &mut self,
+        srl_data: [&[u8]; 3],
+        raw_data: [&[u8]; 3],
+        prog_quants: [ComponentCodecQuant; 3],
+        quality: u8,
+    ) -> Result<(), SrlError> {
+        let mut prog_quant = self.prog_quant.map(|quant| quant.bands());
+        let number = ffi::tile_decode_upgrade(
+            ffi::Tile {
+                coefficients: &mut self.coefficients,
+                sign: &mut self.sign,
+                prog_quant: &mut prog_quant,
+                base_quant: &self.base_quant.map(|quant| quant.bands()),
+                use_reduce_extrapolate: self.use_reduce_extrapolate,
+                pass: &mut self.pass,
+                quality: &mut self.quality,
+            },
+            &prog_quants.map(|quant| quant.bands()),
+            quality,
+            srl_data,
+            raw_data,
+        );
+        self.prog_quant = prog_quant.map(ComponentCodecQuant::of_bands);
+        match number {
+            0 => Ok(()),
+            2 => Err(SrlError::OutOfDomain),
+            number => defect("tarjimp_tile_decode_upgrade", number),
+        }
+    }
+
+    /// Writes the pixels of the tile to the first 16,384 bytes, row by row, four bytes each: red, green,
+    /// blue, and 255.
+    ///
+    /// # Errors
+    ///
+    /// [`SrlError::SliceTooShort`] if `pixels` has fewer than 16,384 bytes, [`SrlError::OutOfDomain`] if a
+    /// position or quantizer of the tile is above 15, [`SrlError::StandardLayout`] if the tile is in the
+    /// standard layout, of which no pixels are made.
+    pub fn reconstruct_to_rgba(&self, pixels: &mut [u8]) -> Result<(), SrlError> {
+        let number = ffi::tile_reconstruct_to_rgba(
+            &self.coefficients,
+            &self.prog_quant.map(|quant| quant.bands()),
+            &self.base_quant.map(|quant| quant.bands()),
+            self.use_reduce_extrapolate,
+            pixels,
+        );
+        match number {
+            0 => Ok(()),
+            1 => Err(SrlError::SliceTooShort),
+            2 => Err(SrlError::OutOfDomain),
+            3 => Err(SrlError::StandardLayout),
+            number => defect("tarjimp_tile_reconstruct_to_rgba", number),
+        }
+    }
+}
+
+impl Default for TileState {
+    fn default() -> Self {
+        Self::new()
+    }
+}
+
+/// The first 4,096 of a slice.
+fn component<T>(slice: &[T]) -> Result<&[T; COEFFICIENTS_PER_COMPONENT], SrlError> {
+    slice.first_chunk().ok_or(SrlError::SliceTooShort)
+}
+
+#[cfg(test)]
+mod tests {
+    use super::*;
+
+    const LAYOUTS: [bool; 2] = [false, true];
+
+    fn all(number: u8) -> ComponentCodecQuant {
+        ComponentCodecQuant::of_bands([number; NUM_BANDS])
+    }
+
+    #[test]
+    fn standard_layout() {
+        let bands = get_band_layout(false);
+        let counts = bands.map(|band| band.count());
+        assert_eq!(counts, [1024, 1024, 1024, 256, 256, 256, 64, 64, 64, 64]);
+        assert_eq!(bands[9].offset, 4032);
+        let mut offset = 0;
+        for band in bands {
+            assert_eq!(band.offset, offset);
+            offset += band.count();
+        }
+        assert_eq!(offset, COEFFICIENTS_PER_COMPONENT);
+    }
+
+    #[test]
+    fn passes_refuse_short_slices_and_large_positions() {
+        let zeros = [0; 4096];
+        for (length, sign_length) in [(4095, 4096), (4096, 4095)] {
+            let (mut coefficients, mut sign) = (vec![3; length], vec![1; sign_length]);
+            let refused = decode_upgrade_pass(
+                &[0xFF],
+                &[0xFF],
+                &all(2),
+                &all(0),
+                true,
+                &mut coefficients,
+                &mut sign,
+            );
+            assert_eq!(refused, Err(SrlError::SliceTooShort));
+            assert!(coefficients.iter().all(|&coefficient| coefficient == 3));
+            let refused = encode_upgrade_pass(&coefficients, &zeros, &all(2), &all(0), &sign, true);
+            assert_eq!(refused, Err(SrlError::SliceTooShort));
+        }
+        for (prev, curr) in [(16, 0), (0, 16), (255, 255)] {
+            let refused = decode_upgrade_pass(
+                &[],
+                &[],
+                &all(prev),
+                &all(curr),
+                true,
+                &mut [0; 4096],
+                &mut [0; 4096],
+            );
+            assert_eq!(refused, Err(SrlError::OutOfDomain));
+            let refused =
+                encode_upgrade_pass(&zeros, &zeros, &all(prev), &all(curr), &[0; 4096], true);
+            assert_eq!(refused, Err(SrlError::OutOfDomain));
+        }
+        assert_eq!(
+            dequantize_component_ccq(&mut [0; 4095], &all(16), true),
+            Err(SrlError::SliceTooShort)
+        );
+        assert_eq!(
+            dequantize_component_ccq(&mut [0; 4096], &all(16), true),
+            Err(SrlError::OutOfDomain)
+        );
+    }
+
+    /// Streams far longer than the room that they get at first.
+    #[test]
+    fn the_longest_streams_have_room() {
+        for use_reduce_extrapolate in LAYOUTS {
+            let target = [i16::MAX; 4096];
+            let (mut coefficients, mut sign) = ([0; 4096], [0; 4096]);
+            let (srl, raw) = encode_upgrade_pass(
+                &target,
+                &coefficients,
+                &all(15),
+                &all(0),
+                &sign,
+                use_reduce_extrapolate,
+            )
+            .unwrap();
+            assert!(srl.len() > 4000 * 32767 / 8);
+            decode_upgrade_pass(
+                &srl,
+                &raw,
+                &all(15),
+                &all(0),
+                use_reduce_extrapolate,
+                &mut coefficients,
+                &mut sign,
+            )
+            .unwrap();
+            assert_eq!(coefficients, target);
+            let known = [SIGN_NEGATIVE; 4096];
+            let (srl, raw) = encode_upgrade_pass(
+                &target,
+                &[0; 4096],
+                &all(15),
+                &all(0),
+                &known,
+                use_reduce_extrapolate,
+            )
+            .unwrap();
+            assert_eq!((srl.len(), raw.len()), (0, MOST_RAW_BYTES));
+        }
+    }
+
+    #[test]
+    fn the_first_magnitude_that_does_not_fit() {
+        for use_reduce_extrapolate in LAYOUTS {
+            let bands = get_band_layout(use_reduce_extrapolate);
+            let mut target = [0; 4096];
+            target[bands[9].offset] = 4000; // the bottom band has no SRL values
+            target[bands[0].offset] = 4000; // width 0
+            target[bands[1].offset] = 4000; // known
+            target[bands[2].offset] = 6; // fits
+            target[bands[3].offset] = -7; // with floor -4 at position 1
+            target[bands[4].offset] = 400;
+            let mut sign = [SIGN_ZERO; 4096];
+            sign[bands[1].offset] = SIGN_POSITIVE;
+            let mut prev = [3; 10];
+            prev[0] = 1;
+            let refused = encode_upgrade_pass(
+                &target,
+                &[0; 4096],
+                &ComponentCodecQuant::of_bands(prev),
+                &all(1),
+                &sign,
+                use_reduce_extrapolate,
+            );
+            let (magnitude, max) = (4, 3);
+            assert_eq!(
+                refused,
+                Err(SrlError::MagnitudeOutOfRange { magnitude, max })
+            );
+        }
+    }
+
+    #[test]
+    fn load_takes_the_first_of_longer_slices() {
+        let (coefficients, sign) = (vec![9; 5000], vec![-1; 4096]);
+        let tile = TileState::load(
+            [&coefficients, &coefficients, &coefficients],
+            [&sign, &sign, &sign],
+            [all(3); 3],
+            [all(7); 3],
+            true,
+        );
+        let expected = TileState {
+            coefficients: [[9; 4096]; 3],
+            sign: [[-1; 4096]; 3],
+            prog_quant: [all(3); 3],
+            base_quant: [all(7); 3],
+            pass: 1,
+            use_reduce_extrapolate: true,
+            ..TileState::default()
+        };
+        assert_eq!(tile, Ok(expected));
+    }
+
+    #[test]
+    fn load_refuses_in_order() {
+        let (short, long) = ([0; 4095], [0; 4096]);
+        let sign = [0; 4096];
+        let load = |cr: &[i16], position, quantizer| {
+            TileState::load(
+                [&long, &long, cr],
+                [&sign; 3].map(|sign| &sign[..]),
+                [all(position); 3],
+                [all(0), all(0), all(quantizer)],
+                true,
+            )
+            .map(|_| ())
+        };
+        assert_eq!(load(&short, 16, 16), Err(SrlError::SliceTooShort));
+        assert_eq!(load(&long, 16, 15), Err(SrlError::OutOfDomain));
+        assert_eq!(load(&long, 15, 16), Err(SrlError::OutOfDomain));
+        assert_eq!(load(&long, 15, 15), Ok(()));
+    }
+
+    #[test]
+    fn a_refused_upgrade_leaves_the_tile() {
+        let mut tile = TileState::new();
+        tile.prog_quant = [all(3); 3];
+        tile.pass = u16::MAX;
+        let before = tile.clone();
+        let streams: [&[u8]; 3] = [&[0xFF; 9]; 3];
+        let bad = [all(1), all(1), all(16)];
+        let refused = tile.decode_upgrade(streams, streams, bad, 9);
+        assert_eq!(refused, Err(SrlError::OutOfDomain));
+        assert_eq!(tile, before);
+        assert_eq!(
+            tile.decode_upgrade(streams, streams, [all(1); 3], 9),
+            Ok(())
+        );
+        assert_eq!((tile.pass, tile.quality), (u16::MAX, 9));
+        assert_eq!(tile.prog_quant, [all(1); 3]);
+        assert_ne!(tile.coefficients, before.coefficients);
+        tile.base_quant[1].hh2 = 16;
+        let before = tile.clone();
+        let refused = tile.decode_upgrade(streams, streams, [all(1); 3], 9);
+        assert_eq!(refused, Err(SrlError::OutOfDomain));
+        assert_eq!(tile, before);
+    }
+
+    #[test]
+    fn pixels_are_refused_in_order() {
+        let mut tile = TileState::new();
+        let mut pixels = vec![1; 16384];
+        let (short, whole) = (16383, 16384);
+        assert_eq!(
+            tile.reconstruct_to_rgba(&mut pixels),
+            Err(SrlError::StandardLayout)
+        );
+        tile.prog_quant[2].ll3 = 16;
+        assert_eq!(
+            tile.reconstruct_to_rgba(&mut pixels[..whole]),
+            Err(SrlError::OutOfDomain)
+        );
+        assert_eq!(
+            tile.reconstruct_to_rgba(&mut pixels[..short]),
+            Err(SrlError::SliceTooShort)
+        );
+        assert!(pixels.iter().all(|&byte| byte == 1));
+        tile.prog_quant[2].ll3 = 15;
+        tile.use_reduce_extrapolate = true;
+        assert_eq!(tile.reconstruct_to_rgba(&mut pixels), Ok(()));
+        assert_eq!(pixels, [128, 128, 128, 255].repeat(4096));
+    }
+}

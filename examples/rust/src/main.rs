@@ -1,0 +1,105 @@
+//! A tile with a minus stroke is loaded coarse and sharpened by two upgrade passes, which the writer writes
+//! and the tile reads. `expected` has what the program prints.
+
+use tarjimp::dwt_extrapolate::band_layout;
+use tarjimp::progressive::{COEFFICIENTS_PER_COMPONENT, TileState, encode_upgrade_pass};
+use tarjimp::{ComponentCodecQuant, Error};
+
+type Component = [i16; COEFFICIENTS_PER_COMPONENT];
+
+/// The layout that has pixels.
+const USE_REDUCE_EXTRAPOLATE: bool = true;
+
+fn main() -> Result<(), Error> {
+    let target = stroke();
+    let grey = [0; COEFFICIENTS_PER_COMPONENT];
+
+    // What a first pass brings: the bits from position 5 on.
+    let coarse = cut(&target, 5);
+    let sign = coarse.map(|coefficient| coefficient.signum() as i8);
+    let no_sign = [0; COEFFICIENTS_PER_COMPONENT];
+    let mut tile = TileState::load(
+        [&coarse, &grey, &grey],
+        [&sign, &no_sign, &no_sign],
+        [all(5); 3],
+        [all(6); 3],
+        USE_REDUCE_EXTRAPOLATE,
+    )?;
+    show(&tile)?;
+
+    for (position, quality) in [(2, 60), (0, 100)] {
+        let (srl, raw) = encode_upgrade_pass(
+            &cut(&target, position),
+            &tile.coefficients[0],
+            &tile.prog_quant[0],
+            &all(position),
+            &tile.sign[0],
+            USE_REDUCE_EXTRAPOLATE,
+        )?;
+        println!("{} bytes SRL, {} bytes raw", srl.len(), raw.len());
+        // The chroma components are zero, and so are the bits behind the end of a stream.
+        let (srl, raw) = ([&srl[..], &[], &[]], [&raw[..], &[], &[]]);
+        tile.decode_upgrade(srl, raw, [all(position); 3], quality)?;
+        show(&tile)?;
+    }
+    assert_eq!(tile.coefficients[0], target, "all bits have arrived");
+
+    let refused = tile.decode_upgrade([&[]; 3], [&[]; 3], [all(16); 3], 100);
+    explain("positions 16", refused);
+    explain("17 pixels", tile.reconstruct_to_rgba(&mut [0; 68]));
+    explain("7 in 2 bits", tarjimp::srl::encode_srl(&[7], 2));
+    Ok(())
+}
+
+/// The same number for every band.
+fn all(number: u8) -> ComponentCodecQuant {
+    ComponentCodecQuant::of_bands([number; 10])
+}
+
+/// A dark stroke over the middle of a bright tile: the bottom band has the ground and a dark row, and two
+/// other bands sharpen its edges.
+fn stroke() -> Component {
+    let bands = band_layout();
+    let [hl3, lh3, ll3] = [bands[6], bands[7], bands[9]];
+    let mut target = [0; COEFFICIENTS_PER_COMPONENT];
+    target[ll3.offset..].fill(101);
+    let row = ll3.offset + 4 * ll3.width;
+    target[row + 1..row + 8].fill(3);
+    let row = lh3.offset + 3 * lh3.width;
+    target[row + 1..row + 8].fill(-18);
+    target[row + lh3.width + 1..row + lh3.width + 8].fill(27);
+    let row = hl3.offset + 4 * hl3.width;
+    (target[row], target[row + 7]) = (-9, 13);
+    target
+}
+
+/// Coefficients without the bits of their magnitudes below a position.
+fn cut(target: &Component, position: u8) -> Component {
+    target.map(|coefficient| coefficient.signum() * (coefficient.abs() >> position << position))
+}
+
+/// A line for a tile: its pass, how much is undecided, and the brightness down its middle.
+fn show(tile: &TileState) -> Result<(), Error> {
+    let mut pixels = [0; 64 * 64 * 4];
+    tile.reconstruct_to_rgba(&mut pixels)?;
+    let bottom = band_layout()[9].offset;
+    let undecided = tile.sign[0][..bottom].iter().filter(|&&sign| sign == 0);
+    let undecided = undecided.count();
+    let down = (0..64).step_by(6).map(|y| pixels[4 * (64 * y + 32)]);
+    let down: Vec<String> = down.map(|red| format!("{red:>3}")).collect();
+    println!(
+        "pass {}, quality {:>3}, {undecided} places undecided: {}",
+        tile.pass,
+        tile.quality,
+        down.join(" ")
+    );
+    Ok(())
+}
+
+/// A line for a call that is refused.
+fn explain<T>(what: &str, refused: Result<T, Error>) {
+    match refused {
+        Ok(_) => println!("{what}: accepted"),
+        Err(error) => println!("{what}: refused with {}: {error}", error.number()),
+    }
+}

@@ -1,0 +1,109 @@
+//! `tarjimp_decode_upgrade_pass`, `tarjimp_encode_upgrade_pass` and `tarjimp_dequantize_component`.
+
+use oracle::digest::with_values;
+use oracle::kinds::progressive::component::{Given, Made};
+use oracle::kinds::progressive::{decode, dequantize, encode};
+use oracle::kinds::room::Room;
+use oracle::port;
+use oracle::record::Fields;
+
+use super::{Agrees, same, same_answer, same_places};
+
+/// What the port makes of the coefficients before the pass, and of the signs.
+fn read(given: &Given, srl: &[u8], raw: &[u8], made: &mut Made) -> u8 {
+    let [_, before, sign] = given.lengths;
+    port::decode_upgrade_pass(
+        srl,
+        raw,
+        &given.prev,
+        &given.curr,
+        given.use_reduce_extrapolate,
+        &mut made.before[..before],
+        &mut made.sign[..sign],
+    )
+}
+
+/// Whether the places are the same, also those behind the slices.
+fn same_made(port: &Made, text: &Made) -> Agrees {
+    same_places("coefficients", &port.before, &text.before)?;
+    same_places("signs", &port.sign, &text.sign)?;
+    same_places("target", &port.target, &text.target)
+}
+
+/// A pass that is read.
+pub fn decode_upgrade(fields: &mut Fields<'_>) -> Agrees {
+    let given = Given::read(fields);
+    let [srl, raw] = fields.shorts();
+    let mut answers = Fields::of(fields.bytes(9));
+    let srl = fields.bytes(srl);
+    let raw = fields.bytes(raw);
+    let mut text = given.make();
+    let text_number = decode::read(&given, srl, raw, &mut text);
+    let mut made = given.make();
+    let number = read(&given, srl, raw, &mut made);
+    same("refusal", number, text_number)?;
+    same_made(&made, &text)?;
+    same_answer(&mut answers, &[number])?;
+    same_answer(&mut answers, &decode::digest(&made).to_le_bytes())
+}
+
+/// A pass that is written, and read back if it is accepted.
+pub fn encode_upgrade(fields: &mut Fields<'_>) -> Agrees {
+    let given = Given::read(fields);
+    let rooms: [usize; 2] = fields.shorts();
+    let text = encode::answer(&given, rooms.map(Room::Of));
+    let mut made = given.make();
+    let mut outputs = [encode::held(&[]), encode::held(&[])];
+    let [srl_out, raw_out] = &mut outputs;
+    let [target, before, sign] = given.lengths;
+    let mut written = [usize::MAX; 2];
+    let number = port::encode_upgrade_pass(
+        &made.target[..target],
+        &made.before[..before],
+        &given.prev,
+        &given.curr,
+        &made.sign[..sign],
+        given.use_reduce_extrapolate,
+        &mut srl_out[..rooms[0]],
+        &mut raw_out[..rooms[1]],
+        &mut written,
+    );
+    same("refusal", number, text.number)?;
+    same("counts of bytes", written, text.written)?;
+    same_places("SRL output", &outputs[0], &text.outputs[0])?;
+    same_places("raw output", &outputs[1], &text.outputs[1])?;
+    if number == 0 {
+        let [srl, raw] = [0, 1].map(|k| &outputs[k][..written[k]]);
+        same(
+            "refusal of what is written",
+            read(&given, srl, raw, &mut made),
+            0,
+        )?;
+    }
+    same_made(&made, &text.made)?;
+    let answer = encode::Answer {
+        rooms,
+        number,
+        written,
+        outputs,
+        made,
+    };
+    same_answer(fields, &answer.fields())
+}
+
+/// A component that is dequantized.
+pub fn dequantize(fields: &mut Fields<'_>) -> Agrees {
+    let given = Given::read(fields);
+    let mut text = given.make().target;
+    let text_number = dequantize::dequantize(&given, &mut text);
+    let mut target = given.make().target;
+    let number = port::dequantize_component(
+        &mut target[..given.lengths[0]],
+        &given.curr,
+        given.use_reduce_extrapolate,
+    );
+    same("refusal", number, text_number)?;
+    same_places("coefficients", &target, &text)?;
+    same_answer(fields, &[number])?;
+    same_answer(fields, &with_values(0, target).to_le_bytes())
+}

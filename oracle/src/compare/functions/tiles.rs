@@ -1,0 +1,90 @@
+//! `tarjimp_tile_decode_upgrade` and `tarjimp_tile_reconstruct_to_rgba`.
+
+use oracle::codecs::rfx::progressive::ComponentCodecQuant;
+use oracle::digest::with_bytes;
+use oracle::kinds::progressive::ladder::{From, Step, Upgrade, answer_fields};
+use oracle::kinds::progressive::pixels;
+use oracle::kinds::progressive::tile::{self, Start};
+use oracle::port;
+use oracle::progressive::TileState;
+use oracle::record::Fields;
+
+use super::{Agrees, same, same_answer, same_places};
+
+/// Has the port upgrade a tile: the refusal, or 0.
+fn upgrade(tile: &mut TileState, given: &Upgrade) -> u8 {
+    let tile::Fields {
+        mut prog_quant,
+        base_quant,
+        use_reduce_extrapolate,
+        ..
+    } = tile::Fields::of(tile);
+    let number = port::tile_decode_upgrade(
+        port::Tile {
+            coefficients: &mut tile.coefficients,
+            sign: &mut tile.sign,
+            prog_quant: &mut prog_quant,
+            base_quant: &base_quant,
+            use_reduce_extrapolate,
+            pass: &mut tile.pass,
+            quality: &mut tile.quality,
+        },
+        &given.rows,
+        given.quality,
+        given.srl.each_ref().map(Vec::as_slice),
+        given.raw.each_ref().map(Vec::as_slice),
+    );
+    tile.prog_quant = prog_quant.map(ComponentCodecQuant::of_bands);
+    number
+}
+
+fn same_tile(port: &TileState, text: &TileState) -> Agrees {
+    same_places(
+        "coefficients",
+        port.coefficients.as_flattened(),
+        text.coefficients.as_flattened(),
+    )?;
+    same_places("signs", port.sign.as_flattened(), text.sign.as_flattened())?;
+    let [port, text] = [port, text].map(|tile| tile::Fields::of(tile).bytes());
+    same_places("other fields", &port, &text)
+}
+
+/// A tile and upgrades one after another. No function makes or loads a tile: the text's is taken.
+pub fn upgrade_ladder(fields: &mut Fields<'_>) -> Agrees {
+    let start = Start::read(fields);
+    let from = From::read(fields);
+    let steps = fields.u8();
+    let (number, mut text) = from.tile(&start);
+    let (_, mut tile) = from.tile(&start);
+    same_answer(fields, &answer_fields(number, &tile))?;
+    for index in 0..usize::from(steps) {
+        let given = Step::read(fields).upgrade(&start, index, &text);
+        let text_number = given.apply(&mut text);
+        let number = upgrade(&mut tile, &given);
+        same(&format!("upgrade {index}, refusal"), number, text_number)?;
+        same_tile(&tile, &text).map_err(|what| format!("upgrade {index}, {what}"))?;
+        same_answer(fields, &answer_fields(number, &tile))?;
+    }
+    Ok(())
+}
+
+/// The pixels of a tile, which stays as it is.
+pub fn tile_pixels(fields: &mut Fields<'_>) -> Agrees {
+    let start = Start::read(fields);
+    let length = fields.short();
+    let (text_number, text) = pixels::pixels(&start, length);
+    let tile = start.built();
+    let mut pixels = pixels::before();
+    let number = port::tile_reconstruct_to_rgba(
+        &tile.coefficients,
+        &start.fields.prog_quant,
+        &start.fields.base_quant,
+        start.fields.use_reduce_extrapolate,
+        &mut pixels[..length],
+    );
+    same("refusal", number, text_number)?;
+    same_places("pixels", &pixels, &text)?;
+    same_tile(&tile, &start.built())?;
+    same_answer(fields, &[number])?;
+    same_answer(fields, &with_bytes(0, &pixels).to_le_bytes())
+}
