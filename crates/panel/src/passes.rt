@@ -1,0 +1,270 @@
+// A tile and its passes: the first cut, the streams of a pass by the port's writer, a cut of them, and the tile that the port's reader makes.
+use panel_picture::cut;
+ghost use mathlib.Core.Path.{_≡_};
+ghost use Prim.Native.Nat.{_+_, _≤_, _<_};
+ghost use lib.ListN.{length};
+
+// The positions after a stage, in band order. The bottom band is whole from the first cut on: the writer brings a negative value of the bottom
+// nothing (docs/DIFFERENCES.md).
+pub fn positions(stage: usize) -> [u8; 10] {
+    match stage {
+        0 => [7, 7, 7, 7, 7, 7, 7, 7, 7, 0],
+        1 => [6, 6, 6, 6, 6, 6, 5, 5, 5, 0],
+        2 => [4, 4, 4, 4, 4, 4, 3, 3, 3, 0],
+        _ => [0; 10],
+    }
+}
+
+// A component of the tile, by its number, of the coefficients of all three.
+fn cut_at(full: &[i16], k: usize, row: [u8; 10], out: &mut [i16], signs: &mut [i8])
+    requires { ⌜ (k ≤ 2) × (length (now full) ≡ 12288) × (4096 ≤ length (now out)) × (4096 ≤ length (now signs)) ⌝ }
+{
+    let from = 4096 * k;
+    let to = from + 4096;
+    cut::cut_component(&full[from..to], row, out, signs);
+}
+
+// The tile with the coefficients cut at positions, in the reduce-extrapolate layout, with quantizers that leave a value.
+pub fn loaded(full: &[i16], row: [u8; 10]) -> tile::Loaded
+    requires { ⌜ length (now full) ≡ 12288 ⌝ }
+{
+    let mut y = [0i16; 4096];
+    let mut y_sign = [0i8; 4096];
+    let mut cb = [0i16; 4096];
+    let mut cb_sign = [0i8; 4096];
+    let mut cr = [0i16; 4096];
+    let mut cr_sign = [0i8; 4096];
+    cut_at(full, 0, row, &mut y, &mut y_sign);
+    cut_at(full, 1, row, &mut cb, &mut cb_sign);
+    cut_at(full, 2, row, &mut cr, &mut cr_sign);
+    tile::TileState::load(
+        &y,
+        &y_sign,
+        &cb,
+        &cb_sign,
+        &cr,
+        &cr_sign,
+        [row; 3],
+        [[6; 10]; 3],
+        true,
+    )
+}
+
+// ---- the streams of a pass. Both arrays of bytes have 16,384 for each component
+
+// What the writer answers: its refusal or 0, and how many bytes the two streams have.
+struct Written {
+    refusal: u8,
+    srl: usize,
+    raw: usize,
+}
+
+// The streams of a pass: a refusal or 0, and six lengths, of Y SRL, Y raw, Cb SRL, and so on.
+struct Streams {
+    refusal: u8,
+    lengths: [usize; 6],
+}
+
+fn least(a: usize, b: usize) -> usize
+    ensures { λ r. ⌜ (r ≤ a) × (r ≤ b) ⌝ }
+{
+    if a < b {
+        return a;
+    }
+    b
+}
+
+// Writes the streams of a component, whose coefficients and signs are given, towards its target.
+fn written(
+    target: &[i16],
+    coefficients: &[i16],
+    signs: &[i8],
+    prev: [u8; 10],
+    curr: [u8; 10],
+    srl: &mut [u8],
+    raw: &mut [u8],
+) -> Written {
+    match progressive_encoder::encode_upgrade_pass(
+        target,
+        coefficients,
+        prev,
+        curr,
+        signs,
+        true,
+        srl,
+        raw,
+    ) {
+        progressive_encoder::Written::Bytes(srl, raw) => Written {
+            refusal: 0,
+            srl,
+            raw,
+        },
+        progressive_encoder::Written::Refused(refusal) => Written {
+            refusal,
+            srl: 0,
+            raw: 0,
+        },
+    }
+}
+
+// The same for the component with a number. Its target is its uncut coefficients, cut at the pass's positions.
+fn written_at(
+    k: usize,
+    full: &[i16],
+    coefficients: &[i16],
+    signs: &[i8],
+    prev: [u8; 10],
+    curr: [u8; 10],
+    srl: &mut [u8],
+    raw: &mut [u8],
+) -> Written
+    requires { ⌜ (k ≤ 2) × (length (now full) ≡ 12288) × (length (now coefficients) ≡ 12288) × (length (now signs) ≡ 12288) × (length (now srl) ≡ 49152) × (length (now raw) ≡ 49152) ⌝ }
+{
+    let mut target = [0i16; 4096];
+    let mut target_signs = [0i8; 4096];
+    cut_at(full, k, curr, &mut target, &mut target_signs);
+    let from = 4096 * k;
+    let to = from + 4096;
+    let at = 16384 * k;
+    let end = at + 16384;
+    written(
+        &target,
+        &coefficients[from..to],
+        &signs[from..to],
+        prev,
+        curr,
+        &mut srl[at..end],
+        &mut raw[at..end],
+    )
+}
+
+fn refused(refusal: u8) -> Streams {
+    Streams {
+        refusal,
+        lengths: [0; 6],
+    }
+}
+
+// Writes the streams of all three components, from the tile to the pass's positions.
+fn streams(
+    full: &[i16],
+    t: tile::TileState,
+    curr: [u8; 10],
+    srl: &mut [u8],
+    raw: &mut [u8],
+) -> Streams
+    requires { ⌜ (length (now full) ≡ 12288) × (length (now srl) ≡ 49152) × (length (now raw) ≡ 49152) ⌝ }
+{
+    let cs = t.coefficients;
+    let ss = t.sign;
+    let positions = t.prog_quant;
+    let prev = planes::row_at(positions, 0);
+    let y = written_at(0, full, &cs, &ss, prev, curr, srl, raw);
+    if y.refusal != 0 {
+        return refused(y.refusal);
+    }
+    let cb = written_at(1, full, &cs, &ss, prev, curr, srl, raw);
+    if cb.refusal != 0 {
+        return refused(cb.refusal);
+    }
+    let cr = written_at(2, full, &cs, &ss, prev, curr, srl, raw);
+    Streams {
+        refusal: cr.refusal,
+        lengths: [y.srl, y.raw, cb.srl, cb.raw, cr.srl, cr.raw],
+    }
+}
+
+// ---- what arrives of them
+
+// The bytes of six streams.
+fn total(lengths: [usize; 6]) -> usize
+    ensures { λ r. ⌜ r ≤ 98304 ⌝ }
+{
+    let mut sum: usize = 0;
+    let mut i: usize = 0;
+    while i < 6 {
+        sum += least(lengths[i], 16384);
+        i += 1;
+    }
+    sum
+}
+
+// The six lengths when only the first `bytes` bytes of all streams in a row arrive.
+fn arrived(lengths: [usize; 6], bytes: usize) -> [usize; 6] {
+    let mut out = [0usize; 6];
+    let mut left = bytes;
+    let mut i: usize = 0;
+    while i < 6 {
+        let some = least(lengths[i], left);
+        out[i] = some;
+        left -= some;
+        i += 1;
+    }
+    out
+}
+
+fn decoded(
+    t: tile::TileState,
+    srl: &[u8],
+    raw: &[u8],
+    lengths: [usize; 6],
+    row: [u8; 10],
+    quality: u8,
+) -> tile::Upgraded
+    requires { ⌜ (length (now srl) ≡ 49152) × (length (now raw) ≡ 49152) ⌝ }
+{
+    let y_srl = least(lengths[0], 16384);
+    let y_raw = least(lengths[1], 16384);
+    let cb_srl = 16384 + least(lengths[2], 16384);
+    let cb_raw = 16384 + least(lengths[3], 16384);
+    let cr_srl = 32768 + least(lengths[4], 16384);
+    let cr_raw = 32768 + least(lengths[5], 16384);
+    t.decode_upgrade(
+        &srl[..y_srl],
+        &raw[..y_raw],
+        &srl[16384..cb_srl],
+        &raw[16384..cb_raw],
+        &srl[32768..cr_srl],
+        &raw[32768..cr_raw],
+        [row; 3],
+        quality,
+    )
+}
+
+// ---- a pass
+
+// What became of a pass: a refusal or 0, the bits that arrived, and the tile then.
+pub struct Made {
+    pub refusal: u8,
+    pub bits: u64,
+    pub tile: tile::TileState,
+}
+
+// Makes a pass of the tile to the positions of a stage; where it is cut, only the first half of its bytes arrives.
+pub fn pass(full: &[i16], t: tile::TileState, stage: usize, is_cut: bool) -> Made
+    requires { ⌜ length (now full) ≡ 12288 ⌝ }
+{
+    let mut srl = [0u8; 49152];
+    let mut raw = [0u8; 49152];
+    let row = positions(stage);
+    let written = streams(full, t, row, &mut srl, &mut raw);
+    if written.refusal != 0 {
+        return Made {
+            refusal: written.refusal,
+            bits: 0,
+            tile: t,
+        };
+    }
+    let mut lengths = written.lengths;
+    if is_cut {
+        lengths = arrived(lengths, total(lengths) / 2);
+    }
+    let done = decoded(t, &srl, &raw, lengths, row, 0);
+    let answer = done.answer;
+    let tile = done.tile;
+    Made {
+        refusal: answer::number_of(answer),
+        bits: total(lengths) as u64 * 8,
+        tile,
+    }
+}
