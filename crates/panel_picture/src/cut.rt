@@ -1,12 +1,14 @@
 // Coefficients cut at positions: what is left of them where their low bits have not arrived.
 use upgrade_steps::span;
 ghost use mathlib.Core.Path.{_≡_};
-ghost use Prim.Native.Nat.{_≤_};
+ghost use Prim.Native.Nat.{_%_, _^_, _≤_};
 ghost use lib.ListN.{length};
 ghost use Rattle.panel_picture.specs.Cut.{cutTowardsZero};
 
 // What a position takes off a magnitude: the rest of its division by 2 to the position.
-fn low_bits(magnitude: u16, position: u8) -> u16 {
+fn low_bits(magnitude: u16, position: u8) -> u16
+    ensures { λ r. ⌜ r ≡ magnitude % 2 ^ position ⌝ }
+{
     if position > 15 {
         return magnitude;
     }
@@ -14,7 +16,9 @@ fn low_bits(magnitude: u16, position: u8) -> u16 {
 }
 
 // A value cut towards zero to a multiple of 2 to the position.
-pub fn cut(value: i16, position: u8) -> i16 {
+pub fn cut(value: i16, position: u8) -> i16
+    ensures { λ r. ⌜ r ≡ cutTowardsZero value position ⌝ }
+{
     let magnitude = fixed::magnitude(value);
     fixed::with_sign(
         magnitude - low_bits(magnitude, position),

@@ -206,22 +206,32 @@ fn gather(
     }
 }
 
-// The bands of a split plane, in band order: HL, LH and HH of the three levels, and LL3.
-fn bands_of(plane: &[i16]) -> [i16; 4096]
-    requires { ⌜ length (now plane) ≡ 4096 ⌝ }
+// The bands of the first level, HL1, LH1 and HH1.
+fn first_bands(plane: &[i16], out: &mut [i16])
+    requires { ⌜ (length (now plane) ≡ 4096) × (length (now out) ≡ 4096) ⌝ }
 {
-    let mut out = [0i16; 4096];
-    gather(plane, 33, 0, 31, 33, &mut out, 0);
-    gather(plane, 0, 33, 33, 31, &mut out, 1023);
-    gather(plane, 33, 33, 31, 31, &mut out, 2046);
-    gather(plane, 17, 0, 16, 17, &mut out, 3007);
-    gather(plane, 0, 17, 17, 16, &mut out, 3279);
-    gather(plane, 17, 17, 16, 16, &mut out, 3551);
-    gather(plane, 9, 0, 8, 9, &mut out, 3807);
-    gather(plane, 0, 9, 9, 8, &mut out, 3879);
-    gather(plane, 9, 9, 8, 8, &mut out, 3951);
-    gather(plane, 0, 0, 9, 9, &mut out, 4015);
-    out
+    gather(plane, 33, 0, 31, 33, out, 0);
+    gather(plane, 0, 33, 33, 31, out, 1023);
+    gather(plane, 33, 33, 31, 31, out, 2046);
+}
+
+// HL2, LH2 and HH2.
+fn second_bands(plane: &[i16], out: &mut [i16])
+    requires { ⌜ (length (now plane) ≡ 4096) × (length (now out) ≡ 4096) ⌝ }
+{
+    gather(plane, 17, 0, 16, 17, out, 3007);
+    gather(plane, 0, 17, 17, 16, out, 3279);
+    gather(plane, 17, 17, 16, 16, out, 3551);
+}
+
+// HL3, LH3, HH3 and LL3.
+fn third_bands(plane: &[i16], out: &mut [i16])
+    requires { ⌜ (length (now plane) ≡ 4096) × (length (now out) ≡ 4096) ⌝ }
+{
+    gather(plane, 9, 0, 8, 9, out, 3807);
+    gather(plane, 0, 9, 9, 8, out, 3879);
+    gather(plane, 9, 9, 8, 8, out, 3951);
+    gather(plane, 0, 0, 9, 9, out, 4015);
 }
 
 // The coefficients of a component, in band order.
@@ -233,5 +243,9 @@ pub fn coefficients(plane: [i16; 4096]) -> [i16; 4096] {
     split_rows(&mut p, 17, 16);
     split_columns(&mut p, 9, 8);
     split_rows(&mut p, 9, 8);
-    bands_of(&p)
+    let mut out = [0i16; 4096];
+    first_bands(&p, &mut out);
+    second_bands(&p, &mut out);
+    third_bands(&p, &mut out);
+    out
 }

@@ -57,6 +57,12 @@ pub fn undecided(signs: &[i8], positions: [u8; 10]) -> u64
 
 // ---- pixels of four bytes: red, green, blue and 255
 
+fn wide(byte: u8) -> u64
+    ensures { λ r. ⌜ r ≤ 255 ⌝ }
+{
+    byte as u64
+}
+
 // The colours of ten pixels from a byte on, added up.
 fn ten_pixels(pixels: &[u8], at: usize) -> u64
     requires { ⌜ at + 40 ≤ length (now pixels) ⌝ }
@@ -66,7 +72,7 @@ fn ten_pixels(pixels: &[u8], at: usize) -> u64
     let mut i: usize = 0;
     while i < 10 {
         let p = at + 4 * i;
-        sum += pixels[p] as u64 + pixels[p + 1] as u64 + pixels[p + 2] as u64;
+        sum += wide(pixels[p]) + wide(pixels[p + 1]) + wide(pixels[p + 2]);
         i += 1;
     }
     sum
