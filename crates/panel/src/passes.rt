@@ -75,7 +75,7 @@ fn least(a: usize, b: usize) -> usize
 }
 
 // Writes the streams of a component, whose coefficients and signs are given, towards its target.
-fn written(
+fn write(
     target: &[i16],
     coefficients: &[i16],
     signs: &[i8],
@@ -108,7 +108,7 @@ fn written(
 }
 
 // The same for the component with a number. Its target is its uncut coefficients, cut at the pass's positions.
-fn written_at(
+fn write_at(
     k: usize,
     full: &[i16],
     coefficients: &[i16],
@@ -127,7 +127,7 @@ fn written_at(
     let to = from + 4096;
     let at = 16384 * k;
     let end = at + 16384;
-    written(
+    write(
         &target,
         &coefficients[from..to],
         &signs[from..to],
@@ -146,7 +146,7 @@ fn refused(refusal: u8) -> Streams {
 }
 
 // Writes the streams of all three components, from the tile to the pass's positions.
-fn streams(
+fn write_all(
     full: &[i16],
     t: tile::TileState,
     curr: [u8; 10],
@@ -159,15 +159,15 @@ fn streams(
     let ss = t.sign;
     let positions = t.prog_quant;
     let prev = planes::row_at(positions, 0);
-    let y = written_at(0, full, &cs, &ss, prev, curr, srl, raw);
+    let y = write_at(0, full, &cs, &ss, prev, curr, srl, raw);
     if y.refusal != 0 {
         return refused(y.refusal);
     }
-    let cb = written_at(1, full, &cs, &ss, prev, curr, srl, raw);
+    let cb = write_at(1, full, &cs, &ss, prev, curr, srl, raw);
     if cb.refusal != 0 {
         return refused(cb.refusal);
     }
-    let cr = written_at(2, full, &cs, &ss, prev, curr, srl, raw);
+    let cr = write_at(2, full, &cs, &ss, prev, curr, srl, raw);
     Streams {
         refusal: cr.refusal,
         lengths: [y.srl, y.raw, cb.srl, cb.raw, cr.srl, cr.raw],
@@ -247,7 +247,7 @@ pub fn pass(full: &[i16], t: tile::TileState, stage: usize, is_cut: bool) -> Mad
     let mut srl = [0u8; 49152];
     let mut raw = [0u8; 49152];
     let row = positions(stage);
-    let written = streams(full, t, row, &mut srl, &mut raw);
+    let written = write_all(full, t, row, &mut srl, &mut raw);
     if written.refusal != 0 {
         return Made {
             refusal: written.refusal,
