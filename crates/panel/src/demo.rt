@@ -221,33 +221,45 @@ fn next(
     )
 }
 
-// ---- the two runs
+// ---- the two runs. Both begin with the first cut and the first pass
 
-// All three passes arrive.
-fn whole(full: &[i16], folder: &[u8], reference: &[u8], pictures: &mut [u8]) -> Run
-    requires { ⌜ (length (now full) ≡ 12288) × (length (now folder) ≤ 3072) × (length (now reference) ≡ 16384) × (length (now pictures) ≡ 131072) ⌝ }
+fn opening(
+    full: &[i16],
+    run: &[u8],
+    cut_file: &[u8],
+    pass_file: &[u8],
+    picture: usize,
+    folder: &[u8],
+    reference: &[u8],
+    pictures: &mut [u8],
+) -> Run
+    requires { ⌜ (picture < 7) × (length (now «cut_file») ≤ 64) × (length (now «pass_file») ≤ 64) × (length (now full) ≡ 12288) × (length (now folder) ≤ 3072) × (length (now reference) ≡ 16384) × (length (now pictures) ≡ 131072) ⌝ }
 {
-    let run = b"whole";
-    let f0 = b"whole-0-first-cut.png";
-    let f1 = b"whole-1.png";
-    let f2 = b"whole-2.png";
-    let f3 = b"whole-3.png";
-    let a = first(full, run, f0, 0, folder, reference, pictures);
-    let b = next(
+    let a = first(full, run, cut_file, picture, folder, reference, pictures);
+    next(
         a,
         full,
         1,
         false,
         run,
         b"pass 1",
-        f1,
-        1,
+        pass_file,
+        picture + 1,
         folder,
         reference,
         pictures,
-    );
+    )
+}
+
+// The second and the third pass of the whole stream.
+fn closing(before: Run, full: &[i16], folder: &[u8], reference: &[u8], pictures: &mut [u8]) -> Run
+    requires { ⌜ (length (now full) ≡ 12288) × (length (now folder) ≤ 3072) × (length (now reference) ≡ 16384) × (length (now pictures) ≡ 131072) ⌝ }
+{
+    let run = b"whole";
+    let f2 = b"whole-2.png";
+    let f3 = b"whole-3.png";
     let c = next(
-        b,
+        before,
         full,
         2,
         false,
@@ -274,6 +286,16 @@ fn whole(full: &[i16], folder: &[u8], reference: &[u8], pictures: &mut [u8]) -> 
     )
 }
 
+// All three passes arrive.
+fn whole(full: &[i16], folder: &[u8], reference: &[u8], pictures: &mut [u8]) -> Run
+    requires { ⌜ (length (now full) ≡ 12288) × (length (now folder) ≤ 3072) × (length (now reference) ≡ 16384) × (length (now pictures) ≡ 131072) ⌝ }
+{
+    let f0 = b"whole-0-first-cut.png";
+    let f1 = b"whole-1.png";
+    let b = opening(full, b"whole", f0, f1, 0, folder, reference, pictures);
+    closing(b, full, folder, reference, pictures)
+}
+
 // The stream ends half-way in the second pass.
 fn cut(full: &[i16], folder: &[u8], reference: &[u8], pictures: &mut [u8]) -> Run
     requires { ⌜ (length (now full) ≡ 12288) × (length (now folder) ≤ 3072) × (length (now reference) ≡ 16384) × (length (now pictures) ≡ 131072) ⌝ }
@@ -282,27 +304,14 @@ fn cut(full: &[i16], folder: &[u8], reference: &[u8], pictures: &mut [u8]) -> Ru
     let f0 = b"cut-0-first-cut.png";
     let f1 = b"cut-1.png";
     let f2 = b"cut-2.png";
-    let a = first(full, run, f0, 4, folder, reference, pictures);
-    let b = next(
-        a,
-        full,
-        1,
-        false,
-        run,
-        b"pass 1",
-        f1,
-        5,
-        folder,
-        reference,
-        pictures,
-    );
+    let b = opening(full, run, f0, f1, 4, folder, reference, pictures);
     next(
         b,
         full,
         2,
         true,
         run,
-        b"pass 2/2",
+        b"half pass 2",
         f2,
         6,
         folder,
@@ -340,7 +349,9 @@ fn ground(reference: &[u8], pictures: &mut [u8])
 
 // The positions of the stages.
 fn introduce() {
-    report::text(b"panel: -0.75 on one tile of 64 x 64 pixels\n\n");
+    report::text(
+        b"panel: -0.75 on one tile of 64 x 64 pixels, sharpened by three upgrade passes\n\n",
+    );
     report::text(b"positions  HL1 LH1 HH1 HL2 LH2 HH2 HL3 LH3 HH3 LL3\n");
     report::positions(b"first cut", passes::positions(0));
     report::positions(b"pass 1", passes::positions(1));
@@ -359,15 +370,48 @@ fn less(a: u64, b: u64) -> u64 {
 
 // What both runs came to.
 fn summary(whole: report::Figures, cut: report::Figures) {
-    report::text(b"\nThe whole stream ends with the minus ");
-    report::number(less(whole.ground, whole.stroke), 0);
-    report::text(b" greys darker than the ground, and no byte more than ");
+    report::legend();
+    report::text(b"\nThe whole stream ends ");
     report::number(whole.difference, 0);
-    report::text(b" off the panel.\nThe cut stream keeps what arrived: the minus is ");
-    report::number(less(cut.ground, cut.stroke), 0);
-    report::text(b" greys darker, and the largest difference is ");
+    report::text(b" off the uncut panel at most, with the minus ");
+    report::number(less(whole.ground, whole.stroke), 0);
+    report::text(
+        b" greys darker than the ground;\nthe stream that is cut half-way in pass 2 ends ",
+    );
     report::number(cut.difference, 0);
-    report::text(b".\nsharpening.png has all stages side by side.\n");
+    report::text(b" off, with the minus ");
+    report::number(less(cut.ground, cut.stroke), 0);
+    report::text(b" darker. All stages side by side: sharpening.png\n");
+}
+
+// The cut run, the image of both runs, and the end of the report.
+fn after_whole(
+    whole: report::Figures,
+    full: &[i16],
+    folder: &[u8],
+    reference: &[u8],
+    pictures: &mut [u8],
+)
+    requires { ⌜ (length (now full) ≡ 12288) × (length (now folder) ≤ 3072) × (length (now reference) ≡ 16384) × (length (now pictures) ≡ 131072) ⌝ }
+{
+    let b = cut(full, folder, reference, pictures);
+    if !b.is_good {
+        return;
+    }
+    if !images::save_grid(folder, b"sharpening.png", pictures) {
+        return;
+    }
+    summary(whole, b.figures);
+}
+
+fn both_runs(full: &[i16], folder: &[u8], reference: &[u8], pictures: &mut [u8])
+    requires { ⌜ (length (now full) ≡ 12288) × (length (now folder) ≤ 3072) × (length (now reference) ≡ 16384) × (length (now pictures) ≡ 131072) ⌝ }
+{
+    let a = whole(full, folder, reference, pictures);
+    if !a.is_good {
+        return;
+    }
+    after_whole(a.figures, full, folder, reference, pictures);
 }
 
 pub fn demo(folder: &[u8])
@@ -382,16 +426,5 @@ pub fn demo(folder: &[u8])
     }
     ground(&reference, &mut pictures);
     introduce();
-    let a = whole(&full, folder, &reference, &mut pictures);
-    if !a.is_good {
-        return;
-    }
-    let b = cut(&full, folder, &reference, &mut pictures);
-    if !b.is_good {
-        return;
-    }
-    if !images::save_grid(folder, b"sharpening.png", &pictures) {
-        return;
-    }
-    summary(a.figures, b.figures);
+    both_runs(&full, folder, &reference, &mut pictures);
 }

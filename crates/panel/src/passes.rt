@@ -65,13 +65,13 @@ struct Streams {
     lengths: [usize; 6],
 }
 
-fn least(a: usize, b: usize) -> usize
-    ensures { λ r. ⌜ (r ≤ a) × (r ≤ b) ⌝ }
+fn at_most(n: usize, most: usize) -> usize
+    ensures { λ r. ⌜ r ≤ most ⌝ }
 {
-    if a < b {
-        return a;
+    if n > most {
+        return most;
     }
-    b
+    n
 }
 
 // Writes the streams of a component, whose coefficients and signs are given, towards its target.
@@ -138,38 +138,34 @@ fn write_at(
     )
 }
 
-fn refused(refusal: u8) -> Streams {
-    Streams {
-        refusal,
-        lengths: [0; 6],
+// The first refusal of three, 0 where there is none.
+fn first_refusal(a: u8, b: u8, c: u8) -> u8 {
+    if a != 0 {
+        return a;
     }
+    if b != 0 {
+        return b;
+    }
+    c
 }
 
-// Writes the streams of all three components, from the tile to the pass's positions.
+// Writes the streams of all three components, from the tile's positions to those of the pass.
 fn write_all(
     full: &[i16],
-    t: tile::TileState,
+    coefficients: &[i16],
+    signs: &[i8],
+    prev: [u8; 10],
     curr: [u8; 10],
     srl: &mut [u8],
     raw: &mut [u8],
 ) -> Streams
-    requires { ⌜ (length (now full) ≡ 12288) × (length (now srl) ≡ 49152) × (length (now raw) ≡ 49152) ⌝ }
+    requires { ⌜ (length (now full) ≡ 12288) × (length (now coefficients) ≡ 12288) × (length (now signs) ≡ 12288) × (length (now srl) ≡ 49152) × (length (now raw) ≡ 49152) ⌝ }
 {
-    let cs = t.coefficients;
-    let ss = t.sign;
-    let positions = t.prog_quant;
-    let prev = planes::row_at(positions, 0);
-    let y = write_at(0, full, &cs, &ss, prev, curr, srl, raw);
-    if y.refusal != 0 {
-        return refused(y.refusal);
-    }
-    let cb = write_at(1, full, &cs, &ss, prev, curr, srl, raw);
-    if cb.refusal != 0 {
-        return refused(cb.refusal);
-    }
-    let cr = write_at(2, full, &cs, &ss, prev, curr, srl, raw);
+    let y = write_at(0, full, coefficients, signs, prev, curr, srl, raw);
+    let cb = write_at(1, full, coefficients, signs, prev, curr, srl, raw);
+    let cr = write_at(2, full, coefficients, signs, prev, curr, srl, raw);
     Streams {
-        refusal: cr.refusal,
+        refusal: first_refusal(y.refusal, cb.refusal, cr.refusal),
         lengths: [y.srl, y.raw, cb.srl, cb.raw, cr.srl, cr.raw],
     }
 }
@@ -183,7 +179,7 @@ fn total(lengths: [usize; 6]) -> usize
     let mut sum: usize = 0;
     let mut i: usize = 0;
     while i < 6 {
-        sum += least(lengths[i], 16384);
+        sum += at_most(lengths[i], 16384);
         i += 1;
     }
     sum
@@ -195,12 +191,20 @@ fn arrived(lengths: [usize; 6], bytes: usize) -> [usize; 6] {
     let mut left = bytes;
     let mut i: usize = 0;
     while i < 6 {
-        let some = least(lengths[i], left);
+        let some = at_most(lengths[i], left);
         out[i] = some;
         left -= some;
         i += 1;
     }
     out
+}
+
+// What arrives of a pass: all, or the first half of its bytes.
+fn half_if(lengths: [usize; 6], is_cut: bool) -> [usize; 6] {
+    if is_cut {
+        return arrived(lengths, total(lengths) / 2);
+    }
+    lengths
 }
 
 fn decoded(
@@ -213,12 +217,12 @@ fn decoded(
 ) -> tile::Upgraded
     requires { ⌜ (length (now srl) ≡ 49152) × (length (now raw) ≡ 49152) ⌝ }
 {
-    let y_srl = least(lengths[0], 16384);
-    let y_raw = least(lengths[1], 16384);
-    let cb_srl = 16384 + least(lengths[2], 16384);
-    let cb_raw = 16384 + least(lengths[3], 16384);
-    let cr_srl = 32768 + least(lengths[4], 16384);
-    let cr_raw = 32768 + least(lengths[5], 16384);
+    let y_srl = at_most(lengths[0], 16384);
+    let y_raw = at_most(lengths[1], 16384);
+    let cb_srl = 16384 + at_most(lengths[2], 16384);
+    let cb_raw = 16384 + at_most(lengths[3], 16384);
+    let cr_srl = 32768 + at_most(lengths[4], 16384);
+    let cr_raw = 32768 + at_most(lengths[5], 16384);
     t.decode_upgrade(
         &srl[..y_srl],
         &raw[..y_raw],
@@ -246,8 +250,12 @@ pub fn pass(full: &[i16], t: tile::TileState, stage: usize, is_cut: bool) -> Mad
 {
     let mut srl = [0u8; 49152];
     let mut raw = [0u8; 49152];
+    let cs = t.coefficients;
+    let ss = t.sign;
+    let rows = t.prog_quant;
+    let prev = planes::row_at(rows, 0);
     let row = positions(stage);
-    let written = write_all(full, t, row, &mut srl, &mut raw);
+    let written = write_all(full, &cs, &ss, prev, row, &mut srl, &mut raw);
     if written.refusal != 0 {
         return Made {
             refusal: written.refusal,
@@ -255,10 +263,8 @@ pub fn pass(full: &[i16], t: tile::TileState, stage: usize, is_cut: bool) -> Mad
             tile: t,
         };
     }
-    let mut lengths = written.lengths;
-    if is_cut {
-        lengths = arrived(lengths, total(lengths) / 2);
-    }
+    let all = written.lengths;
+    let lengths = half_if(all, is_cut);
     let done = decoded(t, &srl, &raw, lengths, row, 0);
     let answer = done.answer;
     let tile = done.tile;

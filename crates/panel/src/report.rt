@@ -65,21 +65,27 @@ pub struct Figures {
 }
 
 pub fn heading() {
-    text(b"                     bits                undecided    grey of    largest\n");
-    text(b"run    stage      this stage    in all      places  minus ground     diff.  file\n");
+    text(b"run    stage          bits   in all  undecided  minus  ground  off by  file\n");
 }
 
 // A stage's line.
 pub fn stage(run: &[u8], stage: &[u8], f: Figures, file: &[u8]) {
     word(run, 7);
-    word(stage, 9);
-    number(f.bits, 12);
-    number(f.all_bits, 10);
-    number(f.undecided, 12);
+    word(stage, 12);
+    number(f.bits, 7);
+    number(f.all_bits, 9);
+    number(f.undecided, 11);
     number(f.stroke, 7);
-    number(f.ground, 7);
-    number(f.difference, 10);
+    number(f.ground, 8);
+    number(f.difference, 8);
     text(b"  ");
     text(file);
     text(b"\n");
+}
+
+// What the columns are.
+pub fn legend() {
+    text(
+        b"\nbits: of upgrade passes, in this stage and in all; the first cut is loaded\nundecided: places outside LL3 with sign 0 and bits to come, of 12045\nminus, ground: mean grey of the minus stroke, and of as much ground above it\noff by: the largest difference of a colour byte from the uncut panel\n",
+    );
 }
