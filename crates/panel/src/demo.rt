@@ -1,8 +1,8 @@
 // The demo: a whole stream and a cut one, stage by stage.
-use crate::images;
 use crate::passes;
-use crate::refusals;
-use crate::report;
+use panel_output::images;
+use panel_output::refusals;
+use panel_output::report;
 use panel_picture::drawing;
 use panel_picture::forward;
 use panel_picture::measure;

@@ -2,13 +2,10 @@
 // and three upgrade passes bring the rest, once whole and once cut half-way in the second pass. Each stage is written as a PNG image, with a
 // line of figures. FOLDER is where the images go, the current folder if none is named.
 use check::same;
+use panel_output::report;
 
 mod demo;
-mod files;
-mod images;
 mod passes;
-mod refusals;
-mod report;
 
 // Whether the first argument is the word `demo`.
 fn is_demo() -> bool {

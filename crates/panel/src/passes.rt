@@ -1,5 +1,4 @@
 // A tile and its passes: the first cut, the streams of a pass by the port's writer, a cut of them, and the tile that the port's reader makes.
-use panel_picture::cut;
 ghost use mathlib.Core.Path.{_≡_};
 ghost use Prim.Native.Nat.{_+_, _≤_, _<_};
 ghost use lib.ListN.{length};
@@ -15,15 +14,6 @@ pub fn positions(stage: usize) -> [u8; 10] {
     }
 }
 
-// A component of the tile, by its number, of the coefficients of all three.
-fn cut_at(full: &[i16], k: usize, row: [u8; 10], out: &mut [i16], signs: &mut [i8])
-    requires { ⌜ (k ≤ 2) × (length (now full) ≡ 12288) × (4096 ≤ length (now out)) × (4096 ≤ length (now signs)) ⌝ }
-{
-    let from = 4096 * k;
-    let to = from + 4096;
-    cut::cut_component(&full[from..to], row, out, signs);
-}
-
 // The tile with the coefficients cut at positions, in the reduce-extrapolate layout, with quantizers that leave a value.
 pub fn loaded(full: &[i16], row: [u8; 10]) -> tile::Loaded
     requires { ⌜ length (now full) ≡ 12288 ⌝ }
@@ -34,9 +24,9 @@ pub fn loaded(full: &[i16], row: [u8; 10]) -> tile::Loaded
     let mut cb_sign = [0i8; 4096];
     let mut cr = [0i16; 4096];
     let mut cr_sign = [0i8; 4096];
-    cut_at(full, 0, row, &mut y, &mut y_sign);
-    cut_at(full, 1, row, &mut cb, &mut cb_sign);
-    cut_at(full, 2, row, &mut cr, &mut cr_sign);
+    panel_streams::cut_at(full, 0, row, &mut y, &mut y_sign);
+    panel_streams::cut_at(full, 1, row, &mut cb, &mut cb_sign);
+    panel_streams::cut_at(full, 2, row, &mut cr, &mut cr_sign);
     tile::TileState::load(
         &y,
         &y_sign,
@@ -50,163 +40,6 @@ pub fn loaded(full: &[i16], row: [u8; 10]) -> tile::Loaded
     )
 }
 
-// ---- the streams of a pass. Both arrays of bytes have 16,384 for each component
-
-// What the writer answers: its refusal or 0, and how many bytes the two streams have.
-struct Written {
-    refusal: u8,
-    srl: usize,
-    raw: usize,
-}
-
-// The streams of a pass: a refusal or 0, and six lengths, of Y SRL, Y raw, Cb SRL, and so on.
-struct Streams {
-    refusal: u8,
-    lengths: [usize; 6],
-}
-
-fn at_most(n: usize, most: usize) -> usize
-    ensures { λ r. ⌜ r ≤ most ⌝ }
-{
-    if n > most {
-        return most;
-    }
-    n
-}
-
-// Writes the streams of a component, whose coefficients and signs are given, towards its target.
-fn write(
-    target: &[i16],
-    coefficients: &[i16],
-    signs: &[i8],
-    prev: [u8; 10],
-    curr: [u8; 10],
-    srl: &mut [u8],
-    raw: &mut [u8],
-) -> Written {
-    match progressive_encoder::encode_upgrade_pass(
-        target,
-        coefficients,
-        prev,
-        curr,
-        signs,
-        true,
-        srl,
-        raw,
-    ) {
-        progressive_encoder::Written::Bytes(srl, raw) => Written {
-            refusal: 0,
-            srl,
-            raw,
-        },
-        progressive_encoder::Written::Refused(refusal) => Written {
-            refusal,
-            srl: 0,
-            raw: 0,
-        },
-    }
-}
-
-// The same for the component with a number. Its target is its uncut coefficients, cut at the pass's positions.
-fn write_at(
-    k: usize,
-    full: &[i16],
-    coefficients: &[i16],
-    signs: &[i8],
-    prev: [u8; 10],
-    curr: [u8; 10],
-    srl: &mut [u8],
-    raw: &mut [u8],
-) -> Written
-    requires { ⌜ (k ≤ 2) × (length (now full) ≡ 12288) × (length (now coefficients) ≡ 12288) × (length (now signs) ≡ 12288) × (length (now srl) ≡ 49152) × (length (now raw) ≡ 49152) ⌝ }
-{
-    let mut target = [0i16; 4096];
-    let mut target_signs = [0i8; 4096];
-    cut_at(full, k, curr, &mut target, &mut target_signs);
-    let from = 4096 * k;
-    let to = from + 4096;
-    let at = 16384 * k;
-    let end = at + 16384;
-    write(
-        &target,
-        &coefficients[from..to],
-        &signs[from..to],
-        prev,
-        curr,
-        &mut srl[at..end],
-        &mut raw[at..end],
-    )
-}
-
-// The first refusal of three, 0 where there is none.
-fn first_refusal(a: u8, b: u8, c: u8) -> u8 {
-    if a != 0 {
-        return a;
-    }
-    if b != 0 {
-        return b;
-    }
-    c
-}
-
-// Writes the streams of all three components, from the tile's positions to those of the pass.
-fn write_all(
-    full: &[i16],
-    coefficients: &[i16],
-    signs: &[i8],
-    prev: [u8; 10],
-    curr: [u8; 10],
-    srl: &mut [u8],
-    raw: &mut [u8],
-) -> Streams
-    requires { ⌜ (length (now full) ≡ 12288) × (length (now coefficients) ≡ 12288) × (length (now signs) ≡ 12288) × (length (now srl) ≡ 49152) × (length (now raw) ≡ 49152) ⌝ }
-{
-    let y = write_at(0, full, coefficients, signs, prev, curr, srl, raw);
-    let cb = write_at(1, full, coefficients, signs, prev, curr, srl, raw);
-    let cr = write_at(2, full, coefficients, signs, prev, curr, srl, raw);
-    Streams {
-        refusal: first_refusal(y.refusal, cb.refusal, cr.refusal),
-        lengths: [y.srl, y.raw, cb.srl, cb.raw, cr.srl, cr.raw],
-    }
-}
-
-// ---- what arrives of them
-
-// The bytes of six streams.
-fn total(lengths: [usize; 6]) -> usize
-    ensures { λ r. ⌜ r ≤ 98304 ⌝ }
-{
-    let mut sum: usize = 0;
-    let mut i: usize = 0;
-    while i < 6 {
-        sum += at_most(lengths[i], 16384);
-        i += 1;
-    }
-    sum
-}
-
-// The six lengths when only the first `bytes` bytes of all streams in a row arrive.
-fn arrived(lengths: [usize; 6], bytes: usize) -> [usize; 6] {
-    let mut out = [0usize; 6];
-    let mut left = bytes;
-    let mut i: usize = 0;
-    while i < 6 {
-        let some = at_most(lengths[i], left);
-        out[i] = some;
-        left -= some;
-        i += 1;
-    }
-    out
-}
-
-// What arrives of a pass: all, or the first half of its bytes.
-fn half_if(lengths: [usize; 6], is_cut: bool) -> [usize; 6] {
-    if is_cut {
-        return arrived(lengths, total(lengths) / 2);
-    }
-    lengths
-}
-
 fn decoded(
     t: tile::TileState,
     srl: &[u8],
@@ -217,12 +50,12 @@ fn decoded(
 ) -> tile::Upgraded
     requires { ⌜ (length (now srl) ≡ 49152) × (length (now raw) ≡ 49152) ⌝ }
 {
-    let y_srl = at_most(lengths[0], 16384);
-    let y_raw = at_most(lengths[1], 16384);
-    let cb_srl = 16384 + at_most(lengths[2], 16384);
-    let cb_raw = 16384 + at_most(lengths[3], 16384);
-    let cr_srl = 32768 + at_most(lengths[4], 16384);
-    let cr_raw = 32768 + at_most(lengths[5], 16384);
+    let y_srl = panel_streams::at_most(lengths[0], 16384);
+    let y_raw = panel_streams::at_most(lengths[1], 16384);
+    let cb_srl = 16384 + panel_streams::at_most(lengths[2], 16384);
+    let cb_raw = 16384 + panel_streams::at_most(lengths[3], 16384);
+    let cr_srl = 32768 + panel_streams::at_most(lengths[4], 16384);
+    let cr_raw = 32768 + panel_streams::at_most(lengths[5], 16384);
     t.decode_upgrade(
         &srl[..y_srl],
         &raw[..y_raw],
@@ -255,7 +88,7 @@ pub fn pass(full: &[i16], t: tile::TileState, stage: usize, is_cut: bool) -> Mad
     let rows = t.prog_quant;
     let prev = planes::row_at(rows, 0);
     let row = positions(stage);
-    let written = write_all(full, &cs, &ss, prev, row, &mut srl, &mut raw);
+    let written = panel_streams::write_all(full, &cs, &ss, prev, row, &mut srl, &mut raw);
     if written.refusal != 0 {
         return Made {
             refusal: written.refusal,
@@ -264,13 +97,13 @@ pub fn pass(full: &[i16], t: tile::TileState, stage: usize, is_cut: bool) -> Mad
         };
     }
     let all = written.lengths;
-    let lengths = half_if(all, is_cut);
+    let lengths = panel_streams::half_if(all, is_cut);
     let done = decoded(t, &srl, &raw, lengths, row, 0);
     let answer = done.answer;
     let tile = done.tile;
     Made {
         refusal: answer::number_of(answer),
-        bits: total(lengths) as u64 * 8,
+        bits: panel_streams::total(lengths) as u64 * 8,
         tile,
     }
 }
