@@ -4,21 +4,10 @@ use panel_output::images;
 use panel_output::refusals;
 use panel_output::report;
 use panel_picture::drawing;
-use panel_picture::forward;
 use panel_picture::measure;
 ghost use mathlib.Core.Path.{_≡_};
 ghost use Prim.Native.Nat.{_+_, _≤_, _<_};
 ghost use lib.ListN.{length};
-
-// The panel's coefficients, uncut, of all three components. The ground is light and slightly yellow, the strokes are dark.
-fn panel(into: &mut [i16])
-    requires { ⌜ length (now into) ≡ 12288 ⌝ }
-{
-    let y = forward::coefficients(drawing::plane(90, -90));
-    let cb = forward::coefficients(drawing::plane(-10, 4));
-    let cr = forward::coefficients(drawing::plane(6, -2));
-    planes::load_coefficients(&y, &cb, &cr, into);
-}
 
 // Where a run stands: whether it goes on, its tile, the bits so far, and the figures of its last stage.
 struct Run {
@@ -51,22 +40,6 @@ fn ended(t: tile::TileState) -> Run {
 
 // ---- figures
 
-// The undecided places of the component with a number.
-fn undecided_at(signs: &[i8], rows: [u8; 30], k: usize) -> u64
-    requires { ⌜ (k ≤ 2) × (length (now signs) ≡ 12288) ⌝ }
-    ensures { λ r. ⌜ r ≤ 36864 ⌝ }
-{
-    let from = 4096 * k;
-    let to = from + 4096;
-    measure::undecided(&signs[from..to], planes::row_at(rows, 10 * k))
-}
-
-fn undecided(t: tile::TileState) -> u64 {
-    let signs = t.sign;
-    let rows = t.prog_quant;
-    undecided_at(&signs, rows, 0) + undecided_at(&signs, rows, 1) + undecided_at(&signs, rows, 2)
-}
-
 // The figures of a stage, from its tile and its pixels. The ground is measured twelve rows above the minus stroke.
 fn figures(
     t: tile::TileState,
@@ -77,10 +50,12 @@ fn figures(
 ) -> report::Figures
     requires { ⌜ (length (now pixels) ≡ 16384) × (length (now reference) ≡ 16384) ⌝ }
 {
+    let signs = t.sign;
+    let rows = t.prog_quant;
     report::Figures {
         bits,
         all_bits,
-        undecided: undecided(t),
+        undecided: measure::undecided_in_tile(&signs, rows),
         stroke: measure::grey(pixels, drawing::MINUS_LEFT, drawing::MINUS_TOP),
         ground: measure::grey(pixels, drawing::MINUS_LEFT, drawing::MINUS_TOP - 12),
         difference: measure::largest_difference(pixels, reference) as u64,
@@ -158,7 +133,7 @@ fn first(
 ) -> Run
     requires { ⌜ (picture < 8) × (length (now full) ≡ 12288) × (length (now file) ≤ 64) × (length (now folder) ≤ 3072) × (length (now reference) ≡ 16384) × (length (now pictures) ≡ 131072) ⌝ }
 {
-    let done = passes::loaded(full, passes::positions(0));
+    let done = passes::loaded(full, panel_streams::positions(0));
     let answer = done.answer;
     let t = done.tile;
     let refusal = answer::number_of(answer);
@@ -336,54 +311,6 @@ fn uncut(full: &[i16], reference: &mut [u8]) -> bool
     true
 }
 
-// The last picture of the gallery: the colour of the panel's first pixel, which is ground.
-fn ground(reference: &[u8], pictures: &mut [u8])
-    requires { ⌜ (length (now reference) ≡ 16384) × (length (now pictures) ≡ 131072) ⌝ }
-{
-    let mut i: usize = 114688;
-    while i < 131072 {
-        pictures[i] = reference[i % 4];
-        i += 1;
-    }
-}
-
-// The positions of the stages.
-fn introduce() {
-    report::text(
-        b"panel: -0.75 on one tile of 64 x 64 pixels, sharpened by three upgrade passes\n\n",
-    );
-    report::text(b"positions  HL1 LH1 HH1 HL2 LH2 HH2 HL3 LH3 HH3 LL3\n");
-    report::positions(b"first cut", passes::positions(0));
-    report::positions(b"pass 1", passes::positions(1));
-    report::positions(b"pass 2", passes::positions(2));
-    report::positions(b"pass 3", passes::positions(3));
-    report::text(b"\n");
-    report::heading();
-}
-
-fn less(a: u64, b: u64) -> u64 {
-    if a < b {
-        return 0;
-    }
-    a - b
-}
-
-// What both runs came to.
-fn summary(whole: report::Figures, cut: report::Figures) {
-    report::legend();
-    report::text(b"\nThe whole stream ends ");
-    report::number(whole.difference, 0);
-    report::text(b" off the uncut panel at most, with the minus ");
-    report::number(less(whole.ground, whole.stroke), 0);
-    report::text(
-        b" greys darker than the ground;\nthe stream that is cut half-way in pass 2 ends ",
-    );
-    report::number(cut.difference, 0);
-    report::text(b" off, with the minus ");
-    report::number(less(cut.ground, cut.stroke), 0);
-    report::text(b" darker. All stages side by side: sharpening.png\n");
-}
-
 // The cut run, the image of both runs, and the end of the report.
 fn after_whole(
     whole: report::Figures,
@@ -401,7 +328,7 @@ fn after_whole(
     if !images::save_grid(folder, b"sharpening.png", pictures) {
         return;
     }
-    summary(whole, b.figures);
+    report::summary(whole, b.figures);
 }
 
 fn both_runs(full: &[i16], folder: &[u8], reference: &[u8], pictures: &mut [u8])
@@ -414,17 +341,36 @@ fn both_runs(full: &[i16], folder: &[u8], reference: &[u8], pictures: &mut [u8])
     after_whole(a.figures, full, folder, reference, pictures);
 }
 
+// Eight pictures, the last of which is ground only, and both runs.
+fn with_reference(full: &[i16], folder: &[u8], reference: &[u8])
+    requires { ⌜ (length (now full) ≡ 12288) × (length (now folder) ≤ 3072) × (length (now reference) ≡ 16384) ⌝ }
+{
+    let mut pictures = [0u8; 131072];
+    images::ground(reference, &mut pictures);
+    both_runs(full, folder, reference, &mut pictures);
+}
+
+// The pixels of the uncut panel come first: with them every stage is compared.
+fn with_panel(full: &[i16], folder: &[u8])
+    requires { ⌜ (length (now full) ≡ 12288) × (length (now folder) ≤ 3072) ⌝ }
+{
+    let mut reference = [0u8; 16384];
+    if !uncut(full, &mut reference) {
+        return;
+    }
+    report::introduce([
+        panel_streams::positions(0),
+        panel_streams::positions(1),
+        panel_streams::positions(2),
+        panel_streams::positions(3),
+    ]);
+    with_reference(full, folder, &reference);
+}
+
 pub fn demo(folder: &[u8])
     requires { ⌜ length (now folder) ≤ 3072 ⌝ }
 {
     let mut full = [0i16; 12288];
-    let mut reference = [0u8; 16384];
-    let mut pictures = [0u8; 131072];
-    panel(&mut full);
-    if !uncut(&full, &mut reference) {
-        return;
-    }
-    ground(&reference, &mut pictures);
-    introduce();
-    both_runs(&full, folder, &reference, &mut pictures);
+    panel_picture::panel(&mut full);
+    with_panel(&full, folder);
 }

@@ -3,17 +3,6 @@ ghost use mathlib.Core.Path.{_≡_};
 ghost use Prim.Native.Nat.{_+_, _≤_, _<_};
 ghost use lib.ListN.{length};
 
-// The positions after a stage, in band order. The bottom band is whole from the first cut on: the writer brings a negative value of the bottom
-// nothing (docs/DIFFERENCES.md).
-pub fn positions(stage: usize) -> [u8; 10] {
-    match stage {
-        0 => [7, 7, 7, 7, 7, 7, 7, 7, 7, 0],
-        1 => [6, 6, 6, 6, 6, 6, 5, 5, 5, 0],
-        2 => [4, 4, 4, 4, 4, 4, 3, 3, 3, 0],
-        _ => [0; 10],
-    }
-}
-
 // The tile with the coefficients cut at positions, in the reduce-extrapolate layout, with quantizers that leave a value.
 pub fn loaded(full: &[i16], row: [u8; 10]) -> tile::Loaded
     requires { ⌜ length (now full) ≡ 12288 ⌝ }
@@ -87,7 +76,7 @@ pub fn pass(full: &[i16], t: tile::TileState, stage: usize, is_cut: bool) -> Mad
     let ss = t.sign;
     let rows = t.prog_quant;
     let prev = planes::row_at(rows, 0);
-    let row = positions(stage);
+    let row = panel_streams::positions(stage);
     let written = panel_streams::write_all(full, &cs, &ss, prev, row, &mut srl, &mut raw);
     if written.refusal != 0 {
         return Made {

@@ -88,6 +88,17 @@ pub fn save_stage(folder: &[u8], name: &[u8], pictures: &[u8], picture: usize) -
 
 // ---- all stages
 
+// Fills the last picture with the colour of a picture's first pixel, which is ground.
+pub fn ground(reference: &[u8], pictures: &mut [u8])
+    requires { ⌜ (length (now reference) ≡ 16384) × (length (now pictures) ≡ 131072) ⌝ }
+{
+    let mut i: usize = 114688;
+    while i < 131072 {
+        pictures[i] = reference[i % 4];
+        i += 1;
+    }
+}
+
 // Puts lines of four pictures side by side, with gaps of eight pixels.
 fn four_pictures(pictures: &[u8], from: usize, line: &mut [u8])
     requires { ⌜ (from + 49408 ≤ length (now pictures)) × (length (now line) ≡ 1657) ⌝ }

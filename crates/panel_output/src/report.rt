@@ -12,7 +12,7 @@ pub fn usage() {
     );
 }
 
-pub fn text(bytes: &[u8]) {
+fn text(bytes: &[u8]) {
     io::write_all(STDOUT_FILENO, bytes);
 }
 
@@ -26,13 +26,13 @@ fn pad(len: usize, width: usize) {
 }
 
 // A word, with spaces behind it.
-pub fn word(bytes: &[u8], width: usize) {
+fn word(bytes: &[u8], width: usize) {
     text(bytes);
     pad(bytes.len(), width);
 }
 
 // A number, with spaces in front of it.
-pub fn number(n: u64, width: usize) {
+fn number(n: u64, width: usize) {
     let mut digits = [0u8; 20];
     let k = io::decimal(n, &mut digits);
     pad(k, width);
@@ -40,7 +40,7 @@ pub fn number(n: u64, width: usize) {
 }
 
 // A row of positions, after its name.
-pub fn positions(name: &[u8], row: [u8; 10]) {
+fn positions(name: &[u8], row: [u8; 10]) {
     word(name, 10);
     let mut b: usize = 0;
     while b < 10 {
@@ -64,7 +64,7 @@ pub struct Figures {
     pub difference: u64,
 }
 
-pub fn heading() {
+fn heading() {
     text(b"run    stage          bits   in all  undecided  minus  ground  off by  file\n");
 }
 
@@ -84,8 +84,41 @@ pub fn stage(run: &[u8], stage: &[u8], f: Figures, file: &[u8]) {
 }
 
 // What the columns are.
-pub fn legend() {
+fn legend() {
     text(
         b"\nbits: of upgrade passes, in this stage and in all; the first cut is loaded\nundecided: places outside LL3 with sign 0 and bits to come, of 12045\nminus, ground: mean grey of the minus stroke, and of as much ground above it\noff by: the largest difference of a colour byte from the uncut panel\n",
     );
+}
+
+// The beginning: the positions of the four stages, and the head of the lines.
+pub fn introduce(rows: [[u8; 10]; 4]) {
+    text(b"panel: -0.75 on one tile of 64 x 64 pixels, sharpened by three upgrade passes\n\n");
+    text(b"positions  HL1 LH1 HH1 HL2 LH2 HH2 HL3 LH3 HH3 LL3\n");
+    positions(b"first cut", rows[0]);
+    positions(b"pass 1", rows[1]);
+    positions(b"pass 2", rows[2]);
+    positions(b"pass 3", rows[3]);
+    text(b"\n");
+    heading();
+}
+
+fn less(a: u64, b: u64) -> u64 {
+    if a < b {
+        return 0;
+    }
+    a - b
+}
+
+// What both runs came to.
+pub fn summary(whole: Figures, cut: Figures) {
+    legend();
+    text(b"\nThe whole stream ends ");
+    number(whole.difference, 0);
+    text(b" off the uncut panel at most, with the minus ");
+    number(less(whole.ground, whole.stroke), 0);
+    text(b" greys darker than the ground;\nthe stream that is cut half-way in pass 2 ends ");
+    number(cut.difference, 0);
+    text(b" off, with the minus ");
+    number(less(cut.ground, cut.stroke), 0);
+    text(b" darker. All stages side by side: sharpening.png\n");
 }

@@ -42,7 +42,7 @@ fn undecided_in(signs: &[i8], b: usize, position: u8) -> u64
 }
 
 // The undecided places of a component, outside its bottom band.
-pub fn undecided(signs: &[i8], positions: [u8; 10]) -> u64
+fn undecided(signs: &[i8], positions: [u8; 10]) -> u64
     requires { ⌜ 4096 ≤ length (now signs) ⌝ }
     ensures { λ r. ⌜ r ≤ 36864 ⌝ }
 {
@@ -53,6 +53,23 @@ pub fn undecided(signs: &[i8], positions: [u8; 10]) -> u64
         b += 1;
     }
     n
+}
+
+// The undecided places of the component with a number.
+fn undecided_at(signs: &[i8], rows: [u8; 30], k: usize) -> u64
+    requires { ⌜ (k ≤ 2) × (length (now signs) ≡ 12288) ⌝ }
+    ensures { λ r. ⌜ r ≤ 36864 ⌝ }
+{
+    let from = 4096 * k;
+    let to = from + 4096;
+    undecided(&signs[from..to], planes::row_at(rows, 10 * k))
+}
+
+// The undecided places of a tile, by its signs and its rows of positions.
+pub fn undecided_in_tile(signs: &[i8], rows: [u8; 30]) -> u64
+    requires { ⌜ length (now signs) ≡ 12288 ⌝ }
+{
+    undecided_at(signs, rows, 0) + undecided_at(signs, rows, 1) + undecided_at(signs, rows, 2)
 }
 
 // ---- pixels of four bytes: red, green, blue and 255

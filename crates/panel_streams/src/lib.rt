@@ -5,6 +5,17 @@ ghost use mathlib.Core.Path.{_≡_};
 ghost use Prim.Native.Nat.{_+_, _≤_};
 ghost use lib.ListN.{length};
 
+// The positions after a stage, in band order. The bottom band is whole from the first cut on: the writer brings a negative value of the bottom
+// nothing (docs/DIFFERENCES.md).
+pub fn positions(stage: usize) -> [u8; 10] {
+    match stage {
+        0 => [7, 7, 7, 7, 7, 7, 7, 7, 7, 0],
+        1 => [6, 6, 6, 6, 6, 6, 5, 5, 5, 0],
+        2 => [4, 4, 4, 4, 4, 4, 3, 3, 3, 0],
+        _ => [0; 10],
+    }
+}
+
 // Cuts the component with a number at positions, of the coefficients of all three.
 pub fn cut_at(full: &[i16], k: usize, row: [u8; 10], out: &mut [i16], signs: &mut [i8])
     requires { ⌜ (k ≤ 2) × (length (now full) ≡ 12288) × (4096 ≤ length (now out)) × (4096 ≤ length (now signs)) ⌝ }

@@ -1,11 +1,11 @@
--- `panel::demo::ground` is safe and ends. Assumes nothing.
+-- `panel_output::images::ground` is safe and ends. Assumes nothing.
 use mathlib.Core.Path.{_≡_}
 use Prim.Native.Nat.{_-_, _≤_}
 use native.Mathlib.Omega.{arith}
 use lib.ListN.{length, length-set}
 use borrow.Author.Needs.{needs}
-use Rattle.panel.proofs.demo.ground.Statement.{statement}
-use Rattle.panel.proofs.demo.ground.Tie as tie
+use Rattle.panel_output.proofs.images.ground.Statement.{statement}
+use Rattle.panel_output.proofs.images.ground.Tie as tie
 
 abbrev Inv-loop : tie.InvT-loop
 Inv-loop reference pictures₀ i₀ pictures i = (i ≤ 131072) × (length pictures ≡ length pictures₀)
