@@ -6,7 +6,7 @@ use panel_output::report;
 use panel_picture::drawing;
 use panel_picture::measure;
 ghost use mathlib.Core.Path.{_≡_};
-ghost use Prim.Native.Nat.{_+_, _≤_, _<_};
+ghost use Prim.Native.Nat.{_≤_, _<_};
 ghost use lib.ListN.{length};
 
 // Where a run stands: whether it goes on, its tile, the bits so far, and the figures of its last stage.

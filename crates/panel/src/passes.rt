@@ -1,6 +1,5 @@
-// A tile and its passes: the first cut, the streams of a pass by the port's writer, a cut of them, and the tile that the port's reader makes.
+// A tile: its first cut, and the passes that the port's writer and reader make of it.
 ghost use mathlib.Core.Path.{_≡_};
-ghost use Prim.Native.Nat.{_+_, _≤_, _<_};
 ghost use lib.ListN.{length};
 
 // The tile with the coefficients cut at positions, in the reduce-extrapolate layout, with quantizers that leave a value.
@@ -29,13 +28,13 @@ pub fn loaded(full: &[i16], row: [u8; 10]) -> tile::Loaded
     )
 }
 
+// Reads a pass from streams of six lengths, which begin at every 16,384th byte.
 fn decoded(
     t: tile::TileState,
     srl: &[u8],
     raw: &[u8],
     lengths: [usize; 6],
     row: [u8; 10],
-    quality: u8,
 ) -> tile::Upgraded
     requires { ⌜ (length (now srl) ≡ 49152) × (length (now raw) ≡ 49152) ⌝ }
 {
@@ -53,7 +52,7 @@ fn decoded(
         &srl[32768..cr_srl],
         &raw[32768..cr_raw],
         [row; 3],
-        quality,
+        0,
     )
 }
 
@@ -87,7 +86,7 @@ pub fn pass(full: &[i16], t: tile::TileState, stage: usize, is_cut: bool) -> Mad
     }
     let all = written.lengths;
     let lengths = panel_streams::half_if(all, is_cut);
-    let done = decoded(t, &srl, &raw, lengths, row, 0);
+    let done = decoded(t, &srl, &raw, lengths, row);
     let answer = done.answer;
     let tile = done.tile;
     Made {

@@ -102,6 +102,7 @@ pub fn introduce(rows: [[u8; 10]; 4]) {
     heading();
 }
 
+// a - b, not below 0.
 fn less(a: u64, b: u64) -> u64 {
     if a < b {
         return 0;

@@ -1,7 +1,7 @@
 // What the report says of a tile and of its pixels.
 use upgrade_steps::span;
 ghost use mathlib.Core.Path.{_≡_};
-ghost use Prim.Native.Nat.{_+_, _*_, _≤_, _<_};
+ghost use Prim.Native.Nat.{_+_, _≤_};
 ghost use lib.ListN.{length};
 
 // ---- places of which nothing is known yet

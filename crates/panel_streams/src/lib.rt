@@ -2,11 +2,11 @@
 // is proved safe and to end.
 use panel_picture::cut;
 ghost use mathlib.Core.Path.{_≡_};
-ghost use Prim.Native.Nat.{_+_, _≤_};
+ghost use Prim.Native.Nat.{_≤_};
 ghost use lib.ListN.{length};
 
-// The positions after a stage, in band order. The bottom band is whole from the first cut on: the writer brings a negative value of the bottom
-// nothing (docs/DIFFERENCES.md).
+// The positions after a stage, in band order. The bottom band is whole from the first cut on, since the writer sends nothing, or the
+// wrong way, for a negative value of the bottom (docs/DIFFERENCES.md). No magnitude outside it reaches 2 to the 7.
 pub fn positions(stage: usize) -> [u8; 10] {
     match stage {
         0 => [7, 7, 7, 7, 7, 7, 7, 7, 7, 0],
@@ -38,6 +38,7 @@ pub struct Streams {
     pub lengths: [usize; 6],
 }
 
+// The smaller of two numbers.
 pub fn at_most(n: usize, most: usize) -> usize
     ensures { λ r. ⌜ r ≤ most ⌝ }
 {
