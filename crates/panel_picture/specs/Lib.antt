@@ -1,0 +1,3 @@
+-- What the contracts of `panel_picture` cite.
+pub mod Cut
+pub mod Forward

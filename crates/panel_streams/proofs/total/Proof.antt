@@ -1,0 +1,14 @@
+-- `panel_streams::total` meets its contract. Assumes nothing.
+use Prim.Native.Nat.{_-_, _*_, _≤_}
+use borrow.Author.Needs.{needs}
+use Rattle.panel_streams.proofs.total.Statement.{statement}
+use Rattle.panel_streams.proofs.total.Tie as tie
+
+abbrev Inv-loop : tie.InvT-loop
+Inv-loop lengths sum₀ i₀ sum i = (i ≤ 6) × (sum ≤ 16384 * i)
+
+abbrev μ-loop : tie.MeasureT-loop
+μ-loop lengths sum₀ i₀ sum i = 6 - i
+
+pub total-spec : {M : Type 1} → statement M
+total-spec = tie.close (tie.spec Inv-loop μ-loop (λ c. search needs) (λ c. search needs) (λ c. search needs) (λ c κs. search needs) (λ c. search needs) (λ c. search needs) (λ c. search needs) (λ c. search needs) (λ c. search needs))
