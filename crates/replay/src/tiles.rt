@@ -137,12 +137,12 @@ fn built(c: &[u8]) -> tile::TileState {
 pub fn start(c: &[u8]) -> tile::Loaded {
     match number::u8_at(c, 80) {
         0 => tile::Loaded {
-            answer: progressive::Answer::Accepted,
+            answer: answer::Answer::Accepted,
             tile: tile::TileState::new(),
         },
         1 => loaded(c, [4096; 6], rows_at(c, 12), rows_at(c, 45)),
         _ => tile::Loaded {
-            answer: progressive::Answer::Accepted,
+            answer: answer::Answer::Accepted,
             tile: built(c),
         },
     }
@@ -179,7 +179,7 @@ fn digest(t: tile::TileState) -> u64 {
 }
 
 // Whether an answer and the tile are those at a place.
-pub fn same_answer(c: &[u8], at: usize, answer: progressive::Answer, t: tile::TileState) -> bool
+pub fn same_answer(c: &[u8], at: usize, answer: answer::Answer, t: tile::TileState) -> bool
     requires { ⌜ at ≤ 1048576 ⌝ }
 {
     if upgrade::refusal(answer) != number::u8_at(c, at) {

@@ -115,7 +115,7 @@ fn written(
     let to = from + 4096;
     let mut targets = [0i16; 4352];
     fill_target(c, k, extrapolate, prev, curr, &mut targets);
-    match progressive::encode_upgrade_pass(
+    match progressive_encoder::encode_upgrade_pass(
         &targets,
         &coefficients[from..to],
         prev,
@@ -125,8 +125,8 @@ fn written(
         srl_out,
         raw_out,
     ) {
-        progressive::Written::Bytes(srl, raw) => Lengths { srl, raw },
-        progressive::Written::Refused(_) => Lengths { srl: 0, raw: 0 },
+        progressive_encoder::Written::Bytes(srl, raw) => Lengths { srl, raw },
+        progressive_encoder::Written::Refused(_) => Lengths { srl: 0, raw: 0 },
     }
 }
 

@@ -13,10 +13,10 @@ struct Counts {
 }
 
 // The number of an answer, 0 where there is no refusal.
-pub fn refusal(answer: progressive::Answer) -> u8 {
+pub fn refusal(answer: answer::Answer) -> u8 {
     match answer {
-        progressive::Answer::Accepted => 0,
-        progressive::Answer::Refused(k) => k,
+        answer::Answer::Accepted => 0,
+        answer::Answer::Refused(k) => k,
     }
 }
 
@@ -38,7 +38,7 @@ fn lent(c: &[u8], at: usize, most: usize) -> usize
 fn read(c: &[u8], srl_data: &[u8], raw_data: &[u8], befores: &mut [i16], signs: &mut [i8]) -> u8 {
     let n = lent(c, 35, befores.len());
     let m = lent(c, 37, signs.len());
-    refusal(progressive::decode_upgrade_pass(
+    refusal(progressive_decoder::decode_upgrade_pass(
         srl_data,
         raw_data,
         number::row_at(c, 13),
@@ -75,14 +75,14 @@ pub fn decode_agrees(c: &[u8]) -> bool {
 }
 
 // What a writer answers, in numbers.
-fn in_numbers(answer: progressive::Written) -> Counts {
+fn in_numbers(answer: progressive_encoder::Written) -> Counts {
     match answer {
-        progressive::Written::Bytes(srl, raw) => Counts {
+        progressive_encoder::Written::Bytes(srl, raw) => Counts {
             refusal: 0,
             srl,
             raw,
         },
-        progressive::Written::Refused(refusal) => Counts {
+        progressive_encoder::Written::Refused(refusal) => Counts {
             refusal,
             srl: 0,
             raw: 0,
@@ -104,7 +104,7 @@ fn write(
     let m = lent(c, 37, signs.len());
     let srl_room = lent(c, 39, srl_out.len());
     let raw_room = lent(c, 41, raw_out.len());
-    in_numbers(progressive::encode_upgrade_pass(
+    in_numbers(progressive_encoder::encode_upgrade_pass(
         &targets[..l],
         &befores[..n],
         number::row_at(c, 13),
@@ -186,7 +186,7 @@ pub fn encode_agrees(c: &[u8]) -> bool {
 // Dequantizes the elements that the case lends: the refusal.
 fn dequantize(c: &[u8], targets: &mut [i16]) -> u8 {
     let n = lent(c, 33, targets.len());
-    refusal(progressive::dequantize_component_ccq(
+    refusal(dequantizer::dequantize_component_ccq(
         &mut targets[..n],
         number::row_at(c, 23),
         number::flag_at(c, 12),

@@ -7,7 +7,7 @@ ghost use Rattle.srl_encoder.specs.Finish.{finishedNumber, finishedCount};
 ghost use Rattle.progressive_encoder.specs.Encode.{writtenNumber, srlCount, rawCount};
 ghost use Rattle.tarjimp.specs.Calls.{decodedNumbers, encodedNumbers};
 use crate::states;
-use progressive::Written;
+use progressive_encoder::Written;
 use srl_decoder::Decoded;
 use srl_encoder::Encoded;
 use srl_encoder::Finished;

@@ -91,7 +91,7 @@ pub extern "C" fn tarjimp_decode_upgrade_pass(
 {
     let p = *prev;
     let q = *curr;
-    answer::number_of(progressive::decode_upgrade_pass(
+    answer::number_of(progressive_decoder::decode_upgrade_pass(
         srl_data,
         raw_data,
         p,
@@ -112,7 +112,7 @@ pub extern "C" fn tarjimp_dequantize_component(
     ensures { λ r. ⌜ (r ≡ numberOf (dequantizeAnswer (now (quant .entry)) (now (coefficients .entry)))) × (now (coefficients .exit) ≡ dequantizeOut «use_reduce_extrapolate» (now (quant .entry)) (now (coefficients .entry))) ⌝ }
 {
     let q = *quant;
-    answer::number_of(progressive::dequantize_component_ccq(
+    answer::number_of(dequantizer::dequantize_component_ccq(
         coefficients,
         q,
         use_reduce_extrapolate,
@@ -136,7 +136,7 @@ pub extern "C" fn tarjimp_encode_upgrade_pass(
 {
     let p = *prev;
     let q = *curr;
-    let w = progressive::encode_upgrade_pass(
+    let w = progressive_encoder::encode_upgrade_pass(
         coefficients,
         prev_coefficients,
         p,
