@@ -4,7 +4,8 @@
  *
  * Link with libtarjimp.a, which `rt staticlib tarjimp` writes to
  * target/staticlib/. It needs no other library, keeps no state of its own,
- * allocates nothing, and any number of threads may call it.
+ * allocates nothing, and any number of threads may call it. A call takes about
+ * 1 KB of stack, tarjimp_tile_reconstruct_to_rgba 36 KB (measured on x86-64).
  *
  * WHAT A CALL RETURNS
  *
