@@ -6,7 +6,7 @@ use Prim.Native.Nat.{ℕ, suc, _-_, _/_, _^_, _≤_, _<_, max}
 use lib.Dec.{ltb}
 use lib.IntN.{ℤ, natAbs}
 use lib.ListN.{length, replicate}
-use Rattle.bits.specs.Written.{bitsOf, Sound, after, write, counted}
+use Rattle.bits.specs.Written.{bitsOf, writer, Sound, after, write, counted}
 use Rattle.bits.specs.declared.writer.BitCount.{BitCount}
 use Rattle.srl_encoder.specs.Encode.{runBits, runKp, valueBits, valueKp, valueZeros, callBits, callKp, callZeros, sink}
 use Rattle.srl_encoder.specs.declared.SrlWriter.{SrlWriter}
@@ -45,6 +45,10 @@ stopCount w magnitude = cond (ltb magnitude (2 ^ w - 1)) 1 0
 -- it starts before the first byte of its output
 abbrev pub callStart : SrlWriter → CallState
 callStart st = record { sink = sink st; kp = st .kp; zeros = st .«pending_zeros» }
+
+-- a state by its parts
+abbrev pub callOf : ℕ → ℕ → ℕ → ℕ → ℕ → CallState
+callOf at current n kp zeros = record { sink = writer at current n; kp = kp; zeros = zeros }
 
 -- what is handed back of it
 abbrev pub writerOf : CallState → SrlWriter

@@ -11,7 +11,7 @@ ghost use Rattle.bits.specs.Written.{Sound, Room, after, write};
 ghost use Rattle.srl_rules.specs.Rules.{Width};
 ghost use Rattle.srl_encoder.specs.Encode.{callBytes, nonzeroBits, valueZeros, writerOk, valueFault, fault};
 ghost use Rattle.srl_encoder.specs.Finish.{flush, finishBytes};
-ghost use Rattle.srl_encoder.specs.EncodeInner.{largest, planBits, GoodPlan, Planned, stopCount, callStart, writerOf, valueState, callState, valueWrite, callWrite, measureStart, valueMeasure, callCount, Good, GoodMeasure, GoodWriter};
+ghost use Rattle.srl_encoder.specs.EncodeInner.{largest, planBits, GoodPlan, Planned, stopCount, callStart, callOf, writerOf, valueState, callState, valueWrite, callWrite, measureStart, valueMeasure, callCount, Good, GoodMeasure, GoodWriter};
 use crate::MAX_ZERO_RUN;
 use crate::SrlWriter;
 
@@ -403,19 +403,66 @@ pub fn put_value(out: &mut [u8], c: CallState, v: i16, num_bits: u8) -> CallStat
     }
 }
 
-// All values. The caller has measured them.
+fn call_of(at: usize, current: u8, bit_count: u8, kp: u8, zeros: usize) -> CallState
+    ensures { λ r. ⌜ r ≡ callOf at current «bit_count» kp zeros ⌝ }
+{
+    CallState {
+        sink: bits::writer::BitWriter {
+            at,
+            current,
+            bit_count,
+        },
+        kp,
+        zeros,
+    }
+}
+
+// One value, from the parts of a state. A zero, which most values are, is only counted: there the state goes through no memory.
+fn put_next(
+    out: &mut [u8],
+    at: usize,
+    current: u8,
+    bit_count: u8,
+    kp: u8,
+    zeros: usize,
+    v: i16,
+    num_bits: u8,
+) -> CallState
+    requires { ⌜ Good (callOf at current «bit_count» kp zeros) × (at + (zeros + 70000) < 2 ^ 64) × Width «num_bits» ⌝ }
+    ensures { λ r. ⌜ (r ≡ valueState «num_bits» (callOf at current «bit_count» kp zeros) v) × (now (out .exit) ≡ valueWrite «num_bits» (now (out .entry)) (callOf at current «bit_count» kp zeros) v) ⌝ }
+{
+    let m = fixed::magnitude(v);
+    if m == 0 {
+        return call_of(at, current, bit_count, kp, zeros + 1);
+    }
+    let c = call_of(at, current, bit_count, kp, zeros);
+    put_value(out, c, v, num_bits)
+}
+
+// All values. The caller has measured them. The loop keeps the state's parts: a struct that went round it would be copied each time.
 pub fn put_values(values: &[i16], c: CallState, out: &mut [u8], num_bits: u8) -> CallState
     requires { ⌜ Good c × (c .zeros ≤ 4096) × Width «num_bits» × (callState «num_bits» c (now values) .sink .at < 2 ^ 63) ⌝ }
     ensures { λ r. ⌜ (r ≡ callState «num_bits» c (now (values .entry))) × (now (out .exit) ≡ callWrite «num_bits» (now (out .entry)) c (now (values .entry))) ⌝ }
 {
-    let mut cur = c;
+    let k = c.sink;
+    let mut at = k.at;
+    let mut current = k.current;
+    let mut n = k.bit_count;
+    let mut kp = c.kp;
+    let mut zeros = c.zeros;
     let mut i: usize = 0;
     while i < values.len() {
         let v = values[i];
-        cur = put_value(out, cur, v, num_bits);
+        let next = put_next(out, at, current, n, kp, zeros, v, num_bits);
+        let l = next.sink;
+        at = l.at;
+        current = l.current;
+        n = l.bit_count;
+        kp = next.kp;
+        zeros = next.zeros;
         i += 1;
     }
-    cur
+    call_of(at, current, n, kp, zeros)
 }
 
 // ---- the end of a stream
