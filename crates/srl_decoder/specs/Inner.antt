@@ -1,5 +1,5 @@
 -- What the inner functions of the decoder ask and promise.
-use mathlib.Core.Bool.{cond}
+use mathlib.Core.Bool.{Bool, cond}
 use mathlib.Core.List.{List}
 use Prim.Native.Nat.{ℕ, _^_, _≤_}
 use lib.Dec.{ltb}
@@ -11,6 +11,11 @@ use Rattle.srl_decoder.specs.declared.SrlState.{SrlState}
 -- the state that a reader is: the place runs on past the end with the count
 abbrev pub shut : Reader → SrlState
 shut r = record { reader = placeOf (r .read); kp = r .kp; «zero_run_remaining» = r .run; «nonzero_pending» = r .pending }
+
+-- a state by its parts
+abbrev pub stateOf : ℕ → ℕ → ℕ → ℕ → Bool → SrlState
+stateOf byte bit kp run pending =
+    record { reader = record { «byte_idx» = byte; «bit_idx» = bit }; kp = kp; «zero_run_remaining» = run; «nonzero_pending» = pending }
 
 -- a reader as far as the stream goes
 abbrev pub heldReader : List ℕ → Reader → Reader

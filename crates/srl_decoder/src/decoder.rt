@@ -7,7 +7,7 @@ ghost use Rattle.bits.specs.Bits.{bitsRead, placeOf};
 ghost use Rattle.srl_decoder.specs.Srl.{nonzero, behind, codeWord, readied, nextValue, nextReader, values, readerAfter};
 ghost use Rattle.srl_decoder.specs.Decode.{opened, closed, stateOk, dueAmong, decoded};
 ghost use Rattle.srl_rules.specs.Rules.{noRoom, stored, Width};
-ghost use Rattle.srl_decoder.specs.Inner.{Sound, shut, heldReader, handed};
+ghost use Rattle.srl_decoder.specs.Inner.{Sound, shut, stateOf, heldReader, handed};
 use crate::Decoded;
 use crate::SrlState;
 
@@ -141,7 +141,19 @@ fn hold(src: &[u8], st: SrlState) -> SrlState
     }
 }
 
-// Stores the next `num_values` values at the front of `out`.
+// The state by its parts.
+fn state_of(byte_idx: usize, bit_idx: u8, kp: u8, run: usize, pending: bool) -> SrlState
+    ensures { λ r. ⌜ r ≡ stateOf «byte_idx» «bit_idx» kp run pending ⌝ }
+{
+    SrlState {
+        reader: bits::reader::BitReader { byte_idx, bit_idx },
+        kp,
+        zero_run_remaining: run,
+        nonzero_pending: pending,
+    }
+}
+
+// Stores the next `num_values` values at the front of `out`. The loop keeps the state's parts: a struct would take its padding round.
 fn store_values(
     src: &[u8],
     st: SrlState,
@@ -152,17 +164,29 @@ fn store_values(
     requires { ⌜ (st .reader .«bit_idx» ≤ 7) × (st .kp ≤ 80) × (bitsRead (st .reader) ≤ 8 * length (now src)) × Width «num_bits» × («num_values» ≤ length (now out)) ⌝ }
     ensures { λ r. ⌜ (r ≡ shut (heldReader (now (src .entry)) (readerAfter (now (src .entry)) (replicate «num_values» «num_bits») (opened st)))) × (now (out .exit) ≡ values (now (src .entry)) (replicate «num_values» «num_bits») (opened st) ++ drop «num_values» (now (out .entry))) ⌝ }
 {
-    let mut cur = st;
+    let start = st.reader;
+    let mut byte_idx = start.byte_idx;
+    let mut bit_idx = start.bit_idx;
+    let mut kp = st.kp;
+    let mut run = st.zero_run_remaining;
+    let mut pending = st.nonzero_pending;
     let mut i: usize = 0;
     while i < num_values {
+        let cur = state_of(byte_idx, bit_idx, kp, run, pending);
         let v = next_value(src, cur, num_bits);
         let value = v.value;
         let state = v.state;
         out[i] = value;
-        cur = hold(src, state);
+        let next = hold(src, state);
+        let place = next.reader;
+        byte_idx = place.byte_idx;
+        bit_idx = place.bit_idx;
+        kp = next.kp;
+        run = next.zero_run_remaining;
+        pending = next.nonzero_pending;
         i += 1;
     }
-    cur
+    state_of(byte_idx, bit_idx, kp, run, pending)
 }
 
 // The state that goes back to the caller: a place that was handed in at or past the end stays as it is.
