@@ -14,7 +14,9 @@ extern crate self as oracle;
 
 pub mod digest;
 pub mod kinds;
+/// The C functions of the port, as the Rust crate calls them.
 #[cfg(feature = "port")]
+#[path = "../../bindings/rust/src/ffi.rs"]
 pub mod port;
 pub mod random;
 pub mod record;

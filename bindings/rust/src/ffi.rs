@@ -263,11 +263,9 @@ pub fn dwt_extrapolate_decode(buffer: &mut [i16], temp: &mut [i16]) -> u8 {
     }
 }
 
-pub fn ycbcr_to_rgb(y: i16, cb: i16, cr: i16) -> [u8; 3] {
-    let mut rgb = [0; 3];
+pub fn ycbcr_to_rgb(y: i16, cb: i16, cr: i16, rgb: &mut [u8; 3]) {
     // SAFETY: `rgb` has the three bytes that the function writes.
-    unsafe { tarjimp_ycbcr_to_rgb(y, cb, cr, rgb.as_mut_ptr()) };
-    rgb
+    unsafe { tarjimp_ycbcr_to_rgb(y, cb, cr, rgb.as_mut_ptr()) }
 }
 
 /// The fields of a tile that an upgrade reads or sets.

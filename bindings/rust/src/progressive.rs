@@ -202,7 +202,9 @@ pub fn dequantize_component_ccq(
 /// assert_eq!(tarjimp::progressive::ycbcr_to_rgb(0, 0, 100), [255, 57, 128]);
 /// ```
 pub fn ycbcr_to_rgb(y: i16, cb: i16, cr: i16) -> [u8; 3] {
-    ffi::ycbcr_to_rgb(y, cb, cr)
+    let mut rgb = [0; 3];
+    ffi::ycbcr_to_rgb(y, cb, cr, &mut rgb);
+    rgb
 }
 
 /// The bands of either layout.
