@@ -61,7 +61,8 @@ extern "C" {
 
 /*
  * SRL streams. A state is handed in and back as numbers, so that a stream may
- * be read or written in any number of calls. Fresh states:
+ * be read or written in any number of calls. A number that does not fit its
+ * field, as a kp of 300 or a flag of 2, is an impossible state: 8. Fresh states:
  */
 #define TARJIMP_SRL_DECODE_START { 0, 0, 8, 0, 0 }
 #define TARJIMP_SRL_ENCODE_START { 8, 0, 0, 0 }

@@ -13,8 +13,8 @@ abbrev pub shut : Reader → SrlState
 shut r = record { reader = placeOf (r .read); kp = r .kp; «zero_run_remaining» = r .run; «nonzero_pending» = r .pending }
 
 -- a state by its parts
-abbrev pub stateOf : ℕ → ℕ → ℕ → ℕ → Bool → SrlState
-stateOf byte bit kp run pending =
+abbrev pub stateBy : ℕ → ℕ → ℕ → ℕ → Bool → SrlState
+stateBy byte bit kp run pending =
     record { reader = record { «byte_idx» = byte; «bit_idx» = bit }; kp = kp; «zero_run_remaining» = run; «nonzero_pending» = pending }
 
 -- a reader as far as the stream goes

@@ -7,7 +7,7 @@ ghost use Rattle.bits.specs.Bits.{bitsRead, placeOf};
 ghost use Rattle.srl_decoder.specs.Srl.{nonzero, behind, codeWord, readied, nextValue, nextReader, values, readerAfter};
 ghost use Rattle.srl_decoder.specs.Decode.{opened, closed, stateOk, dueAmong, decoded};
 ghost use Rattle.srl_rules.specs.Rules.{noRoom, stored, Width};
-ghost use Rattle.srl_decoder.specs.Inner.{Sound, shut, stateOf, heldReader, handed};
+ghost use Rattle.srl_decoder.specs.Inner.{Sound, shut, stateBy, heldReader, handed};
 use crate::Decoded;
 use crate::SrlState;
 
@@ -143,7 +143,7 @@ fn hold(src: &[u8], st: SrlState) -> SrlState
 
 // The state by its parts.
 fn state_of(byte_idx: usize, bit_idx: u8, kp: u8, run: usize, pending: bool) -> SrlState
-    ensures { λ r. ⌜ r ≡ stateOf «byte_idx» «bit_idx» kp run pending ⌝ }
+    ensures { λ r. ⌜ r ≡ stateBy «byte_idx» «bit_idx» kp run pending ⌝ }
 {
     SrlState {
         reader: bits::reader::BitReader { byte_idx, bit_idx },

@@ -23,7 +23,7 @@ abbrev pub decodedNumbers : Decoded → List ℕ → List ℕ
 decodedNumbers (D.Values n st) s = readerNumbers st
 decodedNumbers (D.Refused k st) s = s
 
--- the number returned. 8: "a coder state" that no field can hold is none
+-- the number returned: "one that does not fit its field .. is no state: 8"
 abbrev pub srlDecodeNumber : List ℕ → List ℕ → ℕ → ℕ → ℕ → ℕ
 srlDecodeNumber src s room n w = cond (readerFits s) (numberOf (decodeAnswer src (readerOf s) room n w)) 8
 

@@ -1,4 +1,4 @@
--- The states of the SRL coders as numbers, as the C interface has them (include/tarjimp.h).
+-- The states of the SRL coders as numbers, as the C interface has them (docs/SCOPE.md, "Refusals": "to C a coder's state is numbers"; include/tarjimp.h).
 use mathlib.Core.Bool.{Bool, cond, _&&_}
 use mathlib.Core.List.{List, [], _∷_}
 use Prim.Native.Nat.{ℕ}
@@ -9,7 +9,7 @@ use Rattle.srl_encoder.specs.declared.SrlWriter.{SrlWriter}
 
 -- ════ the decoder's: byte, bit, kp, zero_run_remaining, nonzero_pending ════
 
--- each number fits its field: a bit place and kp are bytes, and the flag is 0 or 1
+-- no number "does not fit its field": a bit place and kp are bytes, and the flag is 0 or 1
 abbrev pub readerFits : List ℕ → Bool
 readerFits s = leb (getD s 1 0) 255 && (leb (getD s 2 0) 255 && leb (getD s 4 0) 1)
 
@@ -30,7 +30,7 @@ readerNumbers st =
 
 -- ════ the encoder's: kp, pending_zeros, current, bit_count ════
 
--- each number fits its field: kp, the unfinished bits and their count are bytes
+-- no number "does not fit its field": kp, the unfinished bits and their count are bytes
 abbrev pub writerFits : List ℕ → Bool
 writerFits s = leb (getD s 0 0) 255 && (leb (getD s 2 0) 255 && leb (getD s 3 0) 255)
 

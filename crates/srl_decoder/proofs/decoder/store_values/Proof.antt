@@ -12,7 +12,7 @@ use Rattle.fixed.proofs.Machine.{got}
 use Rattle.bits.specs.Bits.{bitsRead, held}
 use Rattle.srl_decoder.specs.Srl.{Reader, reader, readied, nextValue, nextReader, values, readerAfter}
 use Rattle.srl_decoder.specs.Decode.{opened}
-use Rattle.srl_decoder.specs.Inner.{shut, stateOf, heldReader}
+use Rattle.srl_decoder.specs.Inner.{shut, stateBy, heldReader}
 use Rattle.srl_decoder.specs.declared.SrlState.{SrlState}
 use Rattle.srl_decoder.proofs.Codes.{ready-near, past-kp, value-fits}
 use Rattle.srl_decoder.proofs.Values.{shut-opened, opened-shut, value-held, next-held, after-next, values-store}
@@ -22,8 +22,8 @@ use Rattle.srl_decoder.proofs.decoder.store_values.Tie as tie
 abbrev Inv-loop : tie.InvT-loop
 Inv-loop src out₀ num-values num-bits byte₀ bit₀ kp₀ run₀ pending₀ i₀ out byte bit kp run pending i =
     (i ≤ num-values) × (length out ≡ length out₀) × (kp ≤ 80)
-    × (stateOf byte bit kp run pending ≡ shut (heldReader src (readerAfter src (replicate i num-bits) (opened (stateOf byte₀ bit₀ kp₀ run₀ pending₀)))))
-    × (out ≡ values src (replicate i num-bits) (opened (stateOf byte₀ bit₀ kp₀ run₀ pending₀)) ++ drop i out₀)
+    × (stateBy byte bit kp run pending ≡ shut (heldReader src (readerAfter src (replicate i num-bits) (opened (stateBy byte₀ bit₀ kp₀ run₀ pending₀)))))
+    × (out ≡ values src (replicate i num-bits) (opened (stateBy byte₀ bit₀ kp₀ run₀ pending₀)) ++ drop i out₀)
 
 abbrev μ-loop : tie.MeasureT-loop
 μ-loop src out₀ num-values num-bits byte₀ bit₀ kp₀ run₀ pending₀ i₀ out byte bit kp run pending i = num-values - i
@@ -60,7 +60,7 @@ loop-again c =
     let start = c .before .before .before .before .before .before .before .before .before .before in
     let a = start .args in
     let l = c .before .before .before .before .before .before .before .loop in
-    let cur = stateOf (l .byte-idx) (l .bit-idx) (l .kp) (l .run) (l .pending) in
+    let cur = stateBy (l .byte-idx) (l .bit-idx) (l .kp) (l .run) (l .pending) in
     let more = c .before .before .before .before .before .before .loop-test .taken in
     let made = c .before .before .before .before .before .state-of in
     let v = c .before .before .before .before .next-value in
