@@ -120,3 +120,24 @@ top-zeros v l a s n t h = go (lead v s n)
 
 pub top-window : (a : ℕ) (s : List ℕ) (n k : ℕ) → a ≡ num s n 64 → k ≤ 7 → Top (64 - k) ((a * 2 ^ k) % 2 ^ 64) s (n + k)
 top-window a s n k e h = top-skip 64 k a s n (record { fits = omega arith; is = e ∙ omega arith }) (omega arith)
+
+-- ---- the first 1
+
+-- zeros up to a 1 that the word holds: they are zeros of the stream, and a 1 follows
+ends-at : (s : List ℕ) (n l z : ℕ) → zeros s n l ≡ z → z < l → (zeros s n z ≡ z) × (bitAt s (n + z) ≡ true)
+unfolding zeros
+ends-at s n zero z e h = absurd (omega arith)
+ends-at s n (suc l) z e h = by (bitAt s n) refl z e h (ends-at s (suc n) l)
+  where
+    by : (b : Bool) → bitAt s n ≡ b → (z : ℕ) → cond b 0 (suc (zeros s (suc n) l)) ≡ z → z < suc l
+        → ((z : ℕ) → zeros s (suc n) l ≡ z → z < l → (zeros s (suc n) z ≡ z) × (bitAt s (suc n + z) ≡ true)) → (zeros s n z ≡ z) × (bitAt s (n + z) ≡ true)
+    by true q zero e h ih = (refl, let m : n + 0 ≡ n = omega arith in ap (bitAt s) m ∙ q)
+    by true q (suc z) e h ih = absurd (omega arith)
+    by false q zero e h ih = absurd (omega arith)
+    by false q (suc z) e h ih =
+        let r = ih z (omega arith) (omega arith) in
+        let m : n + suc z ≡ suc n + z = omega arith in
+        (ap (λ (b : Bool). cond b 0 (suc (zeros s (suc n) z))) q ∙ ap suc (r .0), ap (bitAt s) m ∙ r .1)
+
+pub top-one : (v a z : ℕ) (s : List ℕ) (n : ℕ) → Top v a s n → z ≡ leadingZeros 64 a → z < v → (zeros s n z ≡ z) × (bitAt s (n + z) ≡ true)
+top-one v a z s n t e h = ends-at s n (suc z) z (sym (top-zeros v (suc z) a s n t (omega arith)) ∙ omega arith) (omega arith)

@@ -38,6 +38,14 @@ pub fn place(count: usize) -> BitReader
     }
 }
 
+// The count of bits of a place.
+pub fn count_of(r: BitReader) -> usize
+    requires { ⌜ (r .«bit_idx» ≤ 7) × (r .«byte_idx» < 2 ^ 60) ⌝ }
+    ensures { λ n. ⌜ n ≡ bitsRead r ⌝ }
+{
+    8 * r.byte_idx + r.bit_idx as usize
+}
+
 // The place, or the stream's end where it is past that.
 pub fn hold(src: &[u8], r: BitReader) -> BitReader
     requires { ⌜ r .«bit_idx» ≤ 7 ⌝ }
@@ -128,6 +136,28 @@ pub fn ahead(src: &[u8], r: BitReader) -> u64
     ensures { λ a. ⌜ Top (64 - r .«bit_idx») a (now (src .entry)) (bitsRead r) ⌝ }
 {
     window(src, r.byte_idx) << r.bit_idx
+}
+
+// The bits from a count of bits on, likewise.
+pub fn ahead_at(src: &[u8], count: usize) -> u64
+    ensures { λ a. ⌜ Top (64 - count % 8) a (now (src .entry)) count ⌝ }
+{
+    ahead(src, place(count))
+}
+
+// The bits of a word behind its first `count`.
+pub fn behind(a: u64, count: u32) -> u64
+    requires { ⌜ count ≤ 63 ⌝ }
+    ensures { λ r. ⌜ r ≡ (a * 2 ^ count) % 2 ^ 64 ⌝ }
+{
+    a << count
+}
+
+// The leading zeros of a word.
+pub fn leading(a: u64) -> u32
+    ensures { λ r. ⌜ r ≡ leadingZeros 64 a ⌝ }
+{
+    u64::leading_zeros(a)
 }
 
 // The bits of a word behind its first.

@@ -109,7 +109,7 @@ ready-mono s n kp (suc run) pending = omega arith
 ready-mono s n kp zero true = omega arith
 ready-mono s n kp zero false = omega (arith, code-moves s n kp)
 
-code-run : (s : List ℕ) (n kp : ℕ) → kp ≤ 80 → codeWord s n kp .run ≤ 1024
+pub code-run : (s : List ℕ) (n kp : ℕ) → kp ≤ 80 → codeWord s n kp .run ≤ 1024
 code-run s n kp h = by (bitAt s n)
   where
     k : kp / 8 ≤ 10

@@ -3,3 +3,4 @@ pub mod Codes
 pub mod Values
 pub mod Due
 pub mod States
+pub mod Chains

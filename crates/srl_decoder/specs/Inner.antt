@@ -1,12 +1,14 @@
 -- What the inner functions of the decoder ask and promise.
-use mathlib.Core.Bool.{Bool, cond}
+use mathlib.Core.Path.{_≡_}
+use mathlib.Core.Bool.{Bool, false, cond}
 use mathlib.Core.List.{List}
-use Prim.Native.Nat.{ℕ, _^_, _≤_}
+use Prim.Native.Nat.{ℕ, zero, suc, _+_, _*_, _/_, _%_, _^_, _≤_}
 use lib.Dec.{ltb}
 use lib.ListN.{length}
 use Rattle.bits.specs.Bits.{placeOf, held}
-use Rattle.srl_decoder.specs.Srl.{Reader, reader}
+use Rattle.srl_decoder.specs.Srl.{Reader, reader, nextValue, nextReader}
 use Rattle.srl_decoder.specs.declared.SrlState.{SrlState}
+use Rattle.srl_decoder.specs.declared.decoder.SrlReader.{SrlReader}
 
 -- the state that a reader is: the place runs on past the end with the count
 abbrev pub shut : Reader → SrlState
@@ -34,3 +36,23 @@ handed s st done =
 -- a state from which a code word can be read, and a value behind it
 abbrev pub Sound : SrlState → Type 0
 Sound st = (st .reader .«bit_idx» ≤ 7) × (st .reader .«byte_idx» ≤ 2 ^ 63) × (st .kp ≤ 80)
+
+-- the reader that the code has
+abbrev pub readerOf : SrlReader → Reader
+readerOf r = reader (r .read) (r .kp) (r .run) (r .pending)
+
+-- two readers give the same k values, of whatever widths, and are one reader after them
+abbrev pub Same : List ℕ → ℕ → Reader → Reader → Type 0
+Same s zero r q = r ≡ q
+Same s (suc k) r q = (w : ℕ) → (nextValue s w r ≡ nextValue s w q) × Same s k (nextReader s w r) (nextReader s w q)
+
+-- the zeros that code words 0 bring while kp rises to x, and two more: 2^k for each multiple of 4 below x
+abbrev pub below : ℕ → ℕ
+below x = (2 + x / 4 % 2) * 2 ^ (x / 8)
+
+-- a reader that code words gave behind n bits, with `left` values to come: it has zeros to give or a nonzero value
+pub record Brought (n left : ℕ) (r : SrlReader) : Type 0 where
+  pub kp-low : r .kp ≤ 80
+  pub run-low : r .run ≤ left + 1024
+  pub near : r .read ≤ n + 40
+  pub moves : r .pending ≡ false → (1 ≤ r .run) × (r .read ≤ n + 1)

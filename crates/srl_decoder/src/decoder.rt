@@ -1,13 +1,14 @@
 // The decoder, value by value. One value takes at most one code word.
 ghost use mathlib.Core.Path.{_≡_};
 ghost use mathlib.Core.List.{_++_};
-ghost use Prim.Native.Nat.{_*_, _^_, _+_, _≤_};
+ghost use mathlib.Core.Bool.{false};
+ghost use Prim.Native.Nat.{_*_, _^_, _+_, _≤_, _<_};
 ghost use lib.ListN.{length, drop, replicate};
-ghost use Rattle.bits.specs.Bits.{bitsRead, placeOf};
-ghost use Rattle.srl_decoder.specs.Srl.{nonzero, behind, codeWord, readied, nextValue, nextReader, values, readerAfter};
+ghost use Rattle.bits.specs.Bits.{bitAt, zeros, bitsRead, placeOf};
+ghost use Rattle.srl_decoder.specs.Srl.{reader, mostZeros, nonzero, behind, codeWord, readied, nextValue, nextReader, values, readerAfter};
 ghost use Rattle.srl_decoder.specs.Decode.{opened, closed, stateOk, dueAmong, decoded};
 ghost use Rattle.srl_rules.specs.Rules.{noRoom, stored, Width};
-ghost use Rattle.srl_decoder.specs.Inner.{Sound, shut, stateBy, heldReader, handed};
+ghost use Rattle.srl_decoder.specs.Inner.{Sound, shut, stateBy, heldReader, handed, readerOf, below, Same, Brought};
 use crate::Decoded;
 use crate::SrlState;
 
@@ -21,6 +22,21 @@ pub struct NonzeroRead {
 pub struct NextRead {
     pub value: i16,
     pub state: SrlState,
+}
+
+// The decoder between two values, by the count of bits read.
+pub struct SrlReader {
+    pub read: usize,
+    pub kp: u8,
+    pub run: usize,
+    pub pending: bool,
+}
+
+// A nonzero value by its magnitude and its sign, and the count of bits read behind it.
+pub struct NonzeroAt {
+    pub magnitude: u16,
+    pub negative: bool,
+    pub next: usize,
 }
 
 // Whether a decoder can have the state.
@@ -122,6 +138,84 @@ pub fn next_value(src: &[u8], st: SrlState, num_bits: u8) -> NextRead
             zero_run_remaining: 0,
             nonzero_pending: false,
         },
+    }
+}
+
+// ---- by the count of bits read
+
+// One code word.
+fn code_at(src: &[u8], n: usize, kp: u8) -> SrlReader
+    requires { ⌜ (n < 2 ^ 62) × (kp ≤ 80) ⌝ }
+    ensures { λ r. ⌜ readerOf r ≡ codeWord (now (src .entry)) n kp ⌝ }
+{
+    let k = kp / 8;
+    let a = bits::reader::ahead_at(src, n);
+    if a < 0x8000_0000_0000_0000 {
+        return SrlReader {
+            read: n + 1,
+            kp: srl_rules::raised(kp),
+            run: srl_rules::run_size(kp),
+            pending: false,
+        };
+    }
+    let zeros = bits::reader::top(bits::reader::behind_first(a), k);
+    SrlReader {
+        read: n + 1 + k as usize,
+        kp: srl_rules::lowered(kp),
+        run: zeros as usize,
+        pending: true,
+    }
+}
+
+// The nonzero value behind `n` bits.
+pub fn nonzero_at(src: &[u8], n: usize, num_bits: u8) -> NonzeroAt
+    requires { ⌜ (n < 2 ^ 62) × Width «num_bits» ⌝ }
+    ensures { λ r. ⌜ (r .negative ≡ bitAt (now (src .entry)) n) × (r .magnitude ≡ zeros (now (src .entry)) (n + 1) (mostZeros «num_bits») + 1) × (r .next ≡ behind (now (src .entry)) n «num_bits») ⌝ }
+{
+    let a = bits::reader::ahead_at(src, n);
+    let limit = (srl_rules::max_magnitude(num_bits) - 1) as u32;
+    let zeros = bits::reader::zeros_behind_first(src, bits::reader::place(n), a, limit);
+    let taken = bits::reader::zeros_length(zeros, limit);
+    NonzeroAt {
+        magnitude: (zeros + 1) as u16,
+        negative: 0x8000_0000_0000_0000 <= a,
+        next: n + 1 + taken as usize,
+    }
+}
+
+// The zeros that code words 0 bring while kp rises to `x`, and two more.
+fn below(x: u8) -> usize
+    requires { ⌜ x ≤ 80 ⌝ }
+    ensures { λ r. ⌜ r ≡ below x ⌝ }
+{
+    ((2 + (x / 4) % 2) as usize) << (x / 8)
+}
+
+// The next code words: those up to a nonzero value where it is among the next `left` values, and one where it is not.
+pub fn code_words(src: &[u8], n: usize, kp: u8, left: usize) -> SrlReader
+    requires { ⌜ (n < 2 ^ 61) × (kp ≤ 80) × (1 ≤ left) ⌝ }
+    ensures { λ r. ⌜ Same (now (src .entry)) left (reader n kp 0 false) (readerOf r) × Brought n left r ⌝ }
+{
+    let a = bits::reader::ahead_at(src, n);
+    let c = bits::reader::leading(a);
+    if 20 < c {
+        return code_at(src, n, kp);
+    }
+    let high = kp + 4 * c as u8;
+    if 80 < high {
+        return code_at(src, n, kp);
+    }
+    let k = high / 8;
+    let last = bits::reader::top(bits::reader::behind(a, c + 1), k) as usize;
+    let zeros = below(high) - below(kp) + last;
+    if left <= zeros {
+        return code_at(src, n, kp);
+    }
+    SrlReader {
+        read: n + c as usize + 1 + k as usize,
+        kp: srl_rules::lowered(high),
+        run: zeros,
+        pending: true,
     }
 }
 
