@@ -161,3 +161,21 @@ band-within e b = pick (ltb b 10) refl
     pick : (q : Bool) → ltb b 10 ≡ q → bandAt e b .offset + countOf (bandAt e b) ≤ 4096
     pick true q = ends-within 0 (layout e) 4096 b (layout-laid e) (ten-more e (ltb-true b 10 q))
     pick false q = rw (← no-band e b (ltb-false b 10 q)) (omega arith)
+
+-- ---- a band has at most 1024 places
+
+abbrev small : List BandInfo → Bool
+small [] = true
+small (i ∷ is) = leb (countOf i) 1024 && small is
+
+both-small : T (small (layout true) && small (layout false))
+both-small = tt
+
+small-at : (l : List BandInfo) (b : ℕ) → T (small l) → countOf (getD l b none) ≤ 1024
+small-at [] b t = omega arith
+small-at (i ∷ is) zero t = leb→le (countOf i) 1024 (and-yes (leb (countOf i) 1024) (small is) t .0)
+small-at (i ∷ is) (suc b) t = small-at is b (and-yes (leb (countOf i) 1024) (small is) t .1)
+
+pub band-small : (e : Bool) (b : ℕ) → countOf (bandAt e b) ≤ 1024
+band-small true b = small-at (layout true) b (and-yes (small (layout true)) (small (layout false)) both-small .0)
+band-small false b = small-at (layout false) b (and-yes (small (layout true)) (small (layout false)) both-small .1)

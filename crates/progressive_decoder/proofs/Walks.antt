@@ -1,50 +1,20 @@
--- The walk of a pass, for every list of steps: one place more, a part of the places more, and what it gives, which is what `Upgrade` says.
-use mathlib.Core.Path.{_≡_, refl, sym, ap, ap₂, _∙_}
+-- The walk of a pass, for every list of steps: a part of the places more, and what it gives, which is what `Upgrade` says.
+use mathlib.Core.Path.{_≡_, refl, ap, _∙_}
 use mathlib.Core.List.{List, [], _∷_, _++_}
-use Prim.Native.Nat.{ℕ, zero, suc, _+_, _≤_, _<_}
+use Prim.Native.Nat.{ℕ, zero, suc, _+_, _≤_}
 use native.Mathlib.Omega.{arith}
 use borrow.Rule.Slice.PartMut.{putMid, midOf}
 use lib.IntN.{ℤ}
-use lib.ListN.{length, replicate, length-replicate, replicate-append-replicate}
-use Rattle.bits.specs.Bits.{num, numbers, bitsRead}
-use Rattle.bits.proofs.Places.{read-place}
+use lib.ListN.{length, replicate}
+use Rattle.bits.specs.Bits.{num, numbers}
 use Rattle.srl_decoder.specs.Srl.{Reader, nextValue, nextReader, values}
-use Rattle.srl_decoder.specs.Decode.{opened}
-use Rattle.srl_rules.specs.Rules.{Width}
-use Rattle.srl_decoder.specs.Inner.{shut}
-use Rattle.srl_decoder.specs.declared.SrlState.{SrlState}
-use Rattle.srl_decoder.proofs.Codes.{next-near}
-use Rattle.srl_rules.proofs.Widths.{pow-high}
 use Rattle.upgrade_steps.specs.Steps.{Step, Source, skipped, srl, raw, source, srlWidth, srlWidths, rawWidth, rawWidths}
 use Rattle.progressive_decoder.specs.Upgrade.{srlCoefficient, srlSign, adds, rawCoefficient, signThen, signsAfter, coefficientThen, coefficientsAfter}
-use Rattle.progressive_decoder.specs.Walk.{Walked, walked, coefficientAt, signAt, readerAt, countAt, onto, walk, stepped, Early}
+use Rattle.progressive_decoder.specs.Walk.{Walked, walked, coefficientAt, signAt, readerAt, countAt, onto, walk, Early}
 use Rattle.progressive_decoder.specs.declared.upgrade.Readers.{Readers}
 use Rattle.upgrade_steps.proofs.Sources.{source-none}
 
 module _ (s d : List ℕ) where
-  -- ════ one place more ════
-
-  pub walk-next : (ts : List Step) (t : Step) (cs ss : List ℤ) (r : Reader) (n : ℕ) → length ts < length cs → length ts < length ss
-      → walk s d (ts ++ (t ∷ [])) cs ss r n ≡ stepped s d t (length ts) (walk s d ts cs ss r n)
-  unfolding walk
-  walk-next [] t [] ss r n h k = absurd (omega arith)
-  walk-next [] t (c ∷ cs) [] r n h k = absurd (omega arith)
-  walk-next [] t (c ∷ cs) (x ∷ ss) r n h k = refl
-  walk-next (u ∷ us) t [] ss r n h k = absurd (omega arith)
-  walk-next (u ∷ us) t (c ∷ cs) [] r n h k = absurd (omega arith)
-  walk-next (u ∷ us) t (c ∷ cs) (x ∷ ss) r n h k =
-      let o = source u x in
-      ap (onto (coefficientAt s d u o c x r n) (signAt s d u o x r)) (walk-next us t cs ss (readerAt s d u o r) (countAt s d u o n) (omega arith) (omega arith))
-
-  -- the same of places that all have one step
-  pub walk-turn : (t : Step) (i : ℕ) (cs ss : List ℤ) (r : Reader) (n : ℕ) (w : Walked) → i < length cs → i < length ss → walk s d (replicate i t) cs ss r n ≡ w
-      → walk s d (replicate (i + 1) t) cs ss r n ≡ stepped s d t i w
-  walk-turn t i cs ss r n w h k e =
-      let l = length-replicate i t in
-      ap (λ (ts : List Step). walk s d ts cs ss r n) (sym (replicate-append-replicate i 1 t))
-      ∙ walk-next (replicate i t) t cs ss r n (omega (arith, l)) (omega (arith, l))
-      ∙ ap₂ (stepped s d t) l e
-
   -- a band of width 0 is skipped
   pub walk-skipped : (t : Step) (k : ℕ) (cs ss : List ℤ) (r : Reader) (n : ℕ) → t .width ≡ 0 → walk s d (replicate k t) cs ss r n ≡ walked cs ss r n
   unfolding walk
@@ -119,25 +89,6 @@ module _ (s d : List ℕ) where
   walk-coefficients (t ∷ ts) (c ∷ cs) (x ∷ ss) r n =
       coefficient-is (source t x) t c x r n (srlWidths ts ss) (rawWidths ts ss) (coefficientsAfter ts cs ss) (λ r n. walk s d ts cs ss r n .coefficients) (walk-coefficients ts cs ss)
 
--- ════ how far the readers go at a place ════
-
--- an SRL value
-pub early-srl : (s : List ℕ) (w : ℕ) (r : Readers) (st : SrlState) (m : ℕ) → Width w → st ≡ shut (nextReader s w (opened (r .srl))) → Early r m → Early (record { srl = st; raw = r .raw }) (m + 40000)
-early-srl s w r st m h e y =
-    let next = nextReader s w (opened (r .srl)) in
-    let near = next-near s w (opened (r .srl)) (y .kp) in
-    let read : bitsRead (st .reader) ≡ next .read = ap (λ (q : SrlState). bitsRead (q .reader)) e ∙ read-place (next .read) in
-    record {
-      place = omega (arith, ap (λ (q : SrlState). q .reader .«bit_idx») e);
-      kp = omega (arith, ap (λ (q : SrlState). q .kp) e, near .1);
-      srl-read = omega (arith, read, near .0, pow-high w h, y .srl-read);
-      raw-read = omega (arith, y .raw-read);
-    }
-
--- raw bits
-pub early-raw : (w : ℕ) (r : Readers) (m : ℕ) → Width w → Early r m → Early (record { srl = r .srl; raw = r .raw + w }) (m + 40000)
-early-raw w r m h y = record { place = y .place; kp = y .kp; srl-read = omega (arith, y .srl-read); raw-read = omega (arith, h .1, y .raw-read) }
-
--- none
+-- a band that is skipped leaves the readers where they are
 pub early-on : (r : Readers) (m k : ℕ) → Early r m → Early r (m + k)
 early-on r m k y = record { place = y .place; kp = y .kp; srl-read = omega (arith, y .srl-read); raw-read = omega (arith, y .raw-read) }

@@ -1,14 +1,15 @@
 -- For the inner functions of the reader: a pass as one walk over the places, with both streams' readers. It gives what `Upgrade` says
 -- (proofs/Walks.antt), where all SRL values are read before the first raw bit: the two streams do not touch each other.
-use mathlib.Core.Bool.{Bool}
-use mathlib.Core.List.{List, [], _∷_}
-use Prim.Native.Nat.{ℕ, _+_, _≤_}
-use lib.IntN.{ℤ, pos}
-use lib.ListN.{getD, set}
+use mathlib.Core.Path.{_≡_}
+use mathlib.Core.Bool.{Bool, true, false, cond, not}
+use mathlib.Core.List.{List, [], _∷_, map}
+use Prim.Native.Nat.{ℕ, suc, _+_, _-_, _≤_, _<_}
+use lib.IntN.{ℤ, pos, negsuc}
+use lib.ListN.{getD, set, take}
 use Rattle.bits.specs.Bits.{num, bitsRead}
 use Rattle.srl_decoder.specs.Srl.{Reader, nextValue, nextReader}
 use Rattle.srl_decoder.specs.Decode.{opened}
-use Rattle.upgrade_steps.specs.Steps.{Step, Source, skipped, srl, raw, source}
+use Rattle.upgrade_steps.specs.Steps.{Step, Source, skipped, srl, raw, source, fromSrl}
 use Rattle.progressive_decoder.specs.Upgrade.{srlCoefficient, srlSign, adds, rawCoefficient}
 use Rattle.progressive_decoder.specs.declared.upgrade.Readers.{Readers}
 
@@ -76,21 +77,43 @@ steppedFrom o srlData rawData t i w =
     (readerAt srlData rawData t o (w .srl))
     (countAt srlData rawData t o (w .raw))
 
--- the same, where the sign says where the value comes from
-abbrev pub stepped : List ℕ → List ℕ → Step → ℕ → Walked → Walked
-stepped srlData rawData t i w = steppedFrom (source t (getD (w .sign) i (pos 0))) srlData rawData t i w
+-- ════ a band by two lists of its places ════
+
+-- the places of some signs that have a property, in order
+unfoldable pub placesOf : (ℤ → Bool) → List ℤ → List ℕ
+placesOf f [] = []
+placesOf f (s ∷ ss) = cond (f s) (0 ∷ map suc (placesOf f ss)) (map suc (placesOf f ss))
+
+-- the places that have an SRL value, and the others, in a band that is not skipped
+abbrev pub srlPlaces : Step → List ℤ → List ℕ
+srlPlaces t ss = placesOf (fromSrl t) ss
+
+abbrev pub rawPlaces : Step → List ℤ → List ℕ
+rawPlaces t ss = placesOf (λ s. not (fromSrl t s)) ss
+
+-- the first i places, n of them with an SRL value, stand in two lists
+pub record Split (t : Step) (ss : List ℤ) (i n : ℕ) (zeros others : List ℕ) : Type 0 where
+  pub few : n ≤ i
+  pub srl : take n zeros ≡ srlPlaces t (take i ss)
+  pub raw : take (i - n) others ≡ rawPlaces t (take i ss)
+
+-- a walk's slices and readers once the places of a list, whose values come from o, have had their step, one after another
+unfoldable pub over : Source → List ℕ → List ℕ → Step → List ℕ → Walked → Walked
+over o srlData rawData t [] w = w
+over o srlData rawData t (i ∷ is) w = over o srlData rawData t is (steppedFrom o srlData rawData t i w)
+
+-- the first n numbers of a list are places of a slice
+abbrev pub Within : List ℕ → ℕ → ℕ → Type 0
+Within list n len = (j : ℕ) → j < n → getD list j 0 < len
+
+-- the sign that a nonzero value sets
+abbrev pub signBy : Bool → ℤ
+signBy true = negsuc 0
+signBy false = pos 1
 
 -- the slices and the readers of the code, as a walk gives them
 abbrev pub reached : List ℤ → List ℤ → Readers → Walked
 reached cs ss r = walked cs ss (opened (r .srl)) (r .raw)
-
--- the readers by their parts
-abbrev pub readersOf : ℕ → ℕ → ℕ → ℕ → Bool → ℕ → Readers
-readersOf byte bit kp run pending n =
-    record {
-      srl = record { reader = record { «byte_idx» = byte; «bit_idx» = bit }; kp = kp; «zero_run_remaining» = run; «nonzero_pending» = pending };
-      raw = n;
-    }
 
 -- the readers can go on, with at most m bits read of each stream
 pub record Early (r : Readers) (m : ℕ) : Type 0 where

@@ -1,19 +1,18 @@
-// The reader of a pass: one walk over the places, band by band, with a reader for each stream.
+// The reader of a pass: band by band, with a reader for each stream. A band's places are split into those that have an SRL value and the others.
 ghost use mathlib.Core.Path.{_≡_};
-ghost use mathlib.Core.Bool.{true, false};
-ghost use Prim.Native.Nat.{ℕ, _+_, _*_, _^_, _≤_, _<_};
-ghost use lib.IntN.{pos};
-ghost use lib.ListN.{length, getD, set, replicate};
-ghost use Rattle.bits.specs.Bits.{num};
-ghost use Rattle.srl_decoder.specs.Srl.{nextValue, nextReader, start};
+ghost use mathlib.Core.Bool.{true, cond};
+ghost use mathlib.Core.List.{List};
+ghost use Prim.Native.Nat.{ℕ, _+_, _*_, _^_, _≤_};
+ghost use lib.ListN.{length, take, replicate};
+ghost use Rattle.bits.specs.Bits.{bitsRead};
+ghost use Rattle.bits.specs.Words.{Top};
+ghost use Rattle.srl_decoder.specs.Srl.{Reader, start};
 ghost use Rattle.srl_decoder.specs.Decode.{opened};
-ghost use Rattle.srl_decoder.specs.Inner.{Sound, shut};
 ghost use Rattle.srl_rules.specs.Rules.{Width};
-ghost use Rattle.fixed.specs.Fixed.{isZero};
 ghost use Rattle.bands.specs.Positions.{rowInDomain};
-ghost use Rattle.upgrade_steps.specs.Steps.{steps, bandStep};
-ghost use Rattle.progressive_decoder.specs.Upgrade.{srlCoefficient, srlSign, adds, rawCoefficient, upgradedCoefficients, upgradedSigns};
-ghost use Rattle.progressive_decoder.specs.Walk.{walk, stepped, reached, readersOf, Early};
+ghost use Rattle.upgrade_steps.specs.Steps.{steps, bandStep, fromSrl, srl, raw};
+ghost use Rattle.progressive_decoder.specs.Upgrade.{adds, rawCoefficient, upgradedCoefficients, upgradedSigns};
+ghost use Rattle.progressive_decoder.specs.Walk.{walked, walk, over, reached, signBy, Within, Split, Early};
 
 // A reader for each stream: the SRL decoder's state, and the count of raw bits read.
 pub struct Readers {
@@ -23,69 +22,16 @@ pub struct Readers {
 
 // ---- one place
 
-// The coefficient after a nonzero SRL value.
-fn srl_coefficient(c: i16, value: i16, position: u8) -> i16
-    requires { ⌜ isZero value ≡ false ⌝ }
-    ensures { λ r. ⌜ r ≡ srlCoefficient position value c ⌝ }
+// The coefficient with `m` times 2 to the `position` added or subtracted. Both are worked out, since no branch can foretell which it is.
+fn moved(c: i16, m: u16, position: u8, adds: bool) -> i16
+    ensures { λ r. ⌜ r ≡ rawCoefficient adds position m c ⌝ }
 {
-    let m = fixed::magnitude(value);
-    if fixed::is_negative(value) {
-        return fixed::sub_scaled(c, m, position);
-    }
-    fixed::add_scaled(c, m, position)
-}
-
-// A zero sign outside the bottom: a nonzero SRL value is added and sets the sign.
-fn srl_place(
-    srl_data: &[u8],
-    st: srl_decoder::SrlState,
-    t: upgrade_steps::BandStep,
-    i: usize,
-    coefficients: &mut [i16],
-    sign: &mut [i8],
-) -> srl_decoder::SrlState
-    requires { ⌜ Sound st × Width (t .width) × (i < length (now coefficients)) × (i < length (now sign)) ⌝ }
-    ensures { λ r. ⌜ (r ≡ shut (nextReader (now («srl_data» .entry)) (t .width) (opened st))) × (now (coefficients .exit) ≡ set (now (coefficients .entry)) i (srlCoefficient (t .position) (nextValue (now («srl_data» .entry)) (t .width) (opened st)) (getD (now (coefficients .entry)) i (pos 0)))) × (now (sign .exit) ≡ set (now (sign .entry)) i (srlSign (nextValue (now («srl_data» .entry)) (t .width) (opened st)) (getD (now (sign .entry)) i (pos 0)))) ⌝ }
-{
-    let next = srl_decoder::decoder::next_value(srl_data, st, t.width);
-    let value = next.value;
-    let state = next.state;
-    if fixed::is_zero(value) {
-        return state;
-    }
-    let c = coefficients[i];
-    coefficients[i] = srl_coefficient(c, value, t.position);
-    sign[i] = fixed::sign_of(value);
-    state
-}
-
-// The raw bits of a place, as a number.
-fn raw_number(raw_data: &[u8], at: usize, width: u8) -> u16
-    requires { ⌜ Width width ⌝ }
-    ensures { λ r. ⌜ r ≡ num (now («raw_data» .entry)) at width ⌝ }
-{
-    bits::reader::number(raw_data, bits::reader::place(at), width) as u16
-}
-
-// Any other sign, or the bottom: raw bits are added or subtracted.
-fn raw_place(
-    raw_data: &[u8],
-    at: usize,
-    t: upgrade_steps::BandStep,
-    adds: bool,
-    i: usize,
-    coefficients: &mut [i16],
-)
-    requires { ⌜ Width (t .width) × (i < length (now coefficients)) ⌝ }
-    ensures { λ _. ⌜ now (coefficients .exit) ≡ set (now (coefficients .entry)) i (rawCoefficient adds (t .position) (num (now («raw_data» .entry)) at (t .width)) (getD (now (coefficients .entry)) i (pos 0))) ⌝ }
-{
-    let m = raw_number(raw_data, at, t.width);
-    let c = coefficients[i];
+    let sum = fixed::add_scaled(c, m, position);
+    let difference = fixed::sub_scaled(c, m, position);
     if adds {
-        coefficients[i] = fixed::add_scaled(c, m, t.position);
-        return;
+        return sum;
     }
-    coefficients[i] = fixed::sub_scaled(c, m, t.position);
+    difference
 }
 
 // Whether raw bits are added.
@@ -98,61 +44,149 @@ fn adds_raw(t: upgrade_steps::BandStep, s: i8) -> bool
     fixed::is_positive_sign(s)
 }
 
-// One place of a band that is not skipped.
-fn upgrade_place(
-    srl_data: &[u8],
-    raw_data: &[u8],
-    t: upgrade_steps::BandStep,
-    from: Readers,
-    i: usize,
-    coefficients: &mut [i16],
-    sign: &mut [i8],
-) -> Readers
-    requires { ⌜ Width (t .width) × Early from (2 ^ 41) × (i < length (now coefficients)) × (i < length (now sign)) ⌝ }
-    ensures { λ r. ⌜ (reached (now (coefficients .exit)) (now (sign .exit)) r ≡ stepped (now («srl_data» .entry)) (now («raw_data» .entry)) (bandStep t) i (reached (now (coefficients .entry)) (now (sign .entry)) from)) × ((m : ℕ) → Early from m → Early r (m + 40000)) ⌝ }
+// The sign that a nonzero value sets.
+fn sign_by(negative: bool) -> i8
+    ensures { λ r. ⌜ r ≡ signBy negative ⌝ }
 {
-    let s = sign[i];
-    let state = from.srl;
-    let at = from.raw;
+    if negative {
+        return -1;
+    }
+    1
+}
+
+// ---- a band's places in two lists
+
+// 1 where the place has an SRL value, and 0 where it has none.
+fn srl_count(t: upgrade_steps::BandStep, s: i8) -> usize
+    ensures { λ r. ⌜ r ≡ cond (fromSrl (bandStep t) s) 1 0 ⌝ }
+{
     if upgrade_steps::from_srl(t, s) {
-        return Readers {
-            srl: srl_place(srl_data, state, t, i, coefficients, sign),
-            raw: at,
+        return 1;
+    }
+    0
+}
+
+// Puts the places that have an SRL value into `zeros`, and the others into `others`; how many have one.
+fn split(
+    t: upgrade_steps::BandStep,
+    sign: &[i8],
+    zeros: &mut [u16],
+    others: &mut [u16],
+) -> usize
+    requires { ⌜ (length (now sign) ≤ 1024) × (length (now sign) ≤ length (now zeros)) × (length (now sign) ≤ length (now others)) ⌝ }
+    ensures { λ r. ⌜ Split (bandStep t) (now (sign .entry)) (length (now (sign .entry))) r (now (zeros .exit)) (now (others .exit)) ⌝ }
+{
+    let mut n: usize = 0;
+    let mut i: usize = 0;
+    while i < sign.len() {
+        zeros[n] = i as u16;
+        others[i - n] = i as u16;
+        n += srl_count(t, sign[i]);
+        i += 1;
+    }
+    n
+}
+
+// ---- the lists, read
+
+// The next bits of a stream at the top of a word, and how many they are.
+pub struct Word {
+    pub bits: u64,
+    pub count: usize,
+}
+
+// The word, or where it has fewer than `width` bits those that the stream has from `at` on.
+fn refill(raw_data: &[u8], at: usize, bits: u64, count: usize, width: u8) -> Word
+    requires { ⌜ (width ≤ 15) × Top count bits (now «raw_data») at ⌝ }
+    ensures { λ r. ⌜ Top (r .count) (r .bits) (now («raw_data» .entry)) at × (width ≤ r .count) ⌝ }
+{
+    if count < width as usize {
+        return Word {
+            bits: bits::reader::ahead_at(raw_data, at),
+            count: 64 - at % 8,
         };
     }
-    raw_place(raw_data, at, t, adds_raw(t, s), i, coefficients);
-    Readers {
-        srl: state,
-        raw: at + t.width as usize,
+    Word { bits, count }
+}
+
+// The raw bits of the first `n` places of a list; the count of bits read then.
+fn raw_list(
+    raw_data: &[u8],
+    from: usize,
+    t: upgrade_steps::BandStep,
+    list: &[u16],
+    n: usize,
+    coefficients: &mut [i16],
+    sign: &[i8],
+) -> usize
+    requires { ⌜ Width (t .width) × (from ≤ 2 ^ 60) × (n ≤ 1024) × (n ≤ length (now list)) × Within (now list) n (length (now coefficients)) × (length (now sign) ≡ length (now coefficients)) ⌝ }
+    ensures { λ r. ⌜ ((s : List ℕ) (q : Reader) → over raw s (now («raw_data» .entry)) (bandStep t) (take n (now (list .entry))) (walked (now (coefficients .entry)) (now (sign .entry)) q from) ≡ walked (now (coefficients .exit)) (now (sign .entry)) q r) ⌝ }
+{
+    let width = t.width;
+    let mut at = from;
+    let mut bits: u64 = 0;
+    let mut count: usize = 0;
+    let mut j: usize = 0;
+    while j < n {
+        let word = refill(raw_data, at, bits, count, width);
+        let m = bits::reader::top(word.bits, width) as u16;
+        bits = bits::reader::behind(word.bits, width as u32);
+        count = word.count - width as usize;
+        at += width as usize;
+        let i = list[j] as usize;
+        let c = coefficients[i];
+        coefficients[i] = moved(c, m, t.position, adds_raw(t, sign[i]));
+        j += 1;
+    }
+    at
+}
+
+// The SRL values of the first `n` places of a list. `j` is the place of the next nonzero value, or of the next code word: it may lie past the list.
+fn srl_list(
+    srl_data: &[u8],
+    from: srl_decoder::SrlState,
+    t: upgrade_steps::BandStep,
+    list: &[u16],
+    n: usize,
+    coefficients: &mut [i16],
+    sign: &mut [i8],
+) -> srl_decoder::SrlState
+    requires { ⌜ Width (t .width) × (from .reader .«bit_idx» ≤ 7) × (from .kp ≤ 80) × (bitsRead (from .reader) ≤ 2 ^ 41) × (n ≤ 1024) × (n ≤ length (now list)) × Within (now list) n (length (now coefficients)) × (length (now sign) ≡ length (now coefficients)) ⌝ }
+    ensures { λ r. ⌜ ((d : List ℕ) (m : ℕ) → over srl (now («srl_data» .entry)) d (bandStep t) (take n (now (list .entry))) (walked (now (coefficients .entry)) (now (sign .entry)) (opened from) m) ≡ walked (now (coefficients .exit)) (now (sign .exit)) (opened r) m) × (r .reader .«bit_idx» ≤ 7) ⌝ }
+{
+    let mut at = bits::reader::count_of(from.reader);
+    let mut kp = from.kp;
+    let mut pending = from.nonzero_pending;
+    let mut j = from.zero_run_remaining;
+    while j < n {
+        if pending {
+            let v = srl_decoder::decoder::nonzero_at(srl_data, at, t.width);
+            let i = list[j] as usize;
+            let c = coefficients[i];
+            coefficients[i] = moved(c, v.magnitude, t.position, !v.negative);
+            sign[i] = sign_by(v.negative);
+            at = v.next;
+            pending = false;
+            j += 1;
+        } else {
+            let next = srl_decoder::decoder::code_words(srl_data, at, kp, n - j);
+            at = next.read;
+            kp = next.kp;
+            pending = next.pending;
+            j += next.run;
+        }
+    }
+    srl_decoder::SrlState {
+        reader: bits::reader::place(at),
+        kp,
+        zero_run_remaining: j - n,
+        nonzero_pending: pending,
     }
 }
 
 // ---- a band
 
-// The readers by their parts.
-fn readers_of(
-    byte_idx: usize,
-    bit_idx: u8,
-    kp: u8,
-    run: usize,
-    pending: bool,
-    raw: usize,
-) -> Readers
-    ensures { λ r. ⌜ r ≡ readersOf «byte_idx» «bit_idx» kp run pending raw ⌝ }
-{
-    Readers {
-        srl: srl_decoder::SrlState {
-            reader: bits::reader::BitReader { byte_idx, bit_idx },
-            kp,
-            zero_run_remaining: run,
-            nonzero_pending: pending,
-        },
-        raw,
-    }
-}
-
-// All places of a band that is not skipped. The loop keeps the readers' parts: a struct that went round with it would have its padding
-// copied in each turn, which costs more than all the rest.
+// All places of a band that is not skipped: the raw ones, and then the SRL ones. So neither loop has to ask at a place what it is.
 fn upgrade_band(
     srl_data: &[u8],
     raw_data: &[u8],
@@ -160,33 +194,17 @@ fn upgrade_band(
     from: Readers,
     coefficients: &mut [i16],
     sign: &mut [i8],
+    zeros: &mut [u16],
+    others: &mut [u16],
 ) -> Readers
-    requires { ⌜ Width (t .width) × Early from (2 ^ 40) × (length (now sign) ≡ length (now coefficients)) × (length (now coefficients) ≤ 4096) ⌝ }
+    requires { ⌜ Width (t .width) × Early from (2 ^ 40) × (length (now sign) ≡ length (now coefficients)) × (length (now coefficients) ≤ 1024) × (1024 ≤ length (now zeros)) × (1024 ≤ length (now others)) ⌝ }
     ensures { λ r. ⌜ (walk (now («srl_data» .entry)) (now («raw_data» .entry)) (replicate (length (now (coefficients .entry))) (bandStep t)) (now (coefficients .entry)) (now (sign .entry)) (opened (from .srl)) (from .raw) ≡ reached (now (coefficients .exit)) (now (sign .exit)) r) × ((m : ℕ) → Early from m → Early r (m + 40000 * length (now (coefficients .entry)))) ⌝ }
 {
-    let before = from.srl;
-    let start = before.reader;
-    let mut byte_idx = start.byte_idx;
-    let mut bit_idx = start.bit_idx;
-    let mut kp = before.kp;
-    let mut run = before.zero_run_remaining;
-    let mut pending = before.nonzero_pending;
-    let mut at = from.raw;
-    let mut i: usize = 0;
-    while i < coefficients.len() {
-        let cur = readers_of(byte_idx, bit_idx, kp, run, pending, at);
-        let next = upgrade_place(srl_data, raw_data, t, cur, i, coefficients, sign);
-        let state = next.srl;
-        let place = state.reader;
-        byte_idx = place.byte_idx;
-        bit_idx = place.bit_idx;
-        kp = state.kp;
-        run = state.zero_run_remaining;
-        pending = state.nonzero_pending;
-        at = next.raw;
-        i += 1;
-    }
-    readers_of(byte_idx, bit_idx, kp, run, pending, at)
+    let state = from.srl;
+    let n = split(t, sign, zeros, others);
+    let raw = raw_list(raw_data, from.raw, t, others, sign.len() - n, coefficients, sign);
+    let srl = srl_list(srl_data, state, t, zeros, n, coefficients, sign);
+    Readers { srl, raw }
 }
 
 // A band: of width 0 it is skipped.
@@ -197,14 +215,16 @@ fn one_band(
     from: Readers,
     coefficients: &mut [i16],
     sign: &mut [i8],
+    zeros: &mut [u16],
+    others: &mut [u16],
 ) -> Readers
-    requires { ⌜ (t .width ≤ 15) × Early from (2 ^ 40) × (length (now sign) ≡ length (now coefficients)) × (length (now coefficients) ≤ 4096) ⌝ }
+    requires { ⌜ (t .width ≤ 15) × Early from (2 ^ 40) × (length (now sign) ≡ length (now coefficients)) × (length (now coefficients) ≤ 1024) × (1024 ≤ length (now zeros)) × (1024 ≤ length (now others)) ⌝ }
     ensures { λ r. ⌜ (walk (now («srl_data» .entry)) (now («raw_data» .entry)) (replicate (length (now (coefficients .entry))) (bandStep t)) (now (coefficients .entry)) (now (sign .entry)) (opened (from .srl)) (from .raw) ≡ reached (now (coefficients .exit)) (now (sign .exit)) r) × ((m : ℕ) → Early from m → Early r (m + 40000 * length (now (coefficients .entry)))) ⌝ }
 {
     if t.width == 0 {
         return from;
     }
-    upgrade_band(srl_data, raw_data, t, from, coefficients, sign)
+    upgrade_band(srl_data, raw_data, t, from, coefficients, sign, zeros, others)
 }
 
 // ---- all bands
@@ -222,6 +242,8 @@ pub fn upgrade_bands(
     requires { ⌜ (rowInDomain prev ≡ true) × (4096 ≤ length (now coefficients)) × (4096 ≤ length (now sign)) ⌝ }
     ensures { λ _. ⌜ (now (coefficients .exit) ≡ upgradedCoefficients (steps «use_reduce_extrapolate» prev curr) (now («srl_data» .entry)) (now («raw_data» .entry)) (now (coefficients .entry)) (now (sign .entry))) × (now (sign .exit) ≡ upgradedSigns (steps «use_reduce_extrapolate» prev curr) (now («srl_data» .entry)) (now (sign .entry))) ⌝ }
 {
+    let mut zeros: [u16; 1024] = [0; 1024];
+    let mut others: [u16; 1024] = [0; 1024];
     let mut readers = Readers {
         srl: srl_decoder::SrlState::new(),
         raw: 0,
@@ -239,6 +261,8 @@ pub fn upgrade_bands(
             readers,
             &mut coefficients[from..to],
             &mut sign[from..to],
+            &mut zeros,
+            &mut others,
         );
         b += 1;
     }

@@ -93,8 +93,12 @@ length-le s n l = by (ltb (zeros s n l) l) refl
     by true e = omega (arith, ltb-true (zeros s n l) l e)
     by false e = omega arith
 
+-- how far a nonzero value goes
+pub behind-near : (s : List ℕ) (n w : ℕ) → behind s n w ≤ n + 1 + 2 ^ w
+behind-near s n w = omega (arith, length-le s (n + 1) (mostZeros w))
+
 past-near : (s : List ℕ) (w n kp run : ℕ) (pending : Bool) → past s w n kp run pending .read ≤ n + 1 + 2 ^ w
-past-near s w n kp zero pending = omega (arith, length-le s (n + 1) (mostZeros w))
+past-near s w n kp zero pending = behind-near s n w
 past-near s w n kp (suc run) pending = omega arith
 
 -- how far a value goes: a code word and a nonzero value at most

@@ -1,70 +1,81 @@
--- `progressive_decoder::upgrade::upgrade_band` meets its contract: after i turns both slices and both readers are those of a walk over i places. Assumes nothing.
-use mathlib.Core.Path.{_≡_, refl, sym, ap, _∙_, subst}
-use Prim.Native.Nat.{ℕ, _+_, _-_, _*_, _^_, _≤_}
-use native.Mathlib.Nat.{add-zero}
+-- `progressive_decoder::upgrade::upgrade_band` meets its contract: its raw places and then its SRL places are all places. Assumes nothing.
+use mathlib.Core.Path.{_≡_, sym, ap, ap₂, _∙_, subst}
+use mathlib.Core.Bool.{not}
+use mathlib.Core.List.{List}
+use Prim.Native.Nat.{ℕ, _+_, _-_, _*_, _≤_, _<_}
 use native.Mathlib.Omega.{arith}
-use lib.ListN.{length, replicate}
+use lib.ListN.{length, getD, take, replicate}
 use Rattle.srl_decoder.specs.Decode.{opened}
-use Rattle.progressive_decoder.specs.declared.upgrade.Readers.{Readers}
-use Rattle.progressive_decoder.specs.Walk.{walk, stepped, reached, readersOf, Early}
-use Rattle.upgrade_steps.specs.Steps.{bandStep}
-use Rattle.progressive_decoder.proofs.Walks.{walk-turn}
+use Rattle.upgrade_steps.specs.Steps.{bandStep, fromSrl, srl, raw}
+use Rattle.progressive_decoder.specs.Walk.{Walked, walked, walk, over, reached, srlPlaces, rawPlaces}
+use Rattle.progressive_decoder.proofs.Listed.{Near, walk-listed, walk-near}
+use Rattle.progressive_decoder.proofs.Places.{split-whole, list-within}
 use borrow.Author.Needs.{needs}
 use Rattle.progressive_decoder.proofs.upgrade.upgrade_band.Statement.{statement}
 use Rattle.progressive_decoder.proofs.upgrade.upgrade_band.Tie as tie
 
-abbrev Inv-loop : tie.InvT-loop
-Inv-loop srl-data raw-data t coefficients₀ sign₀ byte-idx₀ bit-idx₀ kp₀ run₀ pending₀ at₀ i₀ coefficients sign byte-idx bit-idx kp run pending at i =
-    (i ≤ length coefficients₀) × (length coefficients ≡ length coefficients₀) × (length sign ≡ length sign₀)
-    × (walk srl-data raw-data (replicate i (bandStep t)) coefficients₀ sign₀ (opened (readersOf byte-idx₀ bit-idx₀ kp₀ run₀ pending₀ at₀ .srl)) at₀ ≡ reached coefficients sign (readersOf byte-idx bit-idx kp run pending at))
-    × ((m : ℕ) → Early (readersOf byte-idx₀ bit-idx₀ kp₀ run₀ pending₀ at₀) m → Early (readersOf byte-idx bit-idx kp run pending at) (m + 40000 * i))
+-- the lists hold the places
+listed : (c : tie.After-split)
+    → (take (c .split .result) (c .split .last .1 .1 .0) ≡ srlPlaces (bandStep (c .before .before .before .before .before .before .before .before .before .args .t)) (c .before .before .before .before .before .before .before .before .before .args .sign .now))
+    × (take (length (c .before .before .before .before .before .before .before .before .before .args .sign .now) - c .split .result) (c .split .last .1 .1 .1 .0) ≡ rawPlaces (bandStep (c .before .before .before .before .before .before .before .before .before .args .t)) (c .before .before .before .before .before .before .before .before .before .args .sign .now))
+listed c = split-whole (bandStep (c .before .before .before .before .before .before .before .before .before .args .t)) (c .before .before .before .before .before .before .before .before .before .args .sign .now) (c .split .result) (c .split .last .1 .1 .0) (c .split .last .1 .1 .1 .0) (c .split .ensures)
 
-abbrev μ-loop : tie.MeasureT-loop
-μ-loop srl-data raw-data t coefficients₀ sign₀ byte-idx₀ bit-idx₀ kp₀ run₀ pending₀ at₀ i₀ coefficients sign byte-idx bit-idx kp run pending at i = length coefficients₀ - i
-
-loop-holds : tie.Need-loop-holds Inv-loop μ-loop
-unfolding walk
-loop-holds c = (omega arith, refl, refl, refl, λ m y. subst (Early (c .before .before .before .before .args .from)) (sym (add-zero m)) y)
-
-upgrade-place-requires : tie.Need-upgrade-place-requires Inv-loop μ-loop
-upgrade-place-requires c κs =
+-- and are long enough
+long : (c : tie.After-split) → (c .split .result ≤ length (c .split .last .1 .1 .0)) × (length (c .before .before .before .before .before .before .before .before .before .args .sign .now) - c .split .result ≤ length (c .split .last .1 .1 .1 .0))
+long c =
     let p = c .before .before .before .before .before .before .before .before .before .pre in
-    let l = c .before .before .before .before .loop in
-    let y = l .inv .4 (2 ^ 40) (p .1) in (
+    (omega (arith, c .split .ensures .few, c .split .kept .1 .1 .0, p .2, p .3, p .4), omega (arith, c .split .kept .1 .1 .1 .0, p .2, p .3, p .5))
+
+raw-list-requires : tie.Need-raw-list-requires
+raw-list-requires c κs =
+    let k = c .before .before .before .before .before .before .before .before .before .before .before .before .before .before .before .before in
+    let p = k .pre in
+    let u = c .before .before .before .before .before .before .before in (
       p .0,
-      subst (λ (r : Readers). Early r (2 ^ 41)) (sym (c .before .before .readers-of .ensures)) (record { place = y .place; kp = y .kp; srl-read = omega (arith, y .srl-read, l .inv .0, p .3); raw-read = omega (arith, y .raw-read, l .inv .0, p .3) }),
-      omega arith,
-      omega (arith, l .inv .1, l .inv .2, p .2),
+      omega (arith, p .1 .raw-read),
+      omega (arith, p .2, p .3),
+      long u .1,
+      λ j h. subst (λ n. getD (u .split .last .1 .1 .1 .0) j 0 < n) (p .2) (list-within (λ s. not (fromSrl (bandStep (k .args .t)) s)) (k .args .sign .now) (length (k .args .sign .now) - u .split .result) (u .split .last .1 .1 .1 .0) (long u .1) (listed u .1) j h),
+      p .2,
     )
 
-loop-again : tie.Need-loop-again Inv-loop μ-loop
-loop-again c =
-    let a = c .before .before .before .before .before .before .before .before .before .before .before .before .before .before .args in
-    let p = c .before .before .before .before .before .before .before .before .before .before .before .before .before .before .pre in
-    let l = c .before .before .before .before .before .before .before .before .before .loop in
-    let u = c .before .before .before .before .upgrade-place in
-    let cur = c .before .before .before .before .before .before .before .readers-of .ensures in (
-      omega arith,
-      u .kept .1 .1 .1 .1 .1 .0 ∙ l .inv .1,
-      u .kept .1 .1 .1 .1 .1 .1 .0 ∙ l .inv .2,
-      walk-turn (a .srl-data .now) (a .raw-data .now) (bandStep (a .t)) (l .i) (a .coefficients .now) (a .sign .now) (opened (a .from .srl)) (a .from .raw)
-          (reached (l .coefficients) (l .sign) (readersOf (l .byte-idx) (l .bit-idx) (l .kp) (l .run) (l .pending) (l .at))) (omega (arith, l .inv .1)) (omega (arith, l .inv .1, p .2)) (l .inv .3)
-          ∙ sym (u .ensures .0 ∙ ap (λ (r : Readers). stepped (a .srl-data .now) (a .raw-data .now) (bandStep (a .t)) (l .i) (reached (l .coefficients) (l .sign) r)) cur),
-      λ m y. subst (Early (u .result)) {x = m + 40000 * l .i + 40000} {y = m + 40000 * (l .i + 1)} (omega arith)
-          (u .ensures .1 (m + 40000 * l .i) (subst (λ (r : Readers). Early r (m + 40000 * l .i)) (sym cur) (l .inv .4 m y))),
+srl-list-requires : tie.Need-srl-list-requires
+srl-list-requires c κs =
+    let k = c .before .before .before .before .before .before .before .before .before .before .before .before .before .before .before .before .before .before .before .before .before in
+    let p = k .pre in
+    let u = c .before .before .before .before .before .before .before .before .before .before .before .before in
+    let same = c .before .before .before .before .raw-list .kept .1 .1 .1 .1 .1 .0 in (
+      p .0,
+      p .1 .place,
+      p .1 .kp,
+      omega (arith, p .1 .srl-read),
+      omega (arith, u .split .ensures .few, p .2, p .3),
+      long u .0,
+      λ j h. subst (λ n. getD (u .split .last .1 .1 .0) j 0 < n) (p .2 ∙ sym same) (list-within (fromSrl (bandStep (k .args .t))) (k .args .sign .now) (u .split .result) (u .split .last .1 .1 .0) (long u .0) (listed u .0) j h),
+      p .2 ∙ sym same,
     )
 
-returns : tie.Need-returns Inv-loop μ-loop
+returns : tie.Need-returns
 returns c =
-    let a = c .before .before .before .before .before .before .before .args in
-    let l = c .before .before .loop in
-    let e = c .readers-of2 .ensures in
-    let n : l .i ≡ length (a .coefficients .now) = omega (arith, l .inv .1) in (
-      ap (λ k. walk (a .srl-data .now) (a .raw-data .now) (replicate k (bandStep (a .t))) (a .coefficients .now) (a .sign .now) (opened (a .from .srl)) (a .from .raw)) (sym n)
-          ∙ l .inv .3
-          ∙ sym (ap (reached (l .coefficients) (l .sign)) e),
-      λ m y. subst (λ k. Early (c .readers-of2 .result) (m + 40000 * k)) n (subst (λ (r : Readers). Early r (m + 40000 * l .i)) (sym e) (l .inv .4 m y)),
-    )
+    let k = c .before .before .before .before .before .before .before .before .before .before .before .before .before .before .before .before .before .before .before .before .before .before .before .before in
+    let a = k .args in
+    let s = a .srl-data .now in
+    let d = a .raw-data .now in
+    let t = bandStep (a .t) in
+    let cs = a .coefficients .now in
+    let ss = a .sign .now in
+    let r = opened (a .from .srl) in
+    let n = a .from .raw in
+    let first = c .before .before .before .before .before .before .before .raw-list in
+    let last = c .before .before .srl-list in
+    let l = listed (c .before .before .before .before .before .before .before .before .before .before .before .before .before .before .before) in
+    let done : walk s d (replicate (length cs) t) cs ss r n ≡ reached (last .last .1 .1 .1 .1 .1 .0) (last .last .1 .1 .1 .1 .1 .1 .0) (record { srl = last .result; raw = first .result }) =
+    walk-listed s d t cs ss r n (k .pre .0 .0) (k .pre .2)
+    ∙ sym (ap₂ (λ (is os : List ℕ). over srl s d t is (over raw s d t os (walked cs ss r n))) (l .0) (l .1))
+    ∙ ap (over srl s d t _) (first .ensures s r)
+    ∙ last .ensures .0 d (first .result) in
+    let near = subst (λ (w : Walked). Near w (r .read + 40000 * length cs) (n + 40000 * length cs)) done (walk-near s d t (length cs) cs ss r n (k .pre .0) (k .pre .1 .kp)) in
+    (done, λ m y. record { place = last .ensures .1; kp = near .kp; srl-read = omega (arith, near .srl-read, y .srl-read); raw-read = omega (arith, near .raw-read, y .raw-read) })
 
 pub upgrade-band-spec : {M : Type 1} → statement M
-upgrade-band-spec = tie.close (tie.spec Inv-loop μ-loop loop-holds (λ c κs. search needs) upgrade-place-requires (λ c. search needs) (λ c. search needs) loop-again (λ c κs. search needs) (λ c. search needs) (λ c. search needs) returns)
+upgrade-band-spec = tie.close (tie.spec (λ c κs. search needs) (λ c. search needs) raw-list-requires srl-list-requires (λ c. search needs) (λ c. search needs) (λ c. search needs) (λ c. search needs) returns)
