@@ -1,16 +1,19 @@
 -- The places of a band's signs in two lists: one place more, and how many and how large they are.
-use mathlib.Core.Path.{_≡_, refl, sym, ap, ap₂, _∙_}
+use mathlib.Core.Path.{_≡_, refl, sym, ap, ap₂, _∙_, subst}
 use mathlib.Core.Bool.{Bool, true, false, cond, not}
 use mathlib.Core.List.{List, [], _∷_, _++_, map, append-nil}
 use Prim.Native.Nat.{ℕ, zero, suc, _+_, _-_, _≤_, _<_}
 use native.Mathlib.Nat.{add-zero, le-refl}
 use native.Mathlib.Numerals.{add-one}
 use native.Mathlib.Omega.{arith}
+use borrow.Author.Tests.{ltb-true, ltb-false}
+use lib.Dec.{ltb}
 use lib.IntN.{ℤ, pos}
 use lib.ListN.{length, getD, set, take}
 use lib.Seq.{length-take-le, take-length, take-suc, take-suc-set, take-set-le, getD-take}
+use Rattle.fixed.specs.Fixed.{isZero}
 use Rattle.upgrade_steps.specs.Steps.{Step, fromSrl}
-use Rattle.progressive_decoder.specs.Walk.{placesOf, srlPlaces, rawPlaces, Split, Within}
+use Rattle.progressive_decoder.specs.Walk.{placesOf, srlPlaces, rawPlaces, ZeroSigns, Split, Within}
 
 map-append : (a b : List ℕ) → map suc (a ++ b) ≡ map suc a ++ map suc b
 map-append [] b = refl
@@ -55,9 +58,9 @@ split-next t ss i n z zeros others h k l e p =
       few = omega (arith, low (fromSrl t (getD ss i (pos 0))) e, p .few);
       srl = stored (fromSrl t) ss i n z zeros h (omega (arith, p .few)) (p .srl) e;
       raw =
-        let m : i + 1 - (n + z) ≡ i - n + (1 - z) = omega (arith, low (fromSrl t (getD ss i (pos 0))) e, p .few) in
-        ap (λ (j : ℕ). take j (set others (i - n) i)) m
-        ∙ stored (λ s. not (fromSrl t s)) ss i (i - n) (1 - z) others h (omega arith) (p .raw) (other (fromSrl t (getD ss i (pos 0))) e);
+          let m : i + 1 - (n + z) ≡ i - n + (1 - z) = omega (arith, low (fromSrl t (getD ss i (pos 0))) e, p .few) in
+          ap (λ (j : ℕ). take j (set others (i - n) i)) m
+          ∙ stored (λ s. not (fromSrl t s)) ss i (i - n) (1 - z) others h (omega arith) (p .raw) (other (fromSrl t (getD ss i (pos 0))) e);
     }
   where
     low : (b : Bool) → z ≡ cond b 1 0 → z ≤ 1
@@ -67,6 +70,42 @@ split-next t ss i n z zeros others h k l e p =
     other : (b : Bool) → z ≡ cond b 1 0 → 1 - z ≡ cond (not b) 1 0
     other true q = omega arith
     other false q = omega arith
+
+-- one place more whose sign is 0: it goes into one list only
+passed : (f : ℤ → Bool) (ss : List ℤ) (i : ℕ) → i < length ss → f (getD ss i (pos 0)) ≡ false → placesOf f (take i ss) ≡ placesOf f (take (i + 1) ss)
+passed f ss i h e =
+    sym (ap (λ (j : ℕ). placesOf f (take j ss)) (add-one i) ∙ ap (placesOf f) (take-suc ss i (pos 0) h) ∙ places-next f (take i ss) (getD ss i (pos 0))
+    ∙ ap (λ (b : Bool). placesOf f (take i ss) ++ cond b (length (take i ss) ∷ []) []) e ∙ append-nil (placesOf f (take i ss)))
+
+pub split-zero : (t : Step) (ss : List ℤ) (i n : ℕ) (zeros others : List ℕ) → i < length ss → n < length zeros → t .bottom ≡ false → isZero (getD ss i (pos 0)) ≡ true
+    → Split t ss i n zeros others → Split t ss (i + 1) (n + 1) (set zeros n i) others
+split-zero t ss i n zeros others h k b z p =
+    let e : fromSrl t (getD ss i (pos 0)) ≡ true = ap₂ (λ (a c : Bool). cond a false c) b z in
+    record {
+      few = omega (arith, p .few);
+      srl = stored (fromSrl t) ss i n 1 zeros h k (p .srl) (sym (ap (λ (a : Bool). cond a 1 0) e));
+      raw =
+          let m : i + 1 - (n + 1) ≡ i - n = omega arith in
+          ap (λ (j : ℕ). take j others) m ∙ p .raw ∙ passed (λ s. not (fromSrl t s)) ss i h (ap not e);
+    }
+
+-- the same at numbers that are equal
+pub split-at : (t : Step) (ss : List ℤ) (zeros others : List ℕ) {i j n m : ℕ} → i ≡ j → n ≡ m → Split t ss i n zeros others → Split t ss j m zeros others
+split-at t ss zeros others {i} {j} {n} {m} e f p = subst (λ (x : ℕ). Split t ss x m zeros others) e (subst (λ (x : ℕ). Split t ss i x zeros others) f p)
+
+-- signs that are 0, in two parts
+pub zeros-join : (ss : List ℤ) (i k m : ℕ) → ZeroSigns ss i k → ZeroSigns ss (i + k) m → ZeroSigns ss i (k + m)
+zeros-join ss i k m a b j h = by (ltb j k) refl
+  where
+    by : (t : Bool) → ltb j k ≡ t → isZero (getD ss (i + j) (pos 0)) ≡ true
+    by true e = a j (ltb-true j k e)
+    by false e =
+        let l : k ≤ j = ltb-false j k e in
+        let n : i + j ≡ i + k + (j - k) = omega (arith, l) in
+        ap (λ (x : ℕ). isZero (getD ss x (pos 0))) n ∙ b (j - k) (omega (arith, l))
+
+pub zeros-one : (ss : List ℤ) (i : ℕ) → isZero (getD ss i (pos 0)) ≡ true → ZeroSigns ss i 1
+zeros-one ss i e j h = let n : i + j ≡ i = omega arith in ap (λ (x : ℕ). isZero (getD ss x (pos 0))) n ∙ e
 
 -- places lie within the signs
 later : (l : List ℕ) (m j : ℕ) → j < length (map suc l) → ((j : ℕ) → j < length l → getD l j 0 < m) → getD (map suc l) j 0 < suc m

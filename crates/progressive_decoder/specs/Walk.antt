@@ -6,6 +6,7 @@ use mathlib.Core.List.{List, [], _∷_, map}
 use Prim.Native.Nat.{ℕ, suc, _+_, _-_, _≤_, _<_}
 use lib.IntN.{ℤ, pos, negsuc}
 use lib.ListN.{getD, set, take}
+use Rattle.fixed.specs.Fixed.{isZero}
 use Rattle.bits.specs.Bits.{num, bitsRead}
 use Rattle.srl_decoder.specs.Srl.{Reader, nextValue, nextReader}
 use Rattle.srl_decoder.specs.Decode.{opened}
@@ -90,6 +91,10 @@ srlPlaces t ss = placesOf (fromSrl t) ss
 
 abbrev pub rawPlaces : Step → List ℤ → List ℕ
 rawPlaces t ss = placesOf (λ s. not (fromSrl t s)) ss
+
+-- the k signs from place i on are 0
+abbrev pub ZeroSigns : List ℤ → ℕ → ℕ → Type 0
+ZeroSigns ss i k = (j : ℕ) → j < k → isZero (getD ss (i + j) (pos 0)) ≡ true
 
 -- the first i places, n of them with an SRL value, stand in two lists
 pub record Split (t : Step) (ss : List ℤ) (i n : ℕ) (zeros others : List ℕ) : Type 0 where

@@ -1,8 +1,9 @@
 // The reader of a pass: band by band, with a reader for each stream. A band's places are split into those that have an SRL value and the others.
 ghost use mathlib.Core.Path.{_≡_};
-ghost use mathlib.Core.Bool.{true, cond};
+ghost use mathlib.Core.Bool.{true, false, cond, _&&_};
 ghost use mathlib.Core.List.{List};
-ghost use Prim.Native.Nat.{ℕ, _+_, _*_, _^_, _≤_};
+ghost use Prim.Native.Nat.{ℕ, _+_, _*_, _^_, _≤_, _<_};
+ghost use lib.IntN.{ℤ};
 ghost use lib.ListN.{length, take, replicate};
 ghost use Rattle.bits.specs.Bits.{bitsRead};
 ghost use Rattle.bits.specs.Words.{Top};
@@ -10,9 +11,9 @@ ghost use Rattle.srl_decoder.specs.Srl.{Reader, start};
 ghost use Rattle.srl_decoder.specs.Decode.{opened};
 ghost use Rattle.srl_rules.specs.Rules.{Width};
 ghost use Rattle.bands.specs.Positions.{rowInDomain};
-ghost use Rattle.upgrade_steps.specs.Steps.{steps, bandStep, fromSrl, srl, raw};
+ghost use Rattle.upgrade_steps.specs.Steps.{Step, steps, bandStep, fromSrl, srl, raw};
 ghost use Rattle.progressive_decoder.specs.Upgrade.{adds, rawCoefficient, upgradedCoefficients, upgradedSigns};
-ghost use Rattle.progressive_decoder.specs.Walk.{walked, walk, over, reached, signBy, Within, Split, Early};
+ghost use Rattle.progressive_decoder.specs.Walk.{walked, walk, over, reached, signBy, Within, ZeroSigns, Split, Early};
 
 // A reader for each stream: the SRL decoder's state, and the count of raw bits read.
 pub struct Readers {
@@ -66,25 +67,115 @@ fn srl_count(t: upgrade_steps::BandStep, s: i8) -> usize
     0
 }
 
-// Puts the places that have an SRL value into `zeros`, and the others into `others`; how many have one.
-fn split(
+// Puts the places from `from` to `to` into the lists, behind the `count` of `zeros` that are in; how many are in then.
+fn split_places(
     t: upgrade_steps::BandStep,
     sign: &[i8],
+    from: usize,
+    to: usize,
+    count: usize,
     zeros: &mut [u16],
     others: &mut [u16],
 ) -> usize
-    requires { ⌜ (length (now sign) ≤ 1024) × (length (now sign) ≤ length (now zeros)) × (length (now sign) ≤ length (now others)) ⌝ }
-    ensures { λ r. ⌜ Split (bandStep t) (now (sign .entry)) (length (now (sign .entry))) r (now (zeros .exit)) (now (others .exit)) ⌝ }
+    requires { ⌜ Split (bandStep t) (now sign) from count (now zeros) (now others) × (from ≤ to) × (to ≤ length (now sign)) × (length (now sign) ≤ 1024) × (length (now sign) ≤ length (now zeros)) × (length (now sign) ≤ length (now others)) ⌝ }
+    ensures { λ r. ⌜ Split (bandStep t) (now (sign .entry)) to r (now (zeros .exit)) (now (others .exit)) ⌝ }
 {
-    let mut n: usize = 0;
-    let mut i: usize = 0;
-    while i < sign.len() {
+    let mut n = count;
+    let mut i = from;
+    while i < to {
         zeros[n] = i as u16;
         others[i - n] = i as u16;
         n += srl_count(t, sign[i]);
         i += 1;
     }
     n
+}
+
+fn both(a: bool, b: bool) -> bool
+    ensures { λ r. ⌜ r ≡ (a && b) ⌝ }
+{
+    if a {
+        return b;
+    }
+    false
+}
+
+// Whether the two signs from `i` on are 0. Both are read whatever they are, so that the compiler can make one load of eight.
+fn two_zeros(sign: &[i8], i: usize) -> bool
+    requires { ⌜ i + 2 ≤ length (now sign) ⌝ }
+    ensures { λ r. ⌜ (r ≡ true → ZeroSigns (now (sign .entry)) i 2) ⌝ }
+{
+    let a = fixed::is_zero_sign(sign[i]);
+    let b = fixed::is_zero_sign(sign[i + 1]);
+    both(a, b)
+}
+
+// Whether the four signs from `i` on are 0.
+fn four_zeros(sign: &[i8], i: usize) -> bool
+    requires { ⌜ i + 4 ≤ length (now sign) ⌝ }
+    ensures { λ r. ⌜ (r ≡ true → ZeroSigns (now (sign .entry)) i 4) ⌝ }
+{
+    let a = two_zeros(sign, i);
+    let b = two_zeros(sign, i + 2);
+    both(a, b)
+}
+
+// Whether the eight signs from `i` on are 0.
+fn eight_zeros(sign: &[i8], i: usize) -> bool
+    requires { ⌜ i + 8 ≤ length (now sign) ⌝ }
+    ensures { λ r. ⌜ (r ≡ true → ZeroSigns (now (sign .entry)) i 8) ⌝ }
+{
+    let a = four_zeros(sign, i);
+    let b = four_zeros(sign, i + 4);
+    both(a, b)
+}
+
+// Puts the eight places from `i` on into `zeros`, behind the `n` that are in.
+fn put_eight(zeros: &mut [u16], n: usize, i: usize)
+    requires { ⌜ (n + 8 ≤ length (now zeros)) × (i ≤ 1024) ⌝ }
+    ensures { λ _. ⌜ ((t : Step) (ss : List ℤ) (others : List ℕ) → t .bottom ≡ false → i + 8 ≤ length ss → ZeroSigns ss i 8 → Split t ss i n (now (zeros .entry)) others → Split t ss (i + 8) (n + 8) (now (zeros .exit)) others) ⌝ }
+{
+    let mut k: usize = 0;
+    while k < 8 {
+        zeros[n + k] = (i + k) as u16;
+        k += 1;
+    }
+}
+
+// Puts the eight places from `i` on into the lists.
+fn split_eight(
+    t: upgrade_steps::BandStep,
+    sign: &[i8],
+    i: usize,
+    n: usize,
+    zeros: &mut [u16],
+    others: &mut [u16],
+) -> usize
+    requires { ⌜ Split (bandStep t) (now sign) i n (now zeros) (now others) × (i + 8 ≤ length (now sign)) × (length (now sign) ≤ 1024) × (length (now sign) ≤ length (now zeros)) × (length (now sign) ≤ length (now others)) ⌝ }
+    ensures { λ r. ⌜ Split (bandStep t) (now (sign .entry)) (i + 8) r (now (zeros .exit)) (now (others .exit)) ⌝ }
+{
+    if !t.bottom {
+        if eight_zeros(sign, i) {
+            put_eight(zeros, n, i);
+            return n + 8;
+        }
+    }
+    split_places(t, sign, i, i + 8, n, zeros, others)
+}
+
+// Puts the places that have an SRL value into `zeros`, and the others into `others`; how many have one.
+fn split(t: upgrade_steps::BandStep, sign: &[i8], zeros: &mut [u16], others: &mut [u16]) -> usize
+    requires { ⌜ (length (now sign) ≤ 1024) × (length (now sign) ≤ length (now zeros)) × (length (now sign) ≤ length (now others)) ⌝ }
+    ensures { λ r. ⌜ Split (bandStep t) (now (sign .entry)) (length (now (sign .entry))) r (now (zeros .exit)) (now (others .exit)) ⌝ }
+{
+    let len = sign.len();
+    let mut n: usize = 0;
+    let mut i: usize = 0;
+    while i + 8 <= len {
+        n = split_eight(t, sign, i, n, zeros, others);
+        i += 8;
+    }
+    split_places(t, sign, i, len, n, zeros, others)
 }
 
 // ---- the lists, read
@@ -202,7 +293,15 @@ fn upgrade_band(
 {
     let state = from.srl;
     let n = split(t, sign, zeros, others);
-    let raw = raw_list(raw_data, from.raw, t, others, sign.len() - n, coefficients, sign);
+    let raw = raw_list(
+        raw_data,
+        from.raw,
+        t,
+        others,
+        sign.len() - n,
+        coefficients,
+        sign,
+    );
     let srl = srl_list(srl_data, state, t, zeros, n, coefficients, sign);
     Readers { srl, raw }
 }
@@ -224,7 +323,16 @@ fn one_band(
     if t.width == 0 {
         return from;
     }
-    upgrade_band(srl_data, raw_data, t, from, coefficients, sign, zeros, others)
+    upgrade_band(
+        srl_data,
+        raw_data,
+        t,
+        from,
+        coefficients,
+        sign,
+        zeros,
+        others,
+    )
 }
 
 // ---- all bands

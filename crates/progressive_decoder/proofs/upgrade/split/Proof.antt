@@ -1,67 +1,50 @@
--- `progressive_decoder::upgrade::split` meets its contract: a place is stored in both lists, and counts in one. Assumes nothing.
-use mathlib.Core.Path.{_≡_, refl, ap, _∙_, subst}
-use mathlib.Core.Bool.{cond}
-use Prim.Native.Nat.{ℕ, _+_, _-_, _≤_}
+-- `progressive_decoder::upgrade::split` meets its contract: eight places a turn, and then what is left. Assumes nothing.
+use mathlib.Core.Path.{_≡_, refl, _∙_}
+use Prim.Native.Nat.{_-_, _≤_}
 use native.Mathlib.Omega.{arith}
-use lib.IntN.{ℤ, pos}
-use lib.ListN.{length, getD, set, length-set}
-use mir.Syntax.{w8}
-use mir.ValLaws.{toZ-ofZ}
-use Rattle.upgrade_steps.specs.Steps.{bandStep, fromSrl}
+use lib.ListN.{length}
+use Rattle.upgrade_steps.specs.Steps.{bandStep}
 use Rattle.progressive_decoder.specs.Walk.{Split}
-use Rattle.progressive_decoder.proofs.Places.{split-none, split-next}
+use Rattle.progressive_decoder.proofs.Places.{split-none}
 use borrow.Author.Needs.{needs}
 use Rattle.progressive_decoder.proofs.upgrade.split.Statement.{statement}
 use Rattle.progressive_decoder.proofs.upgrade.split.Tie as tie
 
 abbrev Inv-loop : tie.InvT-loop
-Inv-loop t sign zeros₀ others₀ n₀ i₀ zeros others n i = (i ≤ length sign) × (length zeros ≡ length zeros₀) × (length others ≡ length others₀) × Split (bandStep t) sign i n zeros others
+Inv-loop t sign zeros₀ others₀ len n₀ i₀ zeros others n i = (i ≤ length sign) × (length zeros ≡ length zeros₀) × (length others ≡ length others₀) × Split (bandStep t) sign i n zeros others
 
 abbrev μ-loop : tie.MeasureT-loop
-μ-loop t sign zeros₀ others₀ n₀ i₀ zeros others n i = length sign - i
+μ-loop t sign zeros₀ others₀ len n₀ i₀ zeros others n i = length sign - i
 
 loop-holds : tie.Need-loop-holds Inv-loop μ-loop
 loop-holds c = (omega arith, refl, refl, split-none _ _ _ _)
 
-slice-write-zeros : tie.Need-slice-write-zeros Inv-loop μ-loop
-slice-write-zeros c = omega (arith, c .before .loop .inv .1, c .before .loop .inv .3 .few, c .before .before .before .before .pre .1)
+add-loop : tie.Need-add-loop Inv-loop μ-loop
+add-loop c = record { fits = omega (arith, c .loop .inv .0, c .before .before .before .pre .0) }
 
-sub-others : tie.Need-sub-others Inv-loop μ-loop
-sub-others c = omega (arith, c .before .loop .inv .3 .few)
-
-slice-write-others : tie.Need-slice-write-others Inv-loop μ-loop
-slice-write-others c = omega (arith, c .before .loop .inv .2, c .before .before .before .before .pre .2)
-
--- whether the place has an SRL value
-counted : (c : tie.After-srl-count Inv-loop μ-loop)
-    → c .srl-count .result ≡ cond (fromSrl (bandStep (c .before .before .before .before .before .before .args .t)) (getD (c .before .before .before .before .before .before .args .sign .now) (c .before .before .before .loop .i) (pos 0))) 1 0
-counted c =
-    let a = c .before .before .before .before .before .before .args in
-    c .srl-count .ensures ∙ ap (λ (s : ℤ). cond (fromSrl (bandStep (a .t)) s) 1 0) (toZ-ofZ w8 (getD (a .sign .now) (c .before .before .before .loop .i) (pos 0)) (record { sfits = c .before .srl-count-arg .given }))
-
-next : (c : tie.After-srl-count Inv-loop μ-loop)
-    → Split (bandStep (c .before .before .before .before .before .before .args .t)) (c .before .before .before .before .before .before .args .sign .now) (c .before .before .before .loop .i + 1) (c .before .before .before .loop .n + c .srl-count .result)
-    (set (c .before .before .before .loop .zeros) (c .before .before .before .loop .n) (c .before .before .before .loop .i)) (set (c .before .before .before .loop .others) (c .before .before .before .loop .i - c .before .before .before .loop .n) (c .before .before .before .loop .i))
-next c =
-    let k = c .before .before .before .before .before .before in
+split-eight-requires : tie.Need-split-eight-requires Inv-loop μ-loop
+split-eight-requires c κs =
     let l = c .before .before .before .loop in
-    split-next (bandStep (k .args .t)) (k .args .sign .now) (l .i) (l .n) (c .srl-count .result) (l .zeros) (l .others) (c .before .before .loop-test .taken)
-    (omega (arith, c .before .before .loop-test .taken, l .inv .1, k .pre .1)) (omega (arith, c .before .before .loop-test .taken, l .inv .2, k .pre .2)) (counted c) (l .inv .3)
-
-add-n : tie.Need-add-n Inv-loop μ-loop
-add-n c = record { fits = omega (arith, next c .few) }
+    let p = c .before .before .before .before .before .before .pre in
+    (l .inv .3, omega (arith, c .before .before .loop-test .taken), p .0, omega (arith, l .inv .1, p .1), omega (arith, l .inv .2, p .2))
 
 loop-again : tie.Need-loop-again Inv-loop μ-loop
 loop-again c =
-    let l = c .before .before .before .loop in
-    (omega arith, length-set (l .zeros) (l .n) (l .i) ∙ l .inv .1, length-set (l .others) (l .i - l .n) (l .i) ∙ l .inv .2, next c)
+    let l = c .before .before .before .before .before .before .before .before .loop in
+    let u = c .before .before .before .before .split-eight in
+    (omega (arith, c .before .before .before .before .before .before .before .loop-test .taken), u .kept .1 .1 .1 .1 .0 ∙ l .inv .1, u .kept .1 .1 .1 .1 .1 .0 ∙ l .inv .2, u .ensures)
 
-returns : tie.Need-returns Inv-loop μ-loop
-returns c =
-    let a = c .before .before .before .before .args in
-    let l = c .before .loop in
-    let e : l .i ≡ length (a .sign .now) = omega arith in
-    subst (λ (i : ℕ). Split (bandStep (a .t)) (a .sign .now) i (l .n) (l .zeros) (l .others)) e (l .inv .3)
+split-places-requires : tie.Need-split-places-requires Inv-loop μ-loop
+split-places-requires c κs =
+    let l = c .before .before .before .loop in
+    let p = c .before .before .before .before .before .before .pre in
+    (l .inv .3, l .inv .0, omega arith, p .0, omega (arith, l .inv .1, p .1), omega (arith, l .inv .2, p .2))
+
+same-length : tie.Need-same-length Inv-loop μ-loop
+same-length c = c .before .before .before .before .split-places .kept .1 .1 .1 .1 .1 .0 ∙ c .before .before .before .before .before .before .before .before .loop .inv .1
+
+same-length-2 : tie.Need-same-length-2 Inv-loop μ-loop
+same-length-2 c = c .before .before .before .before .split-places .kept .1 .1 .1 .1 .1 .1 .0 ∙ c .before .before .before .before .before .before .before .before .loop .inv .2
 
 pub split-spec : {M : Type 1} → statement M
-split-spec = tie.close (tie.spec Inv-loop μ-loop loop-holds (λ c. search needs) (λ c. search needs) slice-write-zeros (λ c. search needs) sub-others (λ c. search needs) slice-write-others (λ c. search needs) (λ c κs. search needs) add-n (λ c. search needs) (λ c. search needs) loop-again (λ c. search needs) (λ c. search needs) returns)
+split-spec = tie.close (tie.spec Inv-loop μ-loop loop-holds add-loop split-eight-requires (λ c. search needs) (λ c. search needs) loop-again split-places-requires same-length same-length-2 (λ c. c .before .before .before .before .split-places .ensures))
