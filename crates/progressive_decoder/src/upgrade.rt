@@ -251,17 +251,19 @@ fn srl_list(
     let mut j = from.zero_run_remaining;
     while j < n {
         if pending {
-            let v = srl_decoder::decoder::nonzero_at(srl_data, at, t.width);
+            let place = bits::reader::place(at);
+            let v = srl_decoder::decoder::decode_nonzero(srl_data, place, t.width);
             let i = list[j] as usize;
             let c = coefficients[i];
             coefficients[i] = moved(c, v.magnitude, t.position, !v.negative);
             sign[i] = sign_by(v.negative);
-            at = v.next;
+            at += v.taken;
             pending = false;
             j += 1;
         } else {
-            let next = srl_decoder::decoder::code_words(srl_data, at, kp, n - j);
-            at = next.read;
+            let a = bits::reader::ahead_at(srl_data, at);
+            let next = srl_decoder::decoder::code_words(a, kp, n - j);
+            at += next.taken;
             kp = next.kp;
             pending = next.pending;
             j += next.run;

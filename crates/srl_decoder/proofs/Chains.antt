@@ -8,8 +8,8 @@ use native.Mathlib.Omega.{arith}
 use lib.Pow.{pow-pos, pow-mono}
 use Rattle.bits.specs.Bits.{bitAt, num, zeros}
 use Rattle.srl_decoder.specs.Srl.{Reader, reader, codeWord, value, past, readied, nextValue, nextReader}
-use Rattle.srl_decoder.specs.Inner.{Same, below, readerOf, Brought}
-use Rattle.srl_decoder.specs.declared.decoder.SrlReader.{SrlReader}
+use Rattle.srl_decoder.specs.Inner.{Same, below, readBehind, Brought}
+use Rattle.srl_decoder.specs.declared.decoder.CodesRead.{CodesRead}
 use Rattle.srl_decoder.proofs.Codes.{code-zero, code-one, code-near, code-run, ready-run, ready-pending}
 
 -- ════ how many zeros code words 0 bring ════
@@ -129,14 +129,15 @@ code-left s n kp = by (bitAt s n)
     by true e = absurd (true≢false e)
     by false e = (omega (arith, pow-pos (kp / 8)), omega arith)
 
-pub one-code : (s : List ℕ) (n kp left : ℕ) (r : SrlReader) → kp ≤ 80 → 1 ≤ left → readerOf r ≡ codeWord s n kp → Same s left (reader n kp 0 false) (readerOf r) × Brought n left r
+pub one-code : (s : List ℕ) (n kp left : ℕ) (r : CodesRead) → kp ≤ 80 → 1 ≤ left → readBehind n r ≡ codeWord s n kp → Brought s n kp left r
 one-code s n kp left r h l e =
-    let near = code-near s n kp h in (
-      subst (Same s left (reader n kp 0 false)) (sym e) (same-code s left n kp l),
-      record {
-        kp-low = omega (arith, ap (λ (q : Reader). q .kp) e, near .kp-low);
-        run-low = omega (arith, ap (λ (q : Reader). q .run) e, code-run s n kp h);
-        near = omega (arith, ap (λ (q : Reader). q .read) e, near .read-near);
-        moves = λ f. let m = code-left s n kp (sym (ap (λ (q : Reader). q .pending) e) ∙ f) in (omega (arith, ap (λ (q : Reader). q .run) e, m .0), omega (arith, ap (λ (q : Reader). q .read) e, m .1));
-      },
-    )
+    let near = code-near s n kp h in
+    let read = ap (λ (q : Reader). q .read) e in
+    let run = ap (λ (q : Reader). q .run) e in
+    record {
+      same = subst (Same s left (reader n kp 0 false)) (sym e) (same-code s left n kp l);
+      kp-low = omega (arith, ap (λ (q : Reader). q .kp) e, near .kp-low);
+      run-low = omega (arith, run, code-run s n kp h);
+      near = omega (arith, read, near .read-near);
+      moves = λ f. let m = code-left s n kp (sym (ap (λ (q : Reader). q .pending) e) ∙ f) in (omega (arith, run, m .0), omega (arith, read, m .1));
+    }

@@ -8,7 +8,7 @@ use lib.ListN.{length}
 use Rattle.bits.specs.Bits.{placeOf, held}
 use Rattle.srl_decoder.specs.Srl.{Reader, reader, nextValue, nextReader}
 use Rattle.srl_decoder.specs.declared.SrlState.{SrlState}
-use Rattle.srl_decoder.specs.declared.decoder.SrlReader.{SrlReader}
+use Rattle.srl_decoder.specs.declared.decoder.CodesRead.{CodesRead}
 
 -- the state that a reader is: the place runs on past the end with the count
 abbrev pub shut : Reader → SrlState
@@ -37,9 +37,9 @@ handed s st done =
 abbrev pub Sound : SrlState → Type 0
 Sound st = (st .reader .«bit_idx» ≤ 7) × (st .reader .«byte_idx» ≤ 2 ^ 63) × (st .kp ≤ 80)
 
--- the reader that the code has
-abbrev pub readerOf : SrlReader → Reader
-readerOf r = reader (r .read) (r .kp) (r .run) (r .pending)
+-- the reader after code words that begin behind n bits
+abbrev pub readBehind : ℕ → CodesRead → Reader
+readBehind n r = reader (n + r .taken) (r .kp) (r .run) (r .pending)
 
 -- two readers give the same k values, of whatever widths, and are one reader after them
 abbrev pub Same : List ℕ → ℕ → Reader → Reader → Type 0
@@ -50,9 +50,10 @@ Same s (suc k) r q = (w : ℕ) → (nextValue s w r ≡ nextValue s w q) × Same
 abbrev pub below : ℕ → ℕ
 below x = (2 + x / 4 % 2) * 2 ^ (x / 8)
 
--- a reader that code words gave behind n bits, with `left` values to come: it has zeros to give or a nonzero value
-pub record Brought (n left : ℕ) (r : SrlReader) : Type 0 where
+-- what code words behind n bits bring, with `left` values to come: a reader that gives the same, with zeros or a nonzero value at hand
+pub record Brought (s : List ℕ) (n kp left : ℕ) (r : CodesRead) : Type 0 where
+  pub same : Same s left (reader n kp 0 false) (readBehind n r)
   pub kp-low : r .kp ≤ 80
   pub run-low : r .run ≤ left + 1024
-  pub near : r .read ≤ n + 40
-  pub moves : r .pending ≡ false → (1 ≤ r .run) × (r .read ≤ n + 1)
+  pub near : r .taken ≤ 40
+  pub moves : r .pending ≡ false → (1 ≤ r .run) × (r .taken ≤ 1)

@@ -1,42 +1,36 @@
 // The decoder, value by value. One value takes at most one code word.
 ghost use mathlib.Core.Path.{_≡_};
-ghost use mathlib.Core.List.{_++_};
-ghost use mathlib.Core.Bool.{false};
-ghost use Prim.Native.Nat.{_*_, _^_, _+_, _≤_, _<_};
+ghost use mathlib.Core.List.{List, _++_};
+ghost use Prim.Native.Nat.{ℕ, _*_, _^_, _+_, _≤_};
 ghost use lib.ListN.{length, drop, replicate};
-ghost use Rattle.bits.specs.Bits.{bitAt, zeros, bitsRead, placeOf};
-ghost use Rattle.srl_decoder.specs.Srl.{reader, mostZeros, nonzero, behind, codeWord, readied, nextValue, nextReader, values, readerAfter};
+ghost use Rattle.bits.specs.Bits.{bitAt, zeros, bitsRead};
+ghost use Rattle.bits.specs.Words.{Top};
+ghost use Rattle.srl_decoder.specs.Srl.{mostZeros, behind, codeWord, readied, nextValue, nextReader, values, readerAfter};
 ghost use Rattle.srl_decoder.specs.Decode.{opened, closed, stateOk, dueAmong, decoded};
 ghost use Rattle.srl_rules.specs.Rules.{noRoom, stored, Width};
-ghost use Rattle.srl_decoder.specs.Inner.{Sound, shut, stateBy, heldReader, handed, readerOf, below, Same, Brought};
+ghost use Rattle.srl_decoder.specs.Inner.{Sound, shut, stateBy, heldReader, handed, readBehind, below, Brought};
 use crate::Decoded;
 use crate::SrlState;
 
-// A nonzero value and the place behind it.
+// A nonzero value: its magnitude, its sign, and how many bits it takes.
 pub struct NonzeroRead {
-    pub value: i16,
-    pub next: bits::reader::BitReader,
+    pub magnitude: u16,
+    pub negative: bool,
+    pub taken: usize,
+}
+
+// Code words: how many bits they take, kp after them, the zeros that they bring, and whether a nonzero value follows these.
+pub struct CodesRead {
+    pub taken: usize,
+    pub kp: u8,
+    pub run: usize,
+    pub pending: bool,
 }
 
 // A value and the state after it.
 pub struct NextRead {
     pub value: i16,
     pub state: SrlState,
-}
-
-// The decoder between two values, by the count of bits read.
-pub struct SrlReader {
-    pub read: usize,
-    pub kp: u8,
-    pub run: usize,
-    pub pending: bool,
-}
-
-// A nonzero value by its magnitude and its sign, and the count of bits read behind it.
-pub struct NonzeroAt {
-    pub magnitude: u16,
-    pub negative: bool,
-    pub next: usize,
 }
 
 // Whether a decoder can have the state.
@@ -55,29 +49,41 @@ pub fn state_ok(st: SrlState) -> bool
 
 // ---- one value
 
+// The code word that the word `a` begins with.
+fn one_code(a: u64, kp: u8) -> CodesRead
+    requires { ⌜ kp ≤ 80 ⌝ }
+    ensures { λ r. ⌜ ((s : List ℕ) (n v : ℕ) → Top v a s n → 57 ≤ v → readBehind n r ≡ codeWord s n kp) × (r .taken ≤ 11) ⌝ }
+{
+    if a < 0x8000_0000_0000_0000 {
+        return CodesRead {
+            taken: 1,
+            kp: srl_rules::raised(kp),
+            run: srl_rules::run_size(kp),
+            pending: false,
+        };
+    }
+    let k = kp / 8;
+    let zeros = bits::reader::top(bits::reader::behind_first(a), k);
+    CodesRead {
+        taken: 1 + k as usize,
+        kp: srl_rules::lowered(kp),
+        run: zeros as usize,
+        pending: true,
+    }
+}
+
 // One code word.
 fn code_word(src: &[u8], st: SrlState) -> SrlState
     requires { ⌜ Sound st ⌝ }
     ensures { λ r. ⌜ r ≡ shut (codeWord (now (src .entry)) (bitsRead (st .reader)) (st .kp)) ⌝ }
 {
     let reader = st.reader;
-    let kp = st.kp;
-    let k = kp / 8;
-    let a = bits::reader::ahead(src, reader);
-    if a < 0x8000_0000_0000_0000 {
-        return SrlState {
-            reader: bits::reader::skip(reader, 1),
-            kp: srl_rules::raised(kp),
-            zero_run_remaining: srl_rules::run_size(kp),
-            nonzero_pending: false,
-        };
-    }
-    let zeros = bits::reader::top(bits::reader::behind_first(a), k);
+    let c = one_code(bits::reader::ahead(src, reader), st.kp);
     SrlState {
-        reader: bits::reader::skip(reader, 1 + k as usize),
-        kp: srl_rules::lowered(kp),
-        zero_run_remaining: zeros as usize,
-        nonzero_pending: true,
+        reader: bits::reader::skip(reader, c.taken),
+        kp: c.kp,
+        zero_run_remaining: c.run,
+        nonzero_pending: c.pending,
     }
 }
 
@@ -96,17 +102,18 @@ fn ready(src: &[u8], st: SrlState) -> SrlState
 }
 
 // The nonzero value at a place.
-fn decode_nonzero(src: &[u8], reader: bits::reader::BitReader, num_bits: u8) -> NonzeroRead
+pub fn decode_nonzero(src: &[u8], reader: bits::reader::BitReader, num_bits: u8) -> NonzeroRead
     requires { ⌜ (reader .«bit_idx» ≤ 7) × (reader .«byte_idx» ≤ 2 ^ 63 + 2) × Width «num_bits» ⌝ }
-    ensures { λ r. ⌜ (r .value ≡ nonzero (now (src .entry)) (bitsRead reader) «num_bits») × (r .next ≡ placeOf (behind (now (src .entry)) (bitsRead reader) «num_bits»)) ⌝ }
+    ensures { λ r. ⌜ (r .negative ≡ bitAt (now (src .entry)) (bitsRead reader)) × (r .magnitude ≡ zeros (now (src .entry)) (bitsRead reader + 1) (mostZeros «num_bits») + 1) × (bitsRead reader + r .taken ≡ behind (now (src .entry)) (bitsRead reader) «num_bits») × (r .taken ≤ 32769) ⌝ }
 {
     let a = bits::reader::ahead(src, reader);
     let limit = (srl_rules::max_magnitude(num_bits) - 1) as u32;
     let zeros = bits::reader::zeros_behind_first(src, reader, a, limit);
     let taken = bits::reader::zeros_length(zeros, limit);
     NonzeroRead {
-        value: fixed::with_sign((zeros + 1) as u16, 0x8000_0000_0000_0000 <= a),
-        next: bits::reader::skip(reader, 1 + taken as usize),
+        magnitude: (zeros + 1) as u16,
+        negative: 0x8000_0000_0000_0000 <= a,
+        taken: 1 + taken as usize,
     }
 }
 
@@ -129,11 +136,10 @@ pub fn next_value(src: &[u8], st: SrlState, num_bits: u8) -> NextRead
         };
     }
     let v = decode_nonzero(src, reader, num_bits);
-    let next = v.next;
     NextRead {
-        value: v.value,
+        value: fixed::with_sign(v.magnitude, v.negative),
         state: SrlState {
-            reader: next,
+            reader: bits::reader::skip(reader, v.taken),
             kp: at_hand.kp,
             zero_run_remaining: 0,
             nonzero_pending: false,
@@ -141,47 +147,7 @@ pub fn next_value(src: &[u8], st: SrlState, num_bits: u8) -> NextRead
     }
 }
 
-// ---- by the count of bits read
-
-// One code word.
-fn code_at(src: &[u8], n: usize, kp: u8) -> SrlReader
-    requires { ⌜ (n < 2 ^ 62) × (kp ≤ 80) ⌝ }
-    ensures { λ r. ⌜ readerOf r ≡ codeWord (now (src .entry)) n kp ⌝ }
-{
-    let k = kp / 8;
-    let a = bits::reader::ahead_at(src, n);
-    if a < 0x8000_0000_0000_0000 {
-        return SrlReader {
-            read: n + 1,
-            kp: srl_rules::raised(kp),
-            run: srl_rules::run_size(kp),
-            pending: false,
-        };
-    }
-    let zeros = bits::reader::top(bits::reader::behind_first(a), k);
-    SrlReader {
-        read: n + 1 + k as usize,
-        kp: srl_rules::lowered(kp),
-        run: zeros as usize,
-        pending: true,
-    }
-}
-
-// The nonzero value behind `n` bits.
-pub fn nonzero_at(src: &[u8], n: usize, num_bits: u8) -> NonzeroAt
-    requires { ⌜ (n < 2 ^ 62) × Width «num_bits» ⌝ }
-    ensures { λ r. ⌜ (r .negative ≡ bitAt (now (src .entry)) n) × (r .magnitude ≡ zeros (now (src .entry)) (n + 1) (mostZeros «num_bits») + 1) × (r .next ≡ behind (now (src .entry)) n «num_bits») ⌝ }
-{
-    let a = bits::reader::ahead_at(src, n);
-    let limit = (srl_rules::max_magnitude(num_bits) - 1) as u32;
-    let zeros = bits::reader::zeros_behind_first(src, bits::reader::place(n), a, limit);
-    let taken = bits::reader::zeros_length(zeros, limit);
-    NonzeroAt {
-        magnitude: (zeros + 1) as u16,
-        negative: 0x8000_0000_0000_0000 <= a,
-        next: n + 1 + taken as usize,
-    }
-}
+// ---- several code words
 
 // The zeros that code words 0 bring while kp rises to `x`, and two more.
 fn below(x: u8) -> usize
@@ -191,28 +157,27 @@ fn below(x: u8) -> usize
     ((2 + (x / 4) % 2) as usize) << (x / 8)
 }
 
-// The next code words: those up to a nonzero value where it is among the next `left` values, and one where it is not.
-pub fn code_words(src: &[u8], n: usize, kp: u8, left: usize) -> SrlReader
-    requires { ⌜ (n < 2 ^ 61) × (kp ≤ 80) × (1 ≤ left) ⌝ }
-    ensures { λ r. ⌜ Same (now (src .entry)) left (reader n kp 0 false) (readerOf r) × Brought n left r ⌝ }
+// The code words that the word `a` begins with: those up to a nonzero value where it is among the next `left` values, and one where it is not.
+pub fn code_words(a: u64, kp: u8, left: usize) -> CodesRead
+    requires { ⌜ (kp ≤ 80) × (1 ≤ left) ⌝ }
+    ensures { λ r. ⌜ ((s : List ℕ) (n v : ℕ) → Top v a s n → 57 ≤ v → Brought s n kp left r) ⌝ }
 {
-    let a = bits::reader::ahead_at(src, n);
     let c = bits::reader::leading(a);
     if 20 < c {
-        return code_at(src, n, kp);
+        return one_code(a, kp);
     }
     let high = kp + 4 * c as u8;
     if 80 < high {
-        return code_at(src, n, kp);
+        return one_code(a, kp);
     }
     let k = high / 8;
     let last = bits::reader::top(bits::reader::behind(a, c + 1), k) as usize;
     let zeros = below(high) - below(kp) + last;
     if left <= zeros {
-        return code_at(src, n, kp);
+        return one_code(a, kp);
     }
-    SrlReader {
-        read: n + c as usize + 1 + k as usize,
+    CodesRead {
+        taken: c as usize + 1 + k as usize,
         kp: srl_rules::lowered(high),
         run: zeros,
         pending: true,

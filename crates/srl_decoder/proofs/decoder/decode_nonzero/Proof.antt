@@ -1,16 +1,14 @@
 -- `srl_decoder::decoder::decode_nonzero` meets its contract: the zeros behind the sign bit, at most 2^w - 2. Assumes nothing.
-use mathlib.Core.Path.{_≡_, ap, _∙_}
+use mathlib.Core.Path.{_≡_, sym, ap, _∙_}
 use mathlib.Core.Bool.{cond}
 use Prim.Native.Nat.{_+_, _-_, _<_}
 use native.Mathlib.Omega.{arith}
 use lib.Dec.{ltb}
-use mir.Syntax.{w16}
-use Rattle.fixed.proofs.Machine.{got}
-use Rattle.bits.specs.Bits.{zeros, bitsRead, placeOf}
+use Rattle.bits.specs.Bits.{zeros, bitsRead}
 use Rattle.bits.proofs.Tops.{first-bit}
 use Rattle.srl_decoder.specs.Srl.{mostZeros}
-use Rattle.srl_rules.proofs.Widths.{pow-low}
-use Rattle.srl_decoder.proofs.Codes.{few-zeros, nonzero-is}
+use Rattle.srl_rules.proofs.Widths.{pow-low, pow-high}
+use Rattle.srl_decoder.proofs.Codes.{few-zeros, behind-near}
 use borrow.Author.Needs.{needs}
 use Rattle.srl_decoder.proofs.decoder.decode_nonzero.Statement.{statement}
 use Rattle.srl_decoder.proofs.decoder.decode_nonzero.Tie as tie
@@ -35,26 +33,25 @@ sub-limit c =
     let k = c .before .before .before in
     omega (arith, c .max-magnitude .ensures, pow-low (k .args .num-bits) (k .pre .2))
 
-add-with-sign : tie.Need-add-with-sign
-add-with-sign c = record { fits = omega (arith, few (c .before)) }
+add-t10 : tie.Need-add-t10
+add-t10 c = record { fits = omega (arith, few (c .before)) }
 
-cast-with-sign : tie.Need-cast-with-sign
-cast-with-sign c = record { fits = omega (arith, few (c .before)) }
+cast-t8 : tie.Need-cast-t8
+cast-t8 c = record { fits = omega (arith, few (c .before)) }
 
 returns : tie.Need-returns
 returns c =
-    let k = c .before .before .before .before .before .before .before in
+    let k = c .before .before .before .before .before in
     let s = k .args .src .now in
     let n = bitsRead (k .args .reader) in
     let w = k .args .num-bits in
-    let h = c .before .before .before .before .before .ahead in
-    let z = found (c .before .before .before) in
-    let m = most (c .before .before .before .before) in
-    let b = first-bit _ _ s n (h .ensures) (omega (arith, k .pre .0)) in
-    let t = c .before .before .zeros-length in
+    let h = c .before .before .before .ahead in
+    let z = found (c .before) in
+    let m = most (c .before .before) in
+    let t = c .zeros-length in
     let e : n + (1 + t .result) ≡ n + 1 + cond (ltb (zeros s (n + 1) (mostZeros w)) (mostZeros w)) (zeros s (n + 1) (mostZeros w) + 1) (mostZeros w) =
     omega (arith, rw (m, z) at (t .ensures)) in
-    (got w16 (c .before .with-sign .ok) (c .before .with-sign .ensures ∙ nonzero-is s n w _ _ (k .pre .2) b z), c .skip .ensures ∙ ap placeOf e)
+    (sym (first-bit _ _ s n (h .ensures) (omega (arith, k .pre .0))), omega (arith, z), e, omega (arith, e, behind-near s n w, pow-high w (k .pre .2)))
 
 pub decode-nonzero-spec : {M : Type 1} → statement M
-decode-nonzero-spec = tie.close (tie.spec (λ c κs. search needs) (λ c κs. search needs) sub-limit (λ c. search needs) (λ c κs. search needs) (λ c κs. search needs) add-with-sign cast-with-sign (λ c κs. search needs) (λ c. search needs) (λ c. search needs) (λ c κs. search needs) returns)
+decode-nonzero-spec = tie.close (tie.spec (λ c κs. search needs) (λ c κs. search needs) sub-limit (λ c. search needs) (λ c κs. search needs) (λ c κs. search needs) add-t10 cast-t8 (λ c. search needs) (λ c. search needs) returns)
