@@ -1,10 +1,9 @@
 -- One place of a pass: what a nonzero SRL value does there.
-use mathlib.Core.Path.{_≡_, refl}
+use mathlib.Core.Path.{_≡_}
 use mathlib.Core.Bool.{Bool, true, false, not}
-use Prim.Native.Nat.{ℕ, zero, suc, _+_}
-use native.Mathlib.Omega.{arith}
+use Prim.Native.Nat.{ℕ, _+_}
 use native.Mathlib.Numerals.{add-one}
-use lib.IntN.{ℤ, pos, negsuc}
+use lib.IntN.{ℤ}
 use Rattle.fixed.specs.Fixed.{withSign}
 use Rattle.progressive_decoder.specs.Upgrade.{srlCoefficient, srlSign, rawCoefficient}
 use Rattle.progressive_decoder.specs.Walk.{signBy}

@@ -7,7 +7,7 @@ use native.Mathlib.Nat.{two-pow-succ}
 use native.Mathlib.Omega.{arith}
 use lib.Pow.{pow-pos, pow-mono}
 use Rattle.bits.specs.Bits.{bitAt, num, zeros}
-use Rattle.srl_decoder.specs.Srl.{Reader, reader, codeWord, value, past, readied, nextValue, nextReader}
+use Rattle.srl_decoder.specs.Srl.{Reader, reader, codeWord, value, past, readied, nextReader}
 use Rattle.srl_decoder.specs.Inner.{Same, below, readBehind, Brought}
 use Rattle.srl_decoder.specs.declared.decoder.CodesRead.{CodesRead}
 use Rattle.srl_decoder.proofs.Codes.{code-zero, code-one, code-near, code-run, ready-run, ready-pending}

@@ -4,3 +4,4 @@ pub mod Values
 pub mod Due
 pub mod States
 pub mod Chains
+pub mod Filled

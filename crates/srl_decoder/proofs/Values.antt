@@ -1,13 +1,11 @@
 -- Values one after another: the reader between them, and the reader as the decoder's state.
-use mathlib.Core.Path.{_≡_, refl, sym, ap, ap₂, _∙_}
+use mathlib.Core.Path.{_≡_, refl, ap, ap₂}
 use mathlib.Core.Bool.{Bool, true, false, cond}
 use mathlib.Core.List.{List, [], _∷_, _++_}
-use Prim.Native.Nat.{ℕ, zero, suc, _+_, _-_, _/_, _^_, _≤_, _<_, min}
-use native.Mathlib.Numerals.{add-one}
+use Prim.Native.Nat.{ℕ, zero, suc, _+_, _-_, _/_, _^_, _≤_, min}
 use lib.Dec.{ltb}
-use lib.IntN.{ℤ, pos}
-use lib.ListN.{length, drop, replicate, set, getD, length-replicate}
-use lib.Seq.{drop-cons, set-at, append-snoc}
+use lib.IntN.{ℤ}
+use lib.ListN.{length}
 use Rattle.fixed.specs.Fixed.{withSign}
 use Rattle.bits.specs.Bits.{bitAt, num, zeros, bitsRead}
 use Rattle.bits.proofs.Places.{place-is, read-place}
@@ -74,12 +72,6 @@ give-alike s w (alike {m = m} {n = n} {kp = kp} {run = zero} a) =
 pub next-alike : (s : List ℕ) (w : ℕ) {r q : Reader} → AlikeReader s r q → (nextValue s w r ≡ nextValue s w q) × AlikeReader s (nextReader s w r) (nextReader s w q)
 next-alike s w a = give-alike s w (ready-alike s a)
 
-pub value-held : (s : List ℕ) (w : ℕ) (r : Reader) → nextValue s w (heldReader s r) ≡ nextValue s w r
-value-held s w r = next-alike s w (reader-held s r) .0
-
-pub next-held : (s : List ℕ) (w : ℕ) (r : Reader) → heldReader s (nextReader s w (heldReader s r)) ≡ heldReader s (nextReader s w r)
-next-held s w r = held-readers s (next-alike s w (reader-held s r) .1)
-
 pub values-alike : (s ws : List ℕ) {r q : Reader} → AlikeReader s r q → (values s ws r ≡ values s ws q) × AlikeReader s (readerAfter s ws r) (readerAfter s ws q)
 unfolding values readerAfter
 values-alike s [] a = (refl, a)
@@ -88,7 +80,7 @@ values-alike s (w ∷ ws) a =
     let i = values-alike s ws (n .1) in
     (ap₂ (λ (v : ℤ) (vs : List ℤ). v ∷ vs) (n .0) (i .0), i .1)
 
--- ════ one value more ════
+-- ════ values of two lists of widths ════
 
 pub after-append : (s : List ℕ) (a b : List ℕ) (r : Reader) → readerAfter s (a ++ b) r ≡ readerAfter s b (readerAfter s a r)
 unfolding readerAfter
@@ -104,29 +96,3 @@ pub length-values : (s ws : List ℕ) (r : Reader) → length (values s ws r) �
 unfolding values
 length-values s [] r = refl
 length-values s (w ∷ ws) r = ap suc (length-values s ws (nextReader s w r))
-
-replicate-snoc : (n w : ℕ) → replicate (n + 1) w ≡ replicate n w ++ (w ∷ [])
-replicate-snoc n w = ap (λ (i : ℕ). replicate i w) (add-one n) ∙ on n
-  where
-    on : (n : ℕ) → w ∷ replicate n w ≡ replicate n w ++ (w ∷ [])
-    on zero = refl
-    on (suc n) = ap (λ (l : List ℕ). w ∷ l) (on n)
-
-pub after-next : (s : List ℕ) (w n : ℕ) (r : Reader) → readerAfter s (replicate (n + 1) w) r ≡ nextReader s w (readerAfter s (replicate n w) r)
-unfolding readerAfter
-after-next s w n r = ap (λ (ws : List ℕ). readerAfter s ws r) (replicate-snoc n w) ∙ after-append s (replicate n w) (w ∷ []) r
-
-values-next : (s : List ℕ) (w n : ℕ) (r : Reader) → values s (replicate (n + 1) w) r ≡ values s (replicate n w) r ++ (nextValue s w (readerAfter s (replicate n w) r) ∷ [])
-unfolding values
-values-next s w n r = ap (λ (ws : List ℕ). values s ws r) (replicate-snoc n w) ∙ values-append s (replicate n w) (w ∷ []) r
-
--- a store at the seam of what is stored and what is left
-store-next : {A : Type 0} (vs l : List A) (i : ℕ) (d a : A) → length vs ≡ i → i < length l → set (vs ++ drop i l) i a ≡ (vs ++ (a ∷ [])) ++ drop (suc i) l
-store-next vs l i d a e h = rw (drop-cons l i d h, set-at vs (getD l i d) (drop (suc i) l) a i e) (sym (append-snoc vs a (drop (suc i) l)))
-
--- the next value stored after n values
-pub values-store : (s : List ℕ) (w n : ℕ) (r : Reader) (out : List ℤ) → n < length out
-    → set (values s (replicate n w) r ++ drop n out) n (nextValue s w (readerAfter s (replicate n w) r)) ≡ values s (replicate (n + 1) w) r ++ drop (n + 1) out
-values-store s w n r out h =
-    store-next (values s (replicate n w) r) out n (pos 0) (nextValue s w (readerAfter s (replicate n w) r)) (length-values s (replicate n w) r ∙ length-replicate n w) h
-    ∙ ap₂ (λ (l : List ℤ) (i : ℕ). l ++ drop i out) (sym (values-next s w n r)) (sym (add-one n))

@@ -2,9 +2,10 @@
 use mathlib.Core.Path.{_≡_}
 use mathlib.Core.Bool.{Bool, false, cond}
 use mathlib.Core.List.{List}
-use Prim.Native.Nat.{ℕ, zero, suc, _+_, _*_, _/_, _%_, _^_, _≤_}
+use Prim.Native.Nat.{ℕ, zero, suc, _+_, _*_, _/_, _%_, _^_, _≤_, _<_}
 use lib.Dec.{ltb}
-use lib.ListN.{length}
+use lib.IntN.{ℤ, pos}
+use lib.ListN.{length, getD}
 use Rattle.bits.specs.Bits.{placeOf, held}
 use Rattle.srl_decoder.specs.Srl.{Reader, reader, nextValue, nextReader}
 use Rattle.srl_decoder.specs.declared.SrlState.{SrlState}
@@ -57,3 +58,7 @@ pub record Brought (s : List ℕ) (n kp left : ℕ) (r : CodesRead) : Type 0 whe
   pub run-low : r .run ≤ left + 1024
   pub near : r .taken ≤ 40
   pub moves : r .pending ≡ false → (1 ≤ r .run) × (r .taken ≤ 1)
+
+-- the places from j up to n hold 0
+abbrev pub Clear : List ℤ → ℕ → ℕ → Type 0
+Clear out j n = (i : ℕ) → j ≤ i → i < n → getD out i (pos 0) ≡ pos 0

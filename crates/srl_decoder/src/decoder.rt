@@ -1,14 +1,14 @@
-// The decoder, value by value. One value takes at most one code word.
+// The decoder: code words, nonzero values, and calls, which go from one nonzero value to the next.
 ghost use mathlib.Core.Path.{_≡_};
 ghost use mathlib.Core.List.{List, _++_};
 ghost use Prim.Native.Nat.{ℕ, _*_, _^_, _+_, _≤_};
 ghost use lib.ListN.{length, drop, replicate};
 ghost use Rattle.bits.specs.Bits.{bitAt, zeros, bitsRead};
 ghost use Rattle.bits.specs.Words.{Top};
-ghost use Rattle.srl_decoder.specs.Srl.{mostZeros, behind, codeWord, readied, nextValue, nextReader, values, readerAfter};
+ghost use Rattle.srl_decoder.specs.Srl.{mostZeros, behind, codeWord, values, readerAfter};
 ghost use Rattle.srl_decoder.specs.Decode.{opened, closed, stateOk, dueAmong, decoded};
 ghost use Rattle.srl_rules.specs.Rules.{noRoom, stored, Width};
-ghost use Rattle.srl_decoder.specs.Inner.{Sound, shut, stateBy, heldReader, handed, readBehind, below, Brought};
+ghost use Rattle.srl_decoder.specs.Inner.{Sound, shut, stateBy, heldReader, handed, readBehind, below, Brought, Clear};
 use crate::Decoded;
 use crate::SrlState;
 
@@ -27,12 +27,6 @@ pub struct CodesRead {
     pub pending: bool,
 }
 
-// A value and the state after it.
-pub struct NextRead {
-    pub value: i16,
-    pub state: SrlState,
-}
-
 // Whether a decoder can have the state.
 pub fn state_ok(st: SrlState) -> bool
     ensures { λ r. ⌜ r ≡ stateOk st ⌝ }
@@ -47,7 +41,7 @@ pub fn state_ok(st: SrlState) -> bool
     st.zero_run_remaining <= 1024
 }
 
-// ---- one value
+// ---- a code word, and a nonzero value
 
 // The code word that the word `a` begins with.
 fn one_code(a: u64, kp: u8) -> CodesRead
@@ -87,20 +81,6 @@ fn code_word(src: &[u8], st: SrlState) -> SrlState
     }
 }
 
-// The state with a run or a nonzero value at hand: a code word is read where nothing is left of the last one.
-fn ready(src: &[u8], st: SrlState) -> SrlState
-    requires { ⌜ Sound st ⌝ }
-    ensures { λ r. ⌜ r ≡ shut (readied (now (src .entry)) (opened st)) ⌝ }
-{
-    if st.zero_run_remaining != 0 {
-        return st;
-    }
-    if st.nonzero_pending {
-        return st;
-    }
-    code_word(src, st)
-}
-
 // The nonzero value at a place.
 pub fn decode_nonzero(src: &[u8], reader: bits::reader::BitReader, num_bits: u8) -> NonzeroRead
     requires { ⌜ (reader .«bit_idx» ≤ 7) × (reader .«byte_idx» ≤ 2 ^ 63 + 2) × Width «num_bits» ⌝ }
@@ -114,36 +94,6 @@ pub fn decode_nonzero(src: &[u8], reader: bits::reader::BitReader, num_bits: u8)
         magnitude: (zeros + 1) as u16,
         negative: 0x8000_0000_0000_0000 <= a,
         taken: 1 + taken as usize,
-    }
-}
-
-// The next value.
-pub fn next_value(src: &[u8], st: SrlState, num_bits: u8) -> NextRead
-    requires { ⌜ Sound st × Width «num_bits» ⌝ }
-    ensures { λ r. ⌜ (r .value ≡ nextValue (now (src .entry)) «num_bits» (opened st)) × (r .state ≡ shut (nextReader (now (src .entry)) «num_bits» (opened st))) ⌝ }
-{
-    let at_hand = ready(src, st);
-    let reader = at_hand.reader;
-    if at_hand.zero_run_remaining != 0 {
-        return NextRead {
-            value: 0,
-            state: SrlState {
-                reader,
-                kp: at_hand.kp,
-                zero_run_remaining: at_hand.zero_run_remaining - 1,
-                nonzero_pending: at_hand.nonzero_pending,
-            },
-        };
-    }
-    let v = decode_nonzero(src, reader, num_bits);
-    NextRead {
-        value: fixed::with_sign(v.magnitude, v.negative),
-        state: SrlState {
-            reader: bits::reader::skip(reader, v.taken),
-            kp: at_hand.kp,
-            zero_run_remaining: 0,
-            nonzero_pending: false,
-        },
     }
 }
 
@@ -212,7 +162,20 @@ fn state_of(byte_idx: usize, bit_idx: u8, kp: u8, run: usize, pending: bool) -> 
     }
 }
 
-// Stores the next `num_values` values at the front of `out`. The loop keeps the state's parts: a struct would take its padding round.
+// Sets the first `n` values to 0.
+fn clear(out: &mut [i16], n: usize)
+    requires { ⌜ n ≤ length (now out) ⌝ }
+    ensures { λ _. ⌜ Clear (now (out .exit)) 0 n × (drop n (now (out .exit)) ≡ drop n (now (out .entry))) ⌝ }
+{
+    let mut i: usize = 0;
+    while i < n {
+        out[i] = 0;
+        i += 1;
+    }
+}
+
+// Stores the next `num_values` values at the front of `out`. It is cleared first, so that a run of zeros need not be stored: `j` is the place of the next
+// nonzero value, or of the next code word. The loop keeps the state's parts: a struct would take its padding round.
 fn store_values(
     src: &[u8],
     st: SrlState,
@@ -223,29 +186,34 @@ fn store_values(
     requires { ⌜ (st .reader .«bit_idx» ≤ 7) × (st .kp ≤ 80) × (bitsRead (st .reader) ≤ 8 * length (now src)) × Width «num_bits» × («num_values» ≤ length (now out)) ⌝ }
     ensures { λ r. ⌜ (r ≡ shut (heldReader (now (src .entry)) (readerAfter (now (src .entry)) (replicate «num_values» «num_bits») (opened st)))) × (now (out .exit) ≡ values (now (src .entry)) (replicate «num_values» «num_bits») (opened st) ++ drop «num_values» (now (out .entry))) ⌝ }
 {
+    clear(out, num_values);
     let start = st.reader;
     let mut byte_idx = start.byte_idx;
     let mut bit_idx = start.bit_idx;
     let mut kp = st.kp;
-    let mut run = st.zero_run_remaining;
     let mut pending = st.nonzero_pending;
-    let mut i: usize = 0;
-    while i < num_values {
-        let cur = state_of(byte_idx, bit_idx, kp, run, pending);
-        let v = next_value(src, cur, num_bits);
-        let value = v.value;
-        let state = v.state;
-        out[i] = value;
-        let next = hold(src, state);
-        let place = next.reader;
-        byte_idx = place.byte_idx;
-        bit_idx = place.bit_idx;
-        kp = next.kp;
-        run = next.zero_run_remaining;
-        pending = next.nonzero_pending;
-        i += 1;
+    let mut j = st.zero_run_remaining;
+    while j < num_values {
+        let place = bits::reader::BitReader { byte_idx, bit_idx };
+        if pending {
+            let v = decode_nonzero(src, place, num_bits);
+            out[j] = fixed::with_sign(v.magnitude, v.negative);
+            let next = bits::reader::hold(src, bits::reader::skip(place, v.taken));
+            byte_idx = next.byte_idx;
+            bit_idx = next.bit_idx;
+            pending = false;
+            j += 1;
+        } else {
+            let c = code_words(bits::reader::ahead(src, place), kp, num_values - j);
+            let next = bits::reader::hold(src, bits::reader::skip(place, c.taken));
+            byte_idx = next.byte_idx;
+            bit_idx = next.bit_idx;
+            kp = c.kp;
+            pending = c.pending;
+            j += c.run;
+        }
     }
-    state_of(byte_idx, bit_idx, kp, run, pending)
+    state_of(byte_idx, bit_idx, kp, j - num_values, pending)
 }
 
 // The state that goes back to the caller: a place that was handed in at or past the end stays as it is.

@@ -1,7 +1,6 @@
 -- `progressive_decoder::upgrade::srl_count` meets its contract. Assumes nothing.
 use mathlib.Core.Path.{_≡_, sym, ap, _∙_}
 use mathlib.Core.Bool.{Bool, cond}
-use Prim.Native.Nat.{ℕ}
 use Rattle.fixed.proofs.Machine.{exact}
 use Rattle.upgrade_steps.specs.Steps.{bandStep, fromSrl}
 use borrow.Author.Needs.{needs}

@@ -4,12 +4,11 @@ use mathlib.Core.Bool.{Bool, true, false, cond, not}
 use mathlib.Core.List.{List}
 use Prim.Native.Nat.{ℕ, _+_, _-_, _*_, _%_, _≤_, _<_}
 use native.Mathlib.Omega.{arith}
-use lib.IntN.{ℤ, pos}
+use lib.IntN.{pos}
 use lib.ListN.{length, getD, set, take, length-set}
 use mir.Syntax.{w8, w16}
 use mir.Val.{toZ, ofZ}
 use mir.ValLaws.{toZ-ofZ}
-use Rattle.fixed.specs.Fixed.{withSign}
 use Rattle.fixed.proofs.Machine.{got}
 use Rattle.bits.specs.Bits.{bitAt, zeros, bitsRead}
 use Rattle.bits.specs.declared.reader.BitReader.{BitReader}
