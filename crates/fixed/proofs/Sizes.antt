@@ -1,14 +1,14 @@
 -- How large a sum, a difference, a product and a quotient can be. `mag z` is n both for n and for -(n + 1), so that -N ≤ z < N is `mag z < N`.
 --     subℕ-pos, subℕ-neg      a - b for two naturals, by which is larger
 --     add-mag, sub-mag        a sum and a difference: under N where both operands are under N / 2
---     times-mag, mul-mag      a product by k: under N where the other factor is under (N - 1) / k; at most A * B for a factor under A and k up to B
+--     times-mag               a product by k: under N where the other factor is under (N - 1) / k
 --     quot-mag                a quotient by k, rounded towards zero: no larger than the dividend (the library has `mag-shr` for the one rounded down)
 -- Assumes nothing.
 use mathlib.Core.Path.{_≡_, refl}
 use mathlib.Core.Bool.{Bool, true, false, not, cond}
 use Prim.Native.Nat.{ℕ, zero, suc, _*_, _-_, _/_, _<_, _≤_}
 use native.Mathlib.Omega.{arith}
-use native.Mathlib.Nat.{lt-of-le-of-lt, le-trans, div-le-self, div-mul-le-self, mul-le-mul-right, mul-le-mul}
+use native.Mathlib.Nat.{lt-of-le-of-lt, div-le-self, div-mul-le-self, mul-le-mul-right}
 use borrow.Author.Tests.{le-ltb, lt-ltb}
 use lib.Dec.{T, ltb, ltb→lt, nltb→le}
 use lib.IntN.{ℤ, pos, negsuc, subℕ, negℤ, natAbs, _+ℤ_, _-ℤ_, _*ℤ_}
@@ -58,9 +58,6 @@ natAbs-times (negsuc a) k = natAbs-neg (pos (suc a * k))
 pub times-mag : (x : ℤ) (k N : ℕ) → mag x < (N - 1) / k → mag (x *ℤ pos k) < N
 times-mag x k N p =
     lt-of-le-of-lt (mag-natAbs (x *ℤ pos k)) (rw natAbs-times (omega (arith, mul-le-mul-right k (natAbs-le x p), div-mul-le-self (N - 1) k, div-le-self (N - 1) k)))
-
-pub mul-mag : (x : ℤ) (k A B : ℕ) → mag x < A → k ≤ B → mag (x *ℤ pos k) ≤ A * B
-mul-mag x k A B p h = le-trans (mag-natAbs (x *ℤ pos k)) (rw natAbs-times (mul-le-mul (natAbs-le x p) h))
 
 -- ---- quotients
 pub quot-mag : (x : ℤ) (k : ℕ) → mag (quotZ x (pos k)) ≤ mag x

@@ -1,7 +1,6 @@
 // Signed sixteen-bit arithmetic: the signed operations of the port, each in a small function with an exact equation over ℤ.
 // No public function here requires anything: each is exact for every argument of its types.
 ghost use mathlib.Core.Path.{_≡_};
-ghost use Prim.Native.Nat.{_/_, _^_, _≤_};
 ghost use lib.IntN.{pos, natAbs, _-ℤ_};
 ghost use Rattle.fixed.specs.Fixed.{clampI16, clampU8, wrapI16, halfTowardZero, halfFloor, floorShift, roundShift, shiftLeftClamp, addScaled, subScaled, isNegative, isPositive, isZero, isOne, signOf, withSign};
 ghost use Rattle.fixed.specs.Inner.{step};
@@ -92,32 +91,28 @@ pub fn shift_right_floor(value: i16, shift: u8) -> i16
     value >> shift
 }
 
-// Half of 2 to the `shift`, and 0 for no shift.
-fn rounding_term(shift: u8) -> i32
-    requires { ⌜ shift ≤ 15 ⌝ }
-    ensures { λ r. ⌜ r ≡ pos (2 ^ shift / 2) ⌝ }
-{
-    (1i32 << shift) >> 1
-}
-
-// Shifted right with half of 2 to the `shift` added first.
+// Shifted right with half of 2 to the `shift` added first. That is q - q / 2, q being the value shifted one place less, which sixteen bits hold:
+// a loop over it is done eight at a time.
 pub fn round_shift_right(value: i16, shift: u8) -> i16
     ensures { λ r. ⌜ r ≡ roundShift value shift ⌝ }
 {
     if shift > 15 {
         return 0;
     }
-    ((value as i32 + rounding_term(shift)) >> shift) as i16
+    if shift == 0 {
+        return value;
+    }
+    (value >> (shift - 1)) - (value >> shift)
 }
 
-// Shifted left, clamped.
+// Shifted left, clamped: down from the top of thirty-two bits, where a loop has the value without widening it first.
 pub fn shift_left_clamp(value: i16, shift: u8) -> i16
     ensures { λ r. ⌜ r ≡ shiftLeftClamp value shift ⌝ }
 {
     if shift > 15 {
         return clamp_i16((value as i32) << 15);
     }
-    clamp_i16((value as i32) << shift)
+    clamp_i16(((value as i32) << 16) >> (16 - shift))
 }
 
 // ---- signs and magnitudes
