@@ -1,4 +1,5 @@
 -- The laws of `color`, for its own proofs.
-mod Shifted
+mod Halves
+mod Late
 mod Split
 mod Picture

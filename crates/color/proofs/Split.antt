@@ -1,7 +1,8 @@
 -- Factors in two parts: what the code computes with factors that fit sixteen bits is what the definitions say with the whole ones.
---     floor-more, floor-twice     of a floor: a multiple of 65536 comes out of it whole; twice a number, shifted one place more
---     added, twice                the same of what is rounded
---     red-is, green-is, blue-is   the three colours, as the code computes them
+--     floor-more                  of a floor: a multiple of 65536 comes out of it whole
+--     added                       the same of what is rounded
+--     red-whole ..                the three colours by the whole factors
+--     red-is, green-is, blue-is   and by those that fit
 -- Assumes nothing.
 use mathlib.Core.Path.{_≡_, refl, sym, ap, _∙_}
 use mathlib.Core.Bool.{Bool, true, false, cond}
@@ -10,7 +11,7 @@ use native.Mathlib.Nat.{mul-add}
 use native.Mathlib.Omega.{arith}
 use borrow.Author.Tests.{ltb-true, ltb-false}
 use lib.Dec.{ltb}
-use lib.IntN.{ℤ, pos, negsuc, negℤ, _+ℤ_, _-ℤ_, _*ℤ_, negℤ-+ℤ, +ℤ-assoc, +ℤ-comm, +ℤ-negℤ-cancel, -ℤ-+ℤ-cancel}
+use lib.IntN.{ℤ, pos, negsuc, negℤ, _+ℤ_, _-ℤ_, _*ℤ_, negℤ-+ℤ, +ℤ-assoc, +ℤ-comm, +ℤ-idl, +ℤ-negℤ-cancel, -ℤ-+ℤ-cancel}
 use lib.Signed.{shrZ}
 use Rattle.fixed.specs.Fixed.{clampU8, floorShift}
 use Rattle.color.specs.Color.{rounded, red, green, blue}
@@ -48,11 +49,6 @@ floor-more z (negsuc n) =
     = ap (λ (x : ℤ). floorShift x 16) (sym (-ℤ-+ℤ-cancel z (pos (suc n * 65536)))) ∙ floor-add w (suc n) in
     sym (ap (λ (x : ℤ). x +ℤ negsuc n) back ∙ +ℤ-negℤ-cancel (floorShift w 16) (pos (suc n)))
 
--- twice a number, shifted one place more
-floor-twice : (z : ℤ) → floorShift (z +ℤ z) 16 ≡ floorShift z 15
-floor-twice (pos n) = ap pos (omega arith)
-floor-twice (negsuc n) = ap negsuc (omega arith)
-
 -- so a number that is added to what is rounded may be rounded with it
 added : (z x : ℤ) → z +ℤ rounded x ≡ rounded (x +ℤ z *ℤ pos 65536)
 added z x =
@@ -60,27 +56,52 @@ added z x =
     ∙ sym (floor-more (x +ℤ pos 32768) z)
     ∙ ap (λ (w : ℤ). floorShift w 16) (swap x (pos 32768) (z *ℤ pos 65536))
 
--- and twice a number is rounded by half the term and one place less
-twice : (z : ℤ) → floorShift (z +ℤ pos 16384) 15 ≡ rounded (z +ℤ z)
-twice z = sym (floor-twice (z +ℤ pos 16384)) ∙ ap (λ (w : ℤ). floorShift w 16) (pairs z (pos 16384) z (pos 16384))
+-- a product by b, less one by a, with one by a + b
+less-more : (x z : ℤ) (a b : ℕ) → (x -ℤ z *ℤ pos a) +ℤ z *ℤ pos (a + b) ≡ x +ℤ z *ℤ pos b
+less-more x z a b =
+    let p : ℤ = z *ℤ pos a in
+    ap (λ (w : ℤ). (x -ℤ p) +ℤ w) (times-add z a b) ∙ sym (+ℤ-assoc (x -ℤ p) p (z *ℤ pos b)) ∙ ap (λ (w : ℤ). w +ℤ z *ℤ pos b) (-ℤ-+ℤ-cancel x p)
 
--- ---- the three colours, as the code computes them
-pub red-is : (y cr : ℤ) → clampU8 (y +ℤ pos 128 +ℤ (cr +ℤ rounded (cr *ℤ pos 26345))) ≡ red y cr
+-- ---- the three colours by the whole factors
+pub red-whole : (y cr : ℤ) → clampU8 (y +ℤ pos 128 +ℤ rounded (cr *ℤ pos 91881)) ≡ red y cr
 unfolding red
-red-is y cr = ap (λ (w : ℤ). clampU8 (y +ℤ pos 128 +ℤ w)) (added cr (cr *ℤ pos 26345) ∙ ap rounded (sym (times-add cr 26345 65536)))
+red-whole y cr = refl
 
-pub green-is : (y cb cr : ℤ) → clampU8 (y +ℤ pos 128 -ℤ floorShift (cb *ℤ pos 11277 +ℤ pos 16384 +ℤ cr *ℤ pos 23401) 15) ≡ green y cb cr
+pub green-whole : (y cb cr : ℤ) → clampU8 (y +ℤ pos 128 -ℤ rounded (cb *ℤ pos 22554 +ℤ cr *ℤ pos 46802)) ≡ green y cb cr
+unfolding green
+green-whole y cb cr = refl
+
+pub blue-whole : (y cb : ℤ) → clampU8 (y +ℤ pos 128 +ℤ rounded (cb *ℤ pos 116130)) ≡ blue y cb
+unfolding blue
+blue-whole y cb = refl
+
+-- ---- and by those that fit
+-- the sums of the code are those of the definitions
+sums : (y c m : ℤ) → (y +ℤ c) +ℤ (m +ℤ pos 128) ≡ (y +ℤ pos 128) +ℤ (c +ℤ m)
+sums y c m = ap (λ (w : ℤ). (y +ℤ c) +ℤ w) (+ℤ-comm m (pos 128)) ∙ pairs y c (pos 128) m
+
+pub red-is : (y cr : ℤ) → clampU8 ((y +ℤ cr) +ℤ (rounded (cr *ℤ pos 26345) +ℤ pos 128)) ≡ red y cr
+unfolding red
+red-is y cr =
+    ap clampU8 (sums y cr (rounded (cr *ℤ pos 26345)))
+    ∙ ap (λ (w : ℤ). clampU8 ((y +ℤ pos 128) +ℤ w)) (added cr (cr *ℤ pos 26345) ∙ ap rounded (sym (times-add cr 26345 65536)))
+
+pub green-is : (y cb cr : ℤ) → clampU8 ((y -ℤ cr) +ℤ ((pos 0 -ℤ rounded (cb *ℤ pos 22554 -ℤ cr *ℤ pos 18734)) +ℤ pos 128)) ≡ green y cb cr
 unfolding green
 green-is y cb cr =
-    let b : ℤ = cb *ℤ pos 11277 in
-    let r : ℤ = cr *ℤ pos 23401 in
-    ap (λ (w : ℤ). clampU8 (y +ℤ pos 128 -ℤ w))
-    (ap (λ (w : ℤ). floorShift w 15) (swap b (pos 16384) r) ∙ twice (b +ℤ r) ∙ ap rounded (pairs b r b r)
-    ∙ sym (λ j. rounded (times-add cb 11277 11277 j +ℤ times-add cr 23401 23401 j)))
+    let p : ℤ = cb *ℤ pos 22554 -ℤ cr *ℤ pos 18734 in
+    ap clampU8 (sums y (negℤ cr) (pos 0 -ℤ rounded p))
+    ∙ ap (λ (w : ℤ). clampU8 ((y +ℤ pos 128) +ℤ w))
+    (ap (λ (w : ℤ). negℤ cr +ℤ w) (+ℤ-idl (negℤ (rounded p))) ∙ sym (negℤ-+ℤ cr (rounded p))
+    ∙ ap negℤ (added cr p ∙ ap rounded (less-more (cb *ℤ pos 22554) cr 18734 46802)))
 
-pub blue-is : (y cb : ℤ) → clampU8 (y +ℤ pos 128 +ℤ (cb +ℤ floorShift (cb *ℤ pos 25297 +ℤ pos 16384) 15)) ≡ blue y cb
+-- of blue, what is added to a sum of sixteen bits
+pub blue-part : (cb : ℤ) → cb +ℤ rounded (pos 0 -ℤ cb *ℤ pos 14942) ≡ rounded (cb *ℤ pos 50594)
+blue-part cb = added cb (pos 0 -ℤ cb *ℤ pos 14942) ∙ ap rounded (less-more (pos 0) cb 14942 50594 ∙ +ℤ-idl (cb *ℤ pos 50594))
+
+pub blue-is : (y cb : ℤ) → clampU8 ((y +ℤ cb) +ℤ ((cb +ℤ rounded (pos 0 -ℤ cb *ℤ pos 14942)) +ℤ pos 128)) ≡ blue y cb
 unfolding blue
 blue-is y cb =
-    let b : ℤ = cb *ℤ pos 25297 in
-    ap (λ (w : ℤ). clampU8 (y +ℤ pos 128 +ℤ w))
-    (ap (λ (w : ℤ). cb +ℤ w) (twice b) ∙ added cb (b +ℤ b) ∙ ap (λ (w : ℤ). rounded (w +ℤ cb *ℤ pos 65536)) (sym (times-add cb 25297 25297)) ∙ ap rounded (sym (times-add cb 50594 65536)))
+    ap clampU8 (sums y cb (cb +ℤ rounded (pos 0 -ℤ cb *ℤ pos 14942)))
+    ∙ ap (λ (w : ℤ). clampU8 ((y +ℤ pos 128) +ℤ w))
+    (ap (λ (w : ℤ). cb +ℤ w) (blue-part cb) ∙ added cb (cb *ℤ pos 50594) ∙ ap rounded (sym (times-add cb 50594 65536)))

@@ -1,2 +1,3 @@
 -- What the contracts of `color` cite.
 pub mod Color
+pub mod Inner

@@ -3,28 +3,12 @@ use mathlib.Core.Path.{_∙_, ap}
 use borrow.Author.Needs.{needs}
 use Rattle.fixed.specs.Fixed.{clampU8}
 use Rattle.fixed.proofs.Machine.{signed, exact}
-use Rattle.color.proofs.Shifted.{under-shift}
-use Rattle.color.proofs.Split.{blue-is}
+use Rattle.color.proofs.Split.{blue-whole}
 use Rattle.color.proofs.blue.Statement.{statement}
 use Rattle.color.proofs.blue.Tie as tie
 
 returns : tie.Need-returns
-returns c =
-    let s = c .before in
-    c .clamp-u8 .ensures ∙ ap clampU8 (search (under-shift, exact) depth 20 fits 4000) ∙ blue-is (s .args .y) (s .args .cb)
+returns c = c .clamp-u8 .ensures ∙ ap clampU8 (search exact depth 20 fits 4000) ∙ blue-whole (c .before .args .y) (c .before .args .cb)
 
 pub blue-spec : {M : Type 1} → statement M
-blue-spec =
-    tie.close
-    (tie.spec
-    (λ c. search signed depth 20)
-    (λ c. search signed depth 20)
-    (λ c. search signed depth 20)
-    (λ c. search signed depth 20)
-    (λ c. search signed depth 20)
-    (λ c. search signed depth 20)
-    (λ c. search (under-shift, signed) depth 20)
-    (λ c. search (under-shift, signed) depth 20)
-    (λ c. search (under-shift, signed) depth 20)
-    (λ c κs. search needs)
-    returns)
+blue-spec = tie.close (tie.spec (λ c. search signed depth 20) (λ c. search signed depth 20) (λ c. search signed depth 20) (λ c. search signed depth 20) (λ c. search signed depth 20) (λ c. search signed depth 20) (λ c κs. search needs) returns)

@@ -3,32 +3,12 @@ use mathlib.Core.Path.{_∙_, ap}
 use borrow.Author.Needs.{needs}
 use Rattle.fixed.specs.Fixed.{clampU8}
 use Rattle.fixed.proofs.Machine.{signed, exact}
-use Rattle.color.proofs.Shifted.{under-shift}
-use Rattle.color.proofs.Split.{green-is}
+use Rattle.color.proofs.Split.{green-whole}
 use Rattle.color.proofs.green.Statement.{statement}
 use Rattle.color.proofs.green.Tie as tie
 
 returns : tie.Need-returns
-returns c =
-    let s = c .before in
-    let fy = s .fits .y in
-    let fcb = s .fits .cb in
-    let fcr = s .fits .cr in
-    c .clamp-u8 .ensures ∙ ap clampU8 (search (under-shift, exact) depth 20 fits 4000) ∙ green-is (s .args .y) (s .args .cb) (s .args .cr)
+returns c = c .clamp-u8 .ensures ∙ ap clampU8 (search exact depth 20 fits 4000) ∙ green-whole (c .before .args .y) (c .before .args .cb) (c .before .args .cr)
 
 pub green-spec : {M : Type 1} → statement M
-green-spec =
-    tie.close
-    (tie.spec
-    (λ c. search signed depth 20)
-    (λ c. search signed depth 20)
-    (λ c. search signed depth 20)
-    (λ c. search signed depth 20)
-    (λ c. search signed depth 20)
-    (λ c. search signed depth 20)
-    (λ c. search signed depth 20)
-    (λ c. search signed depth 20)
-    (λ c. search (under-shift, signed) depth 20)
-    (λ c. search (under-shift, signed) depth 20)
-    (λ c κs. search needs)
-    returns)
+green-spec = tie.close (tie.spec (λ c. search signed depth 20) (λ c. search signed depth 20) (λ c. search signed depth 20) (λ c. search signed depth 20) (λ c. search signed depth 20) (λ c. search signed depth 20) (λ c. search signed depth 20) (λ c. search signed depth 20) (λ c. search signed depth 20) (λ c κs. search needs) returns)
