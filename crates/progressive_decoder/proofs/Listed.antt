@@ -18,7 +18,8 @@ use Rattle.srl_rules.proofs.Widths.{pow-high}
 use Rattle.upgrade_steps.specs.Steps.{Step, Source, skipped, srl, raw, source, fromSrl}
 use Rattle.upgrade_steps.proofs.Sources.{source-srl, source-raw}
 use Rattle.progressive_decoder.specs.Upgrade.{srlCoefficient, srlSign, adds, rawCoefficient}
-use Rattle.progressive_decoder.specs.Walk.{Walked, walked, coefficientAt, signAt, readerAt, countAt, onto, walk, steppedFrom, over, placesOf, srlPlaces, rawPlaces}
+use Rattle.places.specs.Places.{placesOf}
+use Rattle.progressive_decoder.specs.Walk.{Walked, walked, coefficientAt, signAt, readerAt, countAt, onto, walk, steppedFrom, over, srlPlaces, rawPlaces}
 
 -- how far the readers have gone
 pub record Near (w : Walked) (m n : ℕ) : Type 0 where

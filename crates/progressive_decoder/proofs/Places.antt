@@ -1,46 +1,27 @@
--- The places of a band's signs in two lists: one place more, and how many and how large they are.
-use mathlib.Core.Path.{_≡_, refl, sym, ap, ap₂, _∙_, subst}
+-- The places of a band's signs in two lists: one place more, eight more, and how many and how large they are.
+use mathlib.Core.Path.{_≡_, refl, sym, ap, ap₂, _∙_}
 use mathlib.Core.Bool.{Bool, true, false, cond, not}
 use mathlib.Core.List.{List, [], _∷_, _++_, map, append-nil}
-use Prim.Native.Nat.{ℕ, zero, suc, _+_, _-_, _≤_, _<_}
+use Prim.Native.Nat.{ℕ, zero, suc, _+_, _-_, _*_, _≤_, _<_}
 use native.Mathlib.Nat.{add-zero, le-refl}
 use native.Mathlib.Numerals.{add-one}
 use native.Mathlib.Omega.{arith}
-use borrow.Author.Tests.{ltb-true, ltb-false}
-use lib.Dec.{ltb}
 use lib.IntN.{ℤ, pos}
 use lib.ListN.{length, getD, set, take}
-use lib.Seq.{length-take-le, take-length, take-suc, take-suc-set, take-set-le, getD-take}
+use lib.Seq.{length-take-le, take-length, take-suc-set, take-set-le, getD-take}
 use Rattle.fixed.specs.Fixed.{isZero}
+use Rattle.places.specs.Places.{placesOf, maskOf, onesOf, Listed}
+use Rattle.places.proofs.Ones.{places-suc, places-more, mask-not, ones-both}
 use Rattle.upgrade_steps.specs.Steps.{Step, fromSrl}
-use Rattle.progressive_decoder.specs.Walk.{placesOf, srlPlaces, rawPlaces, ZeroSigns, Split, Within}
-
-map-append : (a b : List ℕ) → map suc (a ++ b) ≡ map suc a ++ map suc b
-map-append [] b = refl
-map-append (x ∷ a) b = ap (λ (l : List ℕ). suc x ∷ l) (map-append a b)
-
-places-next : (f : ℤ → Bool) (ss : List ℤ) (s : ℤ) → placesOf f (ss ++ (s ∷ [])) ≡ placesOf f ss ++ cond (f s) (length ss ∷ []) []
-unfolding placesOf
-places-next f [] s = refl
-places-next f (x ∷ ss) s = by (f x) (f s) (places-next f ss s)
-  where
-    last : (b : Bool) → map suc (cond b (length ss ∷ []) []) ≡ cond b (suc (length ss) ∷ []) []
-    last true = refl
-    last false = refl
-
-    by : (a b : Bool) → placesOf f (ss ++ (s ∷ [])) ≡ placesOf f ss ++ cond b (length ss ∷ []) []
-        → cond a (0 ∷ map suc (placesOf f (ss ++ (s ∷ [])))) (map suc (placesOf f (ss ++ (s ∷ []))))
-        ≡ cond a (0 ∷ map suc (placesOf f ss)) (map suc (placesOf f ss)) ++ cond b (suc (length ss) ∷ []) []
-    by true b e = ap (λ (l : List ℕ). 0 ∷ l) (ap (map suc) e ∙ map-append (placesOf f ss) (cond b (length ss ∷ []) []) ∙ ap (λ (l : List ℕ). map suc (placesOf f ss) ++ l) (last b))
-    by false b e = ap (map suc) e ∙ map-append (placesOf f ss) (cond b (length ss ∷ []) []) ∙ ap (λ (l : List ℕ). map suc (placesOf f ss) ++ l) (last b)
+use Rattle.progressive_decoder.specs.Walk.{srlPlaces, rawPlaces, Split, Within}
 
 -- a place stored behind the n that are in counts if it has the property
 stored : (f : ℤ → Bool) (ss : List ℤ) (i n z : ℕ) (l : List ℕ) → i < length ss → n < length l → take n l ≡ placesOf f (take i ss)
     → z ≡ cond (f (getD ss i (pos 0))) 1 0 → take (n + z) (set l n i) ≡ placesOf f (take (i + 1) ss)
 stored f ss i n z l h k e g =
     by (f (getD ss i (pos 0))) g
-    ∙ ap₂ (λ (t : List ℕ) (j : ℕ). t ++ cond (f (getD ss i (pos 0))) (j ∷ []) []) e (sym (length-take-le i ss (omega arith)))
-    ∙ sym (ap (λ (j : ℕ). placesOf f (take j ss)) (add-one i) ∙ ap (placesOf f) (take-suc ss i (pos 0) h) ∙ places-next f (take i ss) (getD ss i (pos 0)))
+    ∙ ap (λ (t : List ℕ). t ++ cond (f (getD ss i (pos 0))) (i ∷ []) []) e
+    ∙ sym (ap (λ (j : ℕ). placesOf f (take j ss)) (add-one i) ∙ places-suc f (pos 0) ss i h)
   where
     by : (b : Bool) → z ≡ cond b 1 0 → take (n + z) (set l n i) ≡ take n l ++ cond b (i ∷ []) []
     by true q = rw (q, add-one n) (take-suc-set l n i k)
@@ -71,41 +52,37 @@ split-next t ss i n z zeros others h k l e p =
     other true q = omega arith
     other false q = omega arith
 
--- one place more whose sign is 0: it goes into one list only
-passed : (f : ℤ → Bool) (ss : List ℤ) (i : ℕ) → i < length ss → f (getD ss i (pos 0)) ≡ false → placesOf f (take i ss) ≡ placesOf f (take (i + 1) ss)
-passed f ss i h e =
-    sym (ap (λ (j : ℕ). placesOf f (take j ss)) (add-one i) ∙ ap (placesOf f) (take-suc ss i (pos 0) h) ∙ places-next f (take i ss) (getD ss i (pos 0))
-    ∙ ap (λ (b : Bool). placesOf f (take i ss) ++ cond b (length (take i ss) ∷ []) []) e ∙ append-nil (placesOf f (take i ss)))
+-- four signs
+pub mask-four : (ss : List ℤ) (i a b c d : ℕ) → a ≡ cond (isZero (getD ss i (pos 0))) 1 0 → b ≡ cond (isZero (getD ss (i + 1) (pos 0))) 1 0 → c ≡ cond (isZero (getD ss (i + 2) (pos 0))) 1 0
+    → d ≡ cond (isZero (getD ss (i + 3) (pos 0))) 1 0 → a + 2 * b + 4 * c + 8 * d ≡ maskOf isZero (pos 0) ss i 4
+unfolding maskOf
+mask-four ss i a b c d e f g h =
+    let at : ℕ → ℕ = λ j. cond (isZero (getD ss j (pos 0))) 1 0 in
+    let i₁ : i + 1 ≡ suc i = omega arith in
+    let i₂ : i + 2 ≡ suc (suc i) = omega arith in
+    let i₃ : i + 3 ≡ suc (suc (suc i)) = omega arith in
+    omega (arith, e, f ∙ ap at i₁, g ∙ ap at i₂, h ∙ ap at i₃)
 
-pub split-zero : (t : Step) (ss : List ℤ) (i n : ℕ) (zeros others : List ℕ) → i < length ss → n < length zeros → t .bottom ≡ false → isZero (getD ss i (pos 0)) ≡ true
-    → Split t ss i n zeros others → Split t ss (i + 1) (n + 1) (set zeros n i) others
-split-zero t ss i n zeros others h k b z p =
-    let e : fromSrl t (getD ss i (pos 0)) ≡ true = ap₂ (λ (a c : Bool). cond a false c) b z in
+-- eight places more, by the ones of a byte
+listed : (f : ℤ → Bool) (ss : List ℤ) (i n r m : ℕ) (l l′ : List ℕ) → i + 8 ≤ length ss → m ≡ maskOf f (pos 0) ss i 8 → Listed m i n r l l′ → take n l ≡ placesOf f (take i ss)
+    → take r l′ ≡ placesOf f (take (i + 8) ss)
+listed f ss i n r m l l′ h e p k =
+    p .places ∙ ap₂ (λ (a : List ℕ) (j : ℕ). a ++ map (λ p. i + p) (onesOf 8 j)) k e ∙ sym (places-more f (pos 0) ss 8 i h)
+
+pub split-eight : (t : Step) (ss : List ℤ) (i n r o m : ℕ) (zeros zeros′ others others′ : List ℕ) → t .bottom ≡ false → i + 8 ≤ length ss → m ≡ maskOf isZero (pos 0) ss i 8
+    → Listed m i n r zeros zeros′ → Listed (255 - m) i (i - n) o others others′ → Split t ss i n zeros others → Split t ss (i + 8) r zeros′ others′
+split-eight t ss i n r o m zeros zeros′ others others′ b h e p q s =
+    let f = fromSrl t in
+    let g : ℤ → Bool = λ x. not (fromSrl t x) in
+    let e′ : m ≡ maskOf f (pos 0) ss i 8 = e ∙ ap (λ (a : Bool). maskOf (λ x. cond a false (isZero x)) (pos 0) ss i 8) (sym b) in
+    let d : 255 - m ≡ maskOf g (pos 0) ss i 8 = omega (arith, e′, mask-not f (pos 0) ss 8 i) in
+    let both : length (onesOf 8 m) + length (onesOf 8 (255 - m)) ≡ 8 = ap₂ (λ (x y : ℕ). length (onesOf 8 x) + length (onesOf 8 y)) e′ d ∙ ones-both f (pos 0) ss 8 i in
+    let rest : i + 8 - r ≡ o = omega (arith, p .count, q .count, both, s .few) in
     record {
-      few = omega (arith, p .few);
-      srl = stored (fromSrl t) ss i n 1 zeros h k (p .srl) (sym (ap (λ (a : Bool). cond a 1 0) e));
-      raw =
-          let m : i + 1 - (n + 1) ≡ i - n = omega arith in
-          ap (λ (j : ℕ). take j others) m ∙ p .raw ∙ passed (λ s. not (fromSrl t s)) ss i h (ap not e);
+      few = omega (arith, p .count, both, s .few);
+      srl = listed f ss i n r m zeros zeros′ h e′ p (s .srl);
+      raw = ap (λ (j : ℕ). take j others′) rest ∙ listed g ss i (i - n) o (255 - m) others others′ h d q (s .raw);
     }
-
--- the same at numbers that are equal
-pub split-at : (t : Step) (ss : List ℤ) (zeros others : List ℕ) {i j n m : ℕ} → i ≡ j → n ≡ m → Split t ss i n zeros others → Split t ss j m zeros others
-split-at t ss zeros others {i} {j} {n} {m} e f p = subst (λ (x : ℕ). Split t ss x m zeros others) e (subst (λ (x : ℕ). Split t ss i x zeros others) f p)
-
--- signs that are 0, in two parts
-pub zeros-join : (ss : List ℤ) (i k m : ℕ) → ZeroSigns ss i k → ZeroSigns ss (i + k) m → ZeroSigns ss i (k + m)
-zeros-join ss i k m a b j h = by (ltb j k) refl
-  where
-    by : (t : Bool) → ltb j k ≡ t → isZero (getD ss (i + j) (pos 0)) ≡ true
-    by true e = a j (ltb-true j k e)
-    by false e =
-        let l : k ≤ j = ltb-false j k e in
-        let n : i + j ≡ i + k + (j - k) = omega (arith, l) in
-        ap (λ (x : ℕ). isZero (getD ss x (pos 0))) n ∙ b (j - k) (omega (arith, l))
-
-pub zeros-one : (ss : List ℤ) (i : ℕ) → isZero (getD ss i (pos 0)) ≡ true → ZeroSigns ss i 1
-zeros-one ss i e j h = let n : i + j ≡ i = omega arith in ap (λ (x : ℕ). isZero (getD ss x (pos 0))) n ∙ e
 
 -- places lie within the signs
 later : (l : List ℕ) (m j : ℕ) → j < length (map suc l) → ((j : ℕ) → j < length l → getD l j 0 < m) → getD (map suc l) j 0 < suc m

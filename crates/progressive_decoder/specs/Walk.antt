@@ -1,12 +1,12 @@
 -- For the inner functions of the reader: a pass as one walk over the places, with both streams' readers. It gives what `Upgrade` says
 -- (proofs/Walks.antt), where all SRL values are read before the first raw bit: the two streams do not touch each other.
 use mathlib.Core.Path.{_≡_}
-use mathlib.Core.Bool.{Bool, true, false, cond, not}
-use mathlib.Core.List.{List, [], _∷_, map}
-use Prim.Native.Nat.{ℕ, suc, _+_, _-_, _≤_, _<_}
+use mathlib.Core.Bool.{Bool, true, false, not}
+use mathlib.Core.List.{List, [], _∷_}
+use Prim.Native.Nat.{ℕ, _+_, _-_, _≤_, _<_}
 use lib.IntN.{ℤ, pos, negsuc}
 use lib.ListN.{getD, set, take}
-use Rattle.fixed.specs.Fixed.{isZero}
+use Rattle.places.specs.Places.{placesOf}
 use Rattle.bits.specs.Bits.{num, bitsRead}
 use Rattle.srl_decoder.specs.Srl.{Reader, nextValue, nextReader}
 use Rattle.srl_decoder.specs.Decode.{opened}
@@ -80,21 +80,12 @@ steppedFrom o srlData rawData t i w =
 
 -- ════ a band by two lists of its places ════
 
--- the places of some signs that have a property, in order
-unfoldable pub placesOf : (ℤ → Bool) → List ℤ → List ℕ
-placesOf f [] = []
-placesOf f (s ∷ ss) = cond (f s) (0 ∷ map suc (placesOf f ss)) (map suc (placesOf f ss))
-
 -- the places that have an SRL value, and the others, in a band that is not skipped
 abbrev pub srlPlaces : Step → List ℤ → List ℕ
 srlPlaces t ss = placesOf (fromSrl t) ss
 
 abbrev pub rawPlaces : Step → List ℤ → List ℕ
 rawPlaces t ss = placesOf (λ s. not (fromSrl t s)) ss
-
--- the k signs from place i on are 0
-abbrev pub ZeroSigns : List ℤ → ℕ → ℕ → Type 0
-ZeroSigns ss i k = (j : ℕ) → j < k → isZero (getD ss (i + j) (pos 0)) ≡ true
 
 -- the first i places, n of them with an SRL value, stand in two lists
 pub record Split (t : Step) (ss : List ℤ) (i n : ℕ) (zeros others : List ℕ) : Type 0 where

@@ -1,19 +1,21 @@
 // The reader of a pass: band by band, with a reader for each stream. A band's places are split into those that have an SRL value and the others.
 ghost use mathlib.Core.Path.{_≡_};
-ghost use mathlib.Core.Bool.{true, false, cond, _&&_};
+ghost use mathlib.Core.Bool.{true, false, cond};
 ghost use mathlib.Core.List.{List};
 ghost use Prim.Native.Nat.{ℕ, _+_, _*_, _^_, _≤_, _<_};
-ghost use lib.IntN.{ℤ};
-ghost use lib.ListN.{length, take, replicate};
+ghost use lib.IntN.{pos};
+ghost use lib.ListN.{length, getD, take, replicate};
 ghost use Rattle.bits.specs.Bits.{bitsRead};
 ghost use Rattle.bits.specs.Words.{Top};
 ghost use Rattle.srl_decoder.specs.Srl.{Reader, start};
 ghost use Rattle.srl_decoder.specs.Decode.{opened};
 ghost use Rattle.srl_rules.specs.Rules.{Width};
+ghost use Rattle.fixed.specs.Fixed.{isZero};
+ghost use Rattle.places.specs.Places.{maskOf, placeRows, placeCounts};
 ghost use Rattle.bands.specs.Positions.{rowInDomain};
 ghost use Rattle.upgrade_steps.specs.Steps.{Step, steps, bandStep, fromSrl, srl, raw};
 ghost use Rattle.progressive_decoder.specs.Upgrade.{adds, rawCoefficient, upgradedCoefficients, upgradedSigns};
-ghost use Rattle.progressive_decoder.specs.Walk.{walked, walk, over, reached, signBy, Within, ZeroSigns, Split, Early};
+ghost use Rattle.progressive_decoder.specs.Walk.{walked, walk, over, reached, signBy, Within, Split, Early};
 
 // A reader for each stream: the SRL decoder's state, and the count of raw bits read.
 pub struct Readers {
@@ -57,14 +59,26 @@ fn sign_by(negative: bool) -> i8
 
 // ---- a band's places in two lists
 
-// 1 where the place has an SRL value, and 0 where it has none.
-fn srl_count(t: upgrade_steps::BandStep, s: i8) -> usize
-    ensures { λ r. ⌜ r ≡ cond (fromSrl (bandStep t) s) 1 0 ⌝ }
+// 1 where the sign is 0, and 0 where it is not.
+fn zero_count(sign: &[i8], i: usize) -> usize
+    requires { ⌜ i < length (now sign) ⌝ }
+    ensures { λ r. ⌜ (r ≡ cond (isZero (getD (now (sign .entry)) i (pos 0))) 1 0) × (r ≤ 1) ⌝ }
 {
-    if upgrade_steps::from_srl(t, s) {
+    if fixed::is_zero_sign(sign[i]) {
         return 1;
     }
     0
+}
+
+// 1 where the place has an SRL value, and 0 where it has none.
+fn srl_count(t: upgrade_steps::BandStep, sign: &[i8], i: usize) -> usize
+    requires { ⌜ i < length (now sign) ⌝ }
+    ensures { λ r. ⌜ r ≡ cond (fromSrl (bandStep t) (getD (now (sign .entry)) i (pos 0))) 1 0 ⌝ }
+{
+    if t.bottom {
+        return 0;
+    }
+    zero_count(sign, i)
 }
 
 // Puts the places from `from` to `to` into the lists, behind the `count` of `zeros` that are in; how many are in then.
@@ -85,94 +99,78 @@ fn split_places(
     while i < to {
         zeros[n] = i as u16;
         others[i - n] = i as u16;
-        n += srl_count(t, sign[i]);
+        n += srl_count(t, sign, i);
         i += 1;
     }
     n
 }
 
-fn both(a: bool, b: bool) -> bool
-    ensures { λ r. ⌜ r ≡ (a && b) ⌝ }
-{
-    if a {
-        return b;
-    }
-    false
-}
-
-// Whether the two signs from `i` on are 0. Both are read whatever they are, so that the compiler can make one load of eight.
-fn two_zeros(sign: &[i8], i: usize) -> bool
-    requires { ⌜ i + 2 ≤ length (now sign) ⌝ }
-    ensures { λ r. ⌜ (r ≡ true → ZeroSigns (now (sign .entry)) i 2) ⌝ }
-{
-    let a = fixed::is_zero_sign(sign[i]);
-    let b = fixed::is_zero_sign(sign[i + 1]);
-    both(a, b)
-}
-
-// Whether the four signs from `i` on are 0.
-fn four_zeros(sign: &[i8], i: usize) -> bool
+// Which of the four signs from `i` on are 0, as the bits of a number, that of the first the lowest.
+fn four_mask(sign: &[i8], i: usize) -> usize
     requires { ⌜ i + 4 ≤ length (now sign) ⌝ }
-    ensures { λ r. ⌜ (r ≡ true → ZeroSigns (now (sign .entry)) i 4) ⌝ }
+    ensures { λ r. ⌜ r ≡ maskOf isZero (pos 0) (now (sign .entry)) i 4 ⌝ }
 {
-    let a = two_zeros(sign, i);
-    let b = two_zeros(sign, i + 2);
-    both(a, b)
+    let a = zero_count(sign, i);
+    let b = zero_count(sign, i + 1);
+    let c = zero_count(sign, i + 2);
+    let d = zero_count(sign, i + 3);
+    a + 2 * b + 4 * c + 8 * d
 }
 
-// Whether the eight signs from `i` on are 0.
-fn eight_zeros(sign: &[i8], i: usize) -> bool
+// Which of the eight signs from `i` on are 0.
+fn eight_mask(sign: &[i8], i: usize) -> usize
     requires { ⌜ i + 8 ≤ length (now sign) ⌝ }
-    ensures { λ r. ⌜ (r ≡ true → ZeroSigns (now (sign .entry)) i 8) ⌝ }
+    ensures { λ r. ⌜ (r ≡ maskOf isZero (pos 0) (now (sign .entry)) i 8) × (r < 256) ⌝ }
 {
-    let a = four_zeros(sign, i);
-    let b = four_zeros(sign, i + 4);
-    both(a, b)
+    four_mask(sign, i) + 16 * four_mask(sign, i + 4)
 }
 
-// Puts the eight places from `i` on into `zeros`, behind the `n` that are in.
-fn put_eight(zeros: &mut [u16], n: usize, i: usize)
-    requires { ⌜ (n + 8 ≤ length (now zeros)) × (i ≤ 1024) ⌝ }
-    ensures { λ _. ⌜ ((t : Step) (ss : List ℤ) (others : List ℕ) → t .bottom ≡ false → i + 8 ≤ length ss → ZeroSigns ss i 8 → Split t ss i n (now (zeros .entry)) others → Split t ss (i + 8) (n + 8) (now (zeros .exit)) others) ⌝ }
-{
-    let mut k: usize = 0;
-    while k < 8 {
-        zeros[n + k] = (i + k) as u16;
-        k += 1;
-    }
-}
-
-// Puts the eight places from `i` on into the lists.
+// Puts eight places from `i` on, not of the bottom, into the lists, by a table: no branch depends on the signs.
 fn split_eight(
-    t: upgrade_steps::BandStep,
     sign: &[i8],
     i: usize,
     n: usize,
     zeros: &mut [u16],
     others: &mut [u16],
+    rows: &[u8; 2048],
+    counts: &[u8; 256],
 ) -> usize
-    requires { ⌜ Split (bandStep t) (now sign) i n (now zeros) (now others) × (i + 8 ≤ length (now sign)) × (length (now sign) ≤ 1024) × (length (now sign) ≤ length (now zeros)) × (length (now sign) ≤ length (now others)) ⌝ }
-    ensures { λ r. ⌜ Split (bandStep t) (now (sign .entry)) (i + 8) r (now (zeros .exit)) (now (others .exit)) ⌝ }
+    requires { ⌜ (n ≤ i) × (i + 8 ≤ length (now sign)) × (length (now sign) ≤ 1024) × (length (now sign) ≤ length (now zeros)) × (length (now sign) ≤ length (now others)) × (now rows ≡ placeRows) × (now counts ≡ placeCounts) ⌝ }
+    ensures { λ r. ⌜ ((t : Step) → t .bottom ≡ false → Split t (now (sign .entry)) i n (now (zeros .entry)) (now (others .entry)) → Split t (now (sign .entry)) (i + 8) r (now (zeros .exit)) (now (others .exit))) ⌝ }
 {
-    if !t.bottom {
-        if eight_zeros(sign, i) {
-            put_eight(zeros, n, i);
-            return n + 8;
-        }
+    let m = eight_mask(sign, i);
+    places::put_ones(rows, counts, 255 - m, i as u16, others, i - n);
+    places::put_ones(rows, counts, m, i as u16, zeros, n)
+}
+
+// How far a band's places are taken eight at a time: in the bottom the signs say nothing.
+fn eights_end(t: upgrade_steps::BandStep, len: usize) -> usize
+    ensures { λ r. ⌜ r ≡ cond (t .bottom) 0 len ⌝ }
+{
+    if t.bottom {
+        return 0;
     }
-    split_places(t, sign, i, i + 8, n, zeros, others)
+    len
 }
 
 // Puts the places that have an SRL value into `zeros`, and the others into `others`; how many have one.
-fn split(t: upgrade_steps::BandStep, sign: &[i8], zeros: &mut [u16], others: &mut [u16]) -> usize
-    requires { ⌜ (length (now sign) ≤ 1024) × (length (now sign) ≤ length (now zeros)) × (length (now sign) ≤ length (now others)) ⌝ }
+fn split(
+    t: upgrade_steps::BandStep,
+    sign: &[i8],
+    zeros: &mut [u16],
+    others: &mut [u16],
+    rows: &[u8; 2048],
+    counts: &[u8; 256],
+) -> usize
+    requires { ⌜ (length (now sign) ≤ 1024) × (length (now sign) ≤ length (now zeros)) × (length (now sign) ≤ length (now others)) × (now rows ≡ placeRows) × (now counts ≡ placeCounts) ⌝ }
     ensures { λ r. ⌜ Split (bandStep t) (now (sign .entry)) (length (now (sign .entry))) r (now (zeros .exit)) (now (others .exit)) ⌝ }
 {
     let len = sign.len();
+    let end = eights_end(t, len);
     let mut n: usize = 0;
     let mut i: usize = 0;
-    while i + 8 <= len {
-        n = split_eight(t, sign, i, n, zeros, others);
+    while i + 8 <= end {
+        n = split_eight(sign, i, n, zeros, others, rows, counts);
         i += 8;
     }
     split_places(t, sign, i, len, n, zeros, others)
@@ -289,12 +287,14 @@ fn upgrade_band(
     sign: &mut [i8],
     zeros: &mut [u16],
     others: &mut [u16],
+    rows: &[u8; 2048],
+    counts: &[u8; 256],
 ) -> Readers
-    requires { ⌜ Width (t .width) × Early from (2 ^ 40) × (length (now sign) ≡ length (now coefficients)) × (length (now coefficients) ≤ 1024) × (1024 ≤ length (now zeros)) × (1024 ≤ length (now others)) ⌝ }
+    requires { ⌜ Width (t .width) × Early from (2 ^ 40) × (length (now sign) ≡ length (now coefficients)) × (length (now coefficients) ≤ 1024) × (1024 ≤ length (now zeros)) × (1024 ≤ length (now others)) × (now rows ≡ placeRows) × (now counts ≡ placeCounts) ⌝ }
     ensures { λ r. ⌜ (walk (now («srl_data» .entry)) (now («raw_data» .entry)) (replicate (length (now (coefficients .entry))) (bandStep t)) (now (coefficients .entry)) (now (sign .entry)) (opened (from .srl)) (from .raw) ≡ reached (now (coefficients .exit)) (now (sign .exit)) r) × ((m : ℕ) → Early from m → Early r (m + 40000 * length (now (coefficients .entry)))) ⌝ }
 {
     let state = from.srl;
-    let n = split(t, sign, zeros, others);
+    let n = split(t, sign, zeros, others, rows, counts);
     let raw = raw_list(
         raw_data,
         from.raw,
@@ -318,8 +318,10 @@ fn one_band(
     sign: &mut [i8],
     zeros: &mut [u16],
     others: &mut [u16],
+    rows: &[u8; 2048],
+    counts: &[u8; 256],
 ) -> Readers
-    requires { ⌜ (t .width ≤ 15) × Early from (2 ^ 40) × (length (now sign) ≡ length (now coefficients)) × (length (now coefficients) ≤ 1024) × (1024 ≤ length (now zeros)) × (1024 ≤ length (now others)) ⌝ }
+    requires { ⌜ (t .width ≤ 15) × Early from (2 ^ 40) × (length (now sign) ≡ length (now coefficients)) × (length (now coefficients) ≤ 1024) × (1024 ≤ length (now zeros)) × (1024 ≤ length (now others)) × (now rows ≡ placeRows) × (now counts ≡ placeCounts) ⌝ }
     ensures { λ r. ⌜ (walk (now («srl_data» .entry)) (now («raw_data» .entry)) (replicate (length (now (coefficients .entry))) (bandStep t)) (now (coefficients .entry)) (now (sign .entry)) (opened (from .srl)) (from .raw) ≡ reached (now (coefficients .exit)) (now (sign .exit)) r) × ((m : ℕ) → Early from m → Early r (m + 40000 * length (now (coefficients .entry)))) ⌝ }
 {
     if t.width == 0 {
@@ -334,6 +336,8 @@ fn one_band(
         sign,
         zeros,
         others,
+        rows,
+        counts,
     )
 }
 
@@ -352,6 +356,8 @@ pub fn upgrade_bands(
     requires { ⌜ (rowInDomain prev ≡ true) × (4096 ≤ length (now coefficients)) × (4096 ≤ length (now sign)) ⌝ }
     ensures { λ _. ⌜ (now (coefficients .exit) ≡ upgradedCoefficients (steps «use_reduce_extrapolate» prev curr) (now («srl_data» .entry)) (now («raw_data» .entry)) (now (coefficients .entry)) (now (sign .entry))) × (now (sign .exit) ≡ upgradedSigns (steps «use_reduce_extrapolate» prev curr) (now («srl_data» .entry)) (now (sign .entry))) ⌝ }
 {
+    let rows = places::place_rows();
+    let counts = places::place_counts();
     let mut zeros: [u16; 1024] = [0; 1024];
     let mut others: [u16; 1024] = [0; 1024];
     let mut readers = Readers {
@@ -373,6 +379,8 @@ pub fn upgrade_bands(
             &mut sign[from..to],
             &mut zeros,
             &mut others,
+            &rows,
+            &counts,
         );
         b += 1;
     }

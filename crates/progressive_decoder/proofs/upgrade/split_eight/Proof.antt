@@ -1,15 +1,20 @@
 -- `progressive_decoder::upgrade::split_eight` meets its contract. Assumes nothing.
-use borrow.Author.Tests.{not-true}
-use Rattle.upgrade_steps.specs.Steps.{bandStep}
+use native.Mathlib.Omega.{arith}
+use Rattle.progressive_decoder.proofs.Places.{split-eight}
 use borrow.Author.Needs.{needs}
 use Rattle.progressive_decoder.proofs.upgrade.split_eight.Statement.{statement}
 use Rattle.progressive_decoder.proofs.upgrade.split_eight.Tie as tie
 
+put-ones-requires-2 : tie.Need-put-ones-requires-2
+put-ones-requires-2 c κs =
+    let k = c .before .before .before .before .before .before .before .before in
+    (k .pre .5, k .pre .6, c .before .before .before .before .before .eight-mask .ensures .1, omega (arith, k .pre .1, k .pre .2), omega (arith, k .pre .0, k .pre .1, k .pre .3))
+
 returns : tie.Need-returns
 returns c =
-    let k = c .before .before .before .before .before .before .before .before .before .before in
+    let k = c .before .before .before .before .before .before .before .before .before .before .before in
     let a = k .args in
-    c .before .before .put-eight .ensures (bandStep (a .t)) (a .sign .now) (a .others .now) (not-true _ (c .before .before .before .before .before .before .if1 .taken)) (k .pre .1) (c .before .before .before .before .before .eight-zeros .ensures (c .before .before .before .before .if2 .taken)) (k .pre .0)
+    λ t b s. split-eight t (a .sign .now) (a .i) (a .n) _ _ _ (a .zeros .now) _ (a .others .now) _ b (k .pre .1) (c .before .before .before .before .before .before .before .before .eight-mask .ensures .0) (c .before .before .put-ones2 .ensures) (c .before .before .before .before .before .before .put-ones .ensures) s
 
 pub split-eight-spec : {M : Type 1} → statement M
-split-eight-spec = tie.close (tie.spec (λ c κs. search needs) (λ c κs. search needs) (λ c. search needs) (λ c. search needs) returns (λ c. search needs) (λ c κs. search needs) (λ c. search needs) (λ c. search needs) (λ c. search needs))
+split-eight-spec = tie.close (tie.spec (λ c κs. search needs) (λ c. search needs) (λ c. search needs) (λ c. search needs) (λ c κs. search needs) (λ c. search needs) put-ones-requires-2 (λ c. search needs) (λ c. search needs) returns)

@@ -1,0 +1,3 @@
+-- The laws of `places`.
+pub mod Ones
+pub mod Table

@@ -1,0 +1,49 @@
+-- Lists of places, for inner functions: the places of elements that have a property, and the same from a byte whose ones say which have it.
+use mathlib.Core.Path.{_≡_}
+use mathlib.Core.Bool.{Bool, cond}
+use mathlib.Core.List.{List, [], _∷_, _++_, map}
+use Prim.Native.Nat.{ℕ, zero, suc, _+_, _*_, _/_, _%_}
+use lib.Dec.{eqb}
+use lib.ListN.{length, getD, take, replicate}
+
+-- the places of some elements that have a property, in order
+unfoldable pub placesOf : {A : Type 0} → (A → Bool) → List A → List ℕ
+placesOf f [] = []
+placesOf f (x ∷ xs) = cond (f x) (0 ∷ map suc (placesOf f xs)) (map suc (placesOf f xs))
+
+-- which of the k elements from place i on have it, as the bits of a number, that of the first the lowest; d stands for an element that is not there
+unfoldable pub maskOf : {A : Type 0} → (A → Bool) → A → List A → ℕ → ℕ → ℕ
+maskOf f d xs i zero = 0
+maskOf f d xs i (suc k) = cond (f (getD xs i d)) 1 0 + 2 * maskOf f d xs (suc i) k
+
+-- the places of the ones among the low k bits of m, the lowest first
+unfoldable pub onesOf : ℕ → ℕ → List ℕ
+onesOf zero m = []
+onesOf (suc k) m = cond (eqb (m % 2) 1) (0 ∷ map suc (onesOf k (m / 2))) (map suc (onesOf k (m / 2)))
+
+-- the ones of a byte m, counted from base on, stand in a list behind the n that were in: r are in then
+pub record Listed (m base n r : ℕ) (before after : List ℕ) : Type 0 where
+  pub count : r ≡ n + length (onesOf 8 m)
+  pub places : take r after ≡ take n before ++ map (λ p. base + p) (onesOf 8 m)
+
+-- ════ the tables ════
+
+-- of a byte, and zeros behind them
+abbrev pub rowOf : ℕ → List ℕ
+rowOf m = take 8 (onesOf 8 m ++ replicate 8 0)
+
+-- the rows of c bytes from m on
+unfoldable pub rowsFrom : ℕ → ℕ → List ℕ
+rowsFrom zero m = []
+rowsFrom (suc c) m = rowOf m ++ rowsFrom c (suc m)
+
+abbrev pub placeRows : List ℕ
+placeRows = rowsFrom 256 0
+
+-- how many ones c bytes from m on have
+unfoldable pub countsFrom : ℕ → ℕ → List ℕ
+countsFrom zero m = []
+countsFrom (suc c) m = length (onesOf 8 m) ∷ countsFrom c (suc m)
+
+abbrev pub placeCounts : List ℕ
+placeCounts = countsFrom 256 0
