@@ -26,24 +26,17 @@ pub record Listed (m base n r : ℕ) (before after : List ℕ) : Type 0 where
   pub count : r ≡ n + length (onesOf 8 m)
   pub places : take r after ≡ take n before ++ map (λ p. base + p) (onesOf 8 m)
 
--- ════ the tables ════
+-- ════ the table ════
 
--- of a byte, and zeros behind them
+-- of a byte, with zeros behind them: eight numbers, and then how many ones there are
 abbrev pub rowOf : ℕ → List ℕ
-rowOf m = take 8 (onesOf 8 m ++ replicate 8 0)
+rowOf m = take 8 (onesOf 8 m ++ replicate 8 0) ++ (length (onesOf 8 m) ∷ [])
 
 -- the rows of c bytes from m on
-unfoldable pub rowsFrom : ℕ → ℕ → List ℕ
+unfoldable pub rowsFrom : ℕ → ℕ → List (List ℕ)
 rowsFrom zero m = []
-rowsFrom (suc c) m = rowOf m ++ rowsFrom c (suc m)
+rowsFrom (suc c) m = rowOf m ∷ rowsFrom c (suc m)
 
-abbrev pub placeRows : List ℕ
+-- of all bytes
+abbrev pub placeRows : List (List ℕ)
 placeRows = rowsFrom 256 0
-
--- how many ones c bytes from m on have
-unfoldable pub countsFrom : ℕ → ℕ → List ℕ
-countsFrom zero m = []
-countsFrom (suc c) m = length (onesOf 8 m) ∷ countsFrom c (suc m)
-
-abbrev pub placeCounts : List ℕ
-placeCounts = countsFrom 256 0

@@ -11,7 +11,7 @@ ghost use Rattle.srl_decoder.specs.Srl.{Reader, start};
 ghost use Rattle.srl_decoder.specs.Decode.{opened};
 ghost use Rattle.srl_rules.specs.Rules.{Width};
 ghost use Rattle.fixed.specs.Fixed.{isZero};
-ghost use Rattle.places.specs.Places.{maskOf, placeRows, placeCounts};
+ghost use Rattle.places.specs.Places.{maskOf, placeRows};
 ghost use Rattle.bands.specs.Positions.{rowInDomain};
 ghost use Rattle.upgrade_steps.specs.Steps.{Step, steps, bandStep, fromSrl, srl, raw};
 ghost use Rattle.progressive_decoder.specs.Upgrade.{adds, rawCoefficient, upgradedCoefficients, upgradedSigns};
@@ -132,15 +132,14 @@ fn split_eight(
     n: usize,
     zeros: &mut [u16],
     others: &mut [u16],
-    rows: &[u8; 2048],
-    counts: &[u8; 256],
+    rows: &[[u8; 9]; 256],
 ) -> usize
-    requires { ⌜ (n ≤ i) × (i + 8 ≤ length (now sign)) × (length (now sign) ≤ 1024) × (length (now sign) ≤ length (now zeros)) × (length (now sign) ≤ length (now others)) × (now rows ≡ placeRows) × (now counts ≡ placeCounts) ⌝ }
+    requires { ⌜ (n ≤ i) × (i + 8 ≤ length (now sign)) × (length (now sign) ≤ 1024) × (length (now sign) ≤ length (now zeros)) × (length (now sign) ≤ length (now others)) × (now rows ≡ placeRows) ⌝ }
     ensures { λ r. ⌜ ((t : Step) → t .bottom ≡ false → Split t (now (sign .entry)) i n (now (zeros .entry)) (now (others .entry)) → Split t (now (sign .entry)) (i + 8) r (now (zeros .exit)) (now (others .exit))) ⌝ }
 {
     let m = eight_mask(sign, i);
-    places::put_ones(rows, counts, 255 - m, i as u16, others, i - n);
-    places::put_ones(rows, counts, m, i as u16, zeros, n)
+    places::put_ones(rows, 255 - m, i as u16, others, i - n);
+    places::put_ones(rows, m, i as u16, zeros, n)
 }
 
 // How far a band's places are taken eight at a time: in the bottom the signs say nothing.
@@ -159,10 +158,9 @@ fn split(
     sign: &[i8],
     zeros: &mut [u16],
     others: &mut [u16],
-    rows: &[u8; 2048],
-    counts: &[u8; 256],
+    rows: &[[u8; 9]; 256],
 ) -> usize
-    requires { ⌜ (length (now sign) ≤ 1024) × (length (now sign) ≤ length (now zeros)) × (length (now sign) ≤ length (now others)) × (now rows ≡ placeRows) × (now counts ≡ placeCounts) ⌝ }
+    requires { ⌜ (length (now sign) ≤ 1024) × (length (now sign) ≤ length (now zeros)) × (length (now sign) ≤ length (now others)) × (now rows ≡ placeRows) ⌝ }
     ensures { λ r. ⌜ Split (bandStep t) (now (sign .entry)) (length (now (sign .entry))) r (now (zeros .exit)) (now (others .exit)) ⌝ }
 {
     let len = sign.len();
@@ -170,7 +168,7 @@ fn split(
     let mut n: usize = 0;
     let mut i: usize = 0;
     while i + 8 <= end {
-        n = split_eight(sign, i, n, zeros, others, rows, counts);
+        n = split_eight(sign, i, n, zeros, others, rows);
         i += 8;
     }
     split_places(t, sign, i, len, n, zeros, others)
@@ -287,14 +285,13 @@ fn upgrade_band(
     sign: &mut [i8],
     zeros: &mut [u16],
     others: &mut [u16],
-    rows: &[u8; 2048],
-    counts: &[u8; 256],
+    rows: &[[u8; 9]; 256],
 ) -> Readers
-    requires { ⌜ Width (t .width) × Early from (2 ^ 40) × (length (now sign) ≡ length (now coefficients)) × (length (now coefficients) ≤ 1024) × (1024 ≤ length (now zeros)) × (1024 ≤ length (now others)) × (now rows ≡ placeRows) × (now counts ≡ placeCounts) ⌝ }
+    requires { ⌜ Width (t .width) × Early from (2 ^ 40) × (length (now sign) ≡ length (now coefficients)) × (length (now coefficients) ≤ 1024) × (1024 ≤ length (now zeros)) × (1024 ≤ length (now others)) × (now rows ≡ placeRows) ⌝ }
     ensures { λ r. ⌜ (walk (now («srl_data» .entry)) (now («raw_data» .entry)) (replicate (length (now (coefficients .entry))) (bandStep t)) (now (coefficients .entry)) (now (sign .entry)) (opened (from .srl)) (from .raw) ≡ reached (now (coefficients .exit)) (now (sign .exit)) r) × ((m : ℕ) → Early from m → Early r (m + 40000 * length (now (coefficients .entry)))) ⌝ }
 {
     let state = from.srl;
-    let n = split(t, sign, zeros, others, rows, counts);
+    let n = split(t, sign, zeros, others, rows);
     let raw = raw_list(
         raw_data,
         from.raw,
@@ -318,10 +315,9 @@ fn one_band(
     sign: &mut [i8],
     zeros: &mut [u16],
     others: &mut [u16],
-    rows: &[u8; 2048],
-    counts: &[u8; 256],
+    rows: &[[u8; 9]; 256],
 ) -> Readers
-    requires { ⌜ (t .width ≤ 15) × Early from (2 ^ 40) × (length (now sign) ≡ length (now coefficients)) × (length (now coefficients) ≤ 1024) × (1024 ≤ length (now zeros)) × (1024 ≤ length (now others)) × (now rows ≡ placeRows) × (now counts ≡ placeCounts) ⌝ }
+    requires { ⌜ (t .width ≤ 15) × Early from (2 ^ 40) × (length (now sign) ≡ length (now coefficients)) × (length (now coefficients) ≤ 1024) × (1024 ≤ length (now zeros)) × (1024 ≤ length (now others)) × (now rows ≡ placeRows) ⌝ }
     ensures { λ r. ⌜ (walk (now («srl_data» .entry)) (now («raw_data» .entry)) (replicate (length (now (coefficients .entry))) (bandStep t)) (now (coefficients .entry)) (now (sign .entry)) (opened (from .srl)) (from .raw) ≡ reached (now (coefficients .exit)) (now (sign .exit)) r) × ((m : ℕ) → Early from m → Early r (m + 40000 * length (now (coefficients .entry)))) ⌝ }
 {
     if t.width == 0 {
@@ -337,7 +333,6 @@ fn one_band(
         zeros,
         others,
         rows,
-        counts,
     )
 }
 
@@ -357,7 +352,6 @@ pub fn upgrade_bands(
     ensures { λ _. ⌜ (now (coefficients .exit) ≡ upgradedCoefficients (steps «use_reduce_extrapolate» prev curr) (now («srl_data» .entry)) (now («raw_data» .entry)) (now (coefficients .entry)) (now (sign .entry))) × (now (sign .exit) ≡ upgradedSigns (steps «use_reduce_extrapolate» prev curr) (now («srl_data» .entry)) (now (sign .entry))) ⌝ }
 {
     let rows = places::place_rows();
-    let counts = places::place_counts();
     let mut zeros: [u16; 1024] = [0; 1024];
     let mut others: [u16; 1024] = [0; 1024];
     let mut readers = Readers {
@@ -380,7 +374,6 @@ pub fn upgrade_bands(
             &mut zeros,
             &mut others,
             &rows,
-            &counts,
         );
         b += 1;
     }

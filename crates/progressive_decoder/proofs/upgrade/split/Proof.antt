@@ -12,10 +12,10 @@ use Rattle.progressive_decoder.proofs.upgrade.split.Statement.{statemen
 use Rattle.progressive_decoder.proofs.upgrade.split.Tie as tie
 
 abbrev Inv-loop : tie.InvT-loop
-Inv-loop t sign zeros₀ others₀ rows counts len end n₀ i₀ zeros others n i = (i ≤ length sign) × (length zeros ≡ length zeros₀) × (length others ≡ length others₀) × Split (bandStep t) sign i n zeros others
+Inv-loop t sign zeros₀ others₀ rows len end n₀ i₀ zeros others n i = (i ≤ length sign) × (length zeros ≡ length zeros₀) × (length others ≡ length others₀) × Split (bandStep t) sign i n zeros others
 
 abbrev μ-loop : tie.MeasureT-loop
-μ-loop t sign zeros₀ others₀ rows counts len end n₀ i₀ zeros others n i = end - i
+μ-loop t sign zeros₀ others₀ rows len end n₀ i₀ zeros others n i = end - i
 
 -- eights are taken where the band is not the bottom
 eights : (b : Bool) (len end i : ℕ) → end ≡ cond b 0 len → i + 8 ≤ end → (b ≡ false) × (i + 8 ≤ len)
@@ -34,7 +34,7 @@ split-eight-requires c κs =
     let k = c .before .before .before .before .before .before .before in
     let p = k .pre in
     let h = eights (k .args .t .bottom) _ _ (l .i) (c .before .before .before .before .eights-end .ensures) (c .before .before .loop-test .taken) in
-    (l .inv .3 .few, h .1, p .0, omega (arith, l .inv .1, p .1), omega (arith, l .inv .2, p .2), p .3, p .4)
+    (l .inv .3 .few, h .1, p .0, omega (arith, l .inv .1, p .1), omega (arith, l .inv .2, p .2), p .3)
 
 loop-again : tie.Need-loop-again Inv-loop μ-loop
 loop-again c =

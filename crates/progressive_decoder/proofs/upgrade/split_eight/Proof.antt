@@ -8,7 +8,7 @@ use Rattle.progressive_decoder.proofs.upgrade.split_eight.Tie as tie
 put-ones-requires-2 : tie.Need-put-ones-requires-2
 put-ones-requires-2 c κs =
     let k = c .before .before .before .before .before .before .before .before in
-    (k .pre .5, k .pre .6, c .before .before .before .before .before .eight-mask .ensures .1, omega (arith, k .pre .1, k .pre .2), omega (arith, k .pre .0, k .pre .1, k .pre .3))
+    (k .pre .5, c .before .before .before .before .before .eight-mask .ensures .1, omega (arith, k .pre .1, k .pre .2), omega (arith, k .pre .0, k .pre .1, k .pre .3))
 
 returns : tie.Need-returns
 returns c =
