@@ -11,7 +11,7 @@ use lib.Count.{leadingZeros, leading-of-zero, leading-unique}
 use lib.Dec.{leb}
 use lib.Pow.{pow-add, shl-lt, high, low}
 use Rattle.bits.specs.Bits.{bitOf, bitAt, num, zeros}
-use Rattle.bits.specs.Words.{Top}
+use Rattle.bits.specs.Words.{Top, Front}
 use Rattle.bits.proofs.Numbers.{num-lt, num-split}
 use Rattle.bits.proofs.Ones.{zeros-min}
 
@@ -32,6 +32,9 @@ top-skip v k a s n t h = record { fits = omega (arith, t .fits); is = go (v - k)
         ∙ ap (λ (x : ℕ). x % 2 ^ 64) (shifted (num s n k) (num s (n + k) m) m e k ∙ ap (λ (j : ℕ). num s n k * 2 ^ j + num s (n + k) m * 2 ^ (e + k)) q)
         ∙ low (num s n k) 64 bound
         ∙ ap (λ (j : ℕ). num s (n + k) m * 2 ^ j) (omega arith)
+
+pub front-skip : (v k have a : ℕ) (s : List ℕ) (n : ℕ) → Top v a s n → k + have ≤ v → Front have ((a * 2 ^ k) % 2 ^ 64) s (n + k)
+front-skip v k have a s n t h = record { all = v - k; enough = omega arith; top = top-skip v k a s n t (omega arith) }
 
 -- ---- a shift right
 

@@ -8,3 +8,9 @@ use Rattle.bits.specs.Bits.{num}
 pub record Top (v a : ℕ) (s : List ℕ) (n : ℕ) : Type 0 where
   pub fits : v ≤ 64
   pub is : a ≡ num s n v * 2 ^ (64 - v)
+
+-- the word a begins with the v bits from bit n of the stream on; it may hold more
+pub record Front (v a : ℕ) (s : List ℕ) (n : ℕ) : Type 0 where
+  pub all : ℕ
+  pub enough : v ≤ all
+  pub top : Top all a s n

@@ -6,7 +6,7 @@ ghost use lib.Count.{leadingZeros};
 ghost use lib.Dec.{ltb};
 ghost use lib.ListN.{length, getD};
 ghost use Rattle.bits.specs.Bits.{num, zeros, bitsRead, placeOf, held};
-ghost use Rattle.bits.specs.Words.{Top};
+ghost use Rattle.bits.specs.Words.{Top, Front};
 
 // A place in a stream: a byte, and a bit of it, 0 to 7, counted from the highest.
 pub struct BitReader {
@@ -175,23 +175,20 @@ pub fn top(a: u64, count: u8) -> u64
     (a >> 1) >> (63 - count)
 }
 
+fn at_most(a: u32, b: u32) -> u32
+    ensures { λ r. ⌜ r ≡ min a b ⌝ }
+{
+    if a < b { a } else { b }
+}
+
 // The leading zeros of a word, at most `limit`.
 fn lead(a: u64, limit: u32) -> u32
     ensures { λ r. ⌜ r ≡ min limit (leadingZeros 64 a) ⌝ }
 {
-    let z = u64::leading_zeros(a);
-    if z < limit { z } else { limit }
+    at_most(limit, leading(a))
 }
 
-// ---- numbers and zeros
-
-// The next `count` bits as a number, highest first.
-pub fn number(src: &[u8], r: BitReader, count: u8) -> u64
-    requires { ⌜ (r .«bit_idx» ≤ 7) × (count ≤ 57) ⌝ }
-    ensures { λ x. ⌜ x ≡ num (now (src .entry)) (bitsRead r) count ⌝ }
-{
-    top(ahead(src, r), count)
-}
+// ---- zeros before a 1
 
 // How many zeros stand before a 1, of at most `limit` bits, all in one word.
 fn zeros_ahead(src: &[u8], r: BitReader, limit: u32) -> u32
@@ -199,12 +196,6 @@ fn zeros_ahead(src: &[u8], r: BitReader, limit: u32) -> u32
     ensures { λ z. ⌜ z ≡ zeros (now (src .entry)) (bitsRead r) limit ⌝ }
 {
     lead(ahead(src, r), limit)
-}
-
-fn at_most_56(left: u32) -> u32
-    ensures { λ r. ⌜ r ≡ min left 56 ⌝ }
-{
-    if left < 56 { left } else { 56 }
 }
 
 // How many zeros stand before a 1, of at most `limit` bits. Past the end of the stream the answer is known.
@@ -218,7 +209,7 @@ pub fn count_zeros(src: &[u8], r: BitReader, limit: u32) -> u32
         if src.len() <= at.byte_idx {
             return limit;
         }
-        let part = at_most_56(limit - z);
+        let part = at_most(limit - z, 56);
         let found = zeros_ahead(src, at, part);
         if found < part {
             return z + found;
@@ -228,13 +219,18 @@ pub fn count_zeros(src: &[u8], r: BitReader, limit: u32) -> u32
     limit
 }
 
-// How many zeros stand before a 1 behind the first bit, where `a` is what `ahead` gave.
-pub fn zeros_behind_first(src: &[u8], r: BitReader, a: u64, limit: u32) -> u32
-    requires { ⌜ (r .«bit_idx» ≤ 7) × (r .«byte_idx» < 2 ^ 63 + 2 ^ 61) × Top (64 - r .«bit_idx») a (now src) (bitsRead r) ⌝ }
+// How many zeros stand before a 1 behind the first bit, where `a` begins with `have` bits from that one on. Most often they end in it.
+pub fn zeros_behind_first(src: &[u8], r: BitReader, a: u64, have: u32, limit: u32) -> u32
+    requires { ⌜ (r .«bit_idx» ≤ 7) × (r .«byte_idx» < 2 ^ 63 + 2 ^ 61) × (1 ≤ have) × Front have a (now src) (bitsRead r) ⌝ }
     ensures { λ z. ⌜ z ≡ zeros (now (src .entry)) (bitsRead r + 1) limit ⌝ }
 {
-    if limit <= 56 {
-        return lead(behind_first(a), limit);
+    let part = at_most(limit, have - 1);
+    let z = lead(behind_first(a), part);
+    if z < part {
+        return z;
+    }
+    if limit <= part {
+        return z;
     }
     count_zeros(src, skip(r, 1), limit)
 }

@@ -129,7 +129,7 @@ code-left s n kp = by (bitAt s n)
     by true e = absurd (true≢false e)
     by false e = (omega (arith, pow-pos (kp / 8)), omega arith)
 
-pub one-code : (s : List ℕ) (n kp left : ℕ) (r : CodesRead) → kp ≤ 80 → 1 ≤ left → readBehind n r ≡ codeWord s n kp → Brought s n kp left r
+pub one-code : (s : List ℕ) (n kp left : ℕ) (r : CodesRead) → kp ≤ 80 → 1 ≤ left → readBehind n r ≡ codeWord s n kp → Brought s n kp false left r
 one-code s n kp left r h l e =
     let near = code-near s n kp h in
     let read = ap (λ (q : Reader). q .read) e in

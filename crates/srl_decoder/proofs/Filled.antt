@@ -2,7 +2,7 @@
 use mathlib.Core.Path.{_≡_, refl, sym, ap, ap₂, _∙_}
 use mathlib.Core.Bool.{Bool, true, false}
 use mathlib.Core.List.{List, _++_}
-use Prim.Native.Nat.{ℕ, zero, suc, _+_, _-_, _≤_, _<_}
+use Prim.Native.Nat.{ℕ, zero, suc, _+_, _-_, _*_, _≤_, _<_}
 use native.Mathlib.Nat.{add-zero}
 use native.Mathlib.Numerals.{add-one}
 use native.Mathlib.Omega.{arith}
@@ -12,8 +12,11 @@ use lib.IntN.{ℤ, pos}
 use lib.ListN.{length, getD, set, take, drop, replicate, length-set, take-append-drop}
 use lib.Seq.{take-suc-set, drop-set-lt, append-snoc, set-getD, getD-set-same, getD-set-other}
 use Rattle.srl_decoder.specs.Srl.{Reader, reader, nonzero, behind, nextValue, nextReader, values, readerAfter}
-use Rattle.bits.specs.Bits.{held}
-use Rattle.srl_decoder.specs.Inner.{Same, Clear, heldReader}
+use Rattle.bits.specs.Bits.{bitsRead, placeOf, held}
+use Rattle.bits.specs.declared.reader.BitReader.{BitReader}
+use Rattle.bits.proofs.Places.{read-place}
+use Rattle.srl_decoder.specs.Inner.{Same, Brought, Clear, heldReader}
+use Rattle.srl_decoder.specs.declared.decoder.CodesRead.{CodesRead}
 use Rattle.srl_decoder.proofs.Values.{AlikeReader, reader-held, held-readers, next-alike}
 
 -- the output and the reader
@@ -32,6 +35,10 @@ fill s w (suc k) j r out = fill s w k (suc j) (nextReader s w r) (set out j (nex
 -- with the reader held at the stream's end
 abbrev pub heldFill : List ℕ → Filled → Filled
 heldFill s f = filled (f .out) (heldReader s (f .after))
+
+-- what is clear stays so behind a store
+clear-behind : (out : List ℤ) (j n : ℕ) (v : ℤ) → Clear out j n → Clear (set out j v) (j + 1) n
+clear-behind out j n v c i h l = getD-set-other out j i v (pos 0) (λ e. omega arith) ∙ c i (omega arith) l
 
 module _ (s : List ℕ) (w : ℕ) where
   -- what it leaves: what `decode` promises, where j is 0
@@ -107,18 +114,17 @@ module _ (s : List ℕ) (w : ℕ) where
       let e : 0 + run ≡ run = omega arith in
       ap (heldFill s) (fill-run n 0 at kp run p out (λ i a b. c i a (omega arith)) ∙ ap (λ (j : ℕ). fill s w (n - run) j (reader at kp (run - n) p) out) e)
 
-  pub rest-codes : (n j at kp run at′ kp′ : ℕ) (p p′ : Bool) (out : List ℤ) → j < n → p ≡ false → Clear out j n → Same s (n - j) (reader at kp 0 false) (reader at′ kp′ run p′)
-      → rest n j at kp p out ≡ rest n (j + run) (held s at′) kp′ p′ out
-  rest-codes n j at kp run at′ kp′ p p′ out h e c same =
+  rest-codes : (n j at kp run at′ kp′ : ℕ) (p p′ : Bool) (out : List ℤ) → j < n → Clear out j n → Same s (n - j) (reader at kp 0 p) (reader at′ kp′ run p′)
+      → rest n j at kp p out ≡ rest n (j + run) at′ kp′ p′ out
+  rest-codes n j at kp run at′ kp′ p p′ out h c same =
       let z : j - n ≡ 0 = omega arith in
       let f : n - j - run ≡ n - (j + run) = omega arith in
       let g : run - (n - j) ≡ j + run - n = omega arith in
-      (λ i. heldFill s (fill s w (n - j) j (reader at kp (z i) (e i)) out))
-      ∙ ap (heldFill s) (fill-same (n - j) j (reader at kp 0 false) (reader at′ kp′ run p′) out same ∙ fill-run (n - j) j at′ kp′ run p′ out (λ i a b. c i a (omega arith)))
+      (λ i. heldFill s (fill s w (n - j) j (reader at kp (z i) p) out))
+      ∙ ap (heldFill s) (fill-same (n - j) j (reader at kp 0 p) (reader at′ kp′ run p′) out same ∙ fill-run (n - j) j at′ kp′ run p′ out (λ i a b. c i a (omega arith)))
       ∙ (λ i. heldFill s (fill s w (f i) (j + run) (reader at′ kp′ (g i) p′) out))
-      ∙ fill-held (n - (j + run)) (j + run) at′ kp′ (j + run - n) p′ out
 
-  pub rest-value : (n j at kp : ℕ) (p : Bool) (out : List ℤ) → j < n → p ≡ true → rest n j at kp p out ≡ rest n (j + 1) (held s (behind s at w)) kp false (set out j (nonzero s at w))
+  rest-value : (n j at kp : ℕ) (p : Bool) (out : List ℤ) → j < n → p ≡ true → rest n j at kp p out ≡ rest n (j + 1) (behind s at w) kp false (set out j (nonzero s at w))
   rest-value n j at kp p out h e =
       let z : j - n ≡ 0 = omega arith in
       let f : n - j - 1 ≡ n - (j + 1) = omega arith in
@@ -126,15 +132,60 @@ module _ (s : List ℕ) (w : ℕ) where
       (λ i. heldFill s (fill s w (n - j) j (reader at kp (z i) (e i)) out))
       ∙ ap (heldFill s) (fill-value (n - j) j at kp out (omega arith))
       ∙ (λ i. heldFill s (fill s w (f i) (j + 1) (reader (behind s at w) kp (g i) false) (set out j (nonzero s at w))))
-      ∙ fill-held (n - (j + 1)) (j + 1) (behind s at w) kp (j + 1 - n) false (set out j (nonzero s at w))
+
+  -- what a turn does that reads on from place j and stops at place j′
+  pub record Turned (n j at kp : ℕ) (p : Bool) (out : List ℤ) (j′ kp′ : ℕ) (next : BitReader) (p′ : Bool) (out′ : List ℤ) : Type 0 where
+    pub low : next .«bit_idx» ≤ 7
+    pub nearer : n - j′ < n - j
+    pub long : length out′ ≡ length out
+    pub clear : Clear out′ j′ n
+    pub left : rest n j at kp p out ≡ rest n j′ (bitsRead next) kp′ p′ out′
+
+  -- code words, with no value due behind them: they bring zeros, or go past the last place
+  pub turn-codes : (n j at kp : ℕ) (p : Bool) (out : List ℤ) (r : CodesRead) (next : BitReader) → j < n → Clear out j n → Brought s at kp p (n - j) r
+      → (r .pending ≡ true → n ≤ j + r .run) → next ≡ placeOf (at + r .taken) → Turned n j at kp p out (j + r .run) (r .kp) next (r .pending) out
+  turn-codes n j at kp p out r next h c b d e =
+      let read : at + r .taken ≡ bitsRead next = sym (ap bitsRead e ∙ read-place (at + r .taken)) in
+      record {
+        low = omega (arith, ap (λ (q : BitReader). q .«bit_idx») e);
+        nearer = by (r .pending) refl;
+        long = refl;
+        clear = λ i x y. c i (omega arith) y;
+        left = rest-codes n j at kp (r .run) (at + r .taken) (r .kp) p (r .pending) out h c (b .same) ∙ ap (λ (m : ℕ). rest n (j + r .run) m (r .kp) (r .pending) out) read;
+      }
+    where
+      by : (t : Bool) → r .pending ≡ t → n - (j + r .run) < n - j
+      by true f = omega (arith, d f)
+      by false f = omega (arith, b .moves f .0)
+
+  -- code words, and the value behind them
+  pub turn-value : (n j at kp : ℕ) (p : Bool) (out : List ℤ) (r : CodesRead) (next : BitReader) (v : ℤ) → Clear out j n → Brought s at kp p (n - j) r
+      → (r .pending ≡ true) × (j + r .run < n) → v ≡ nonzero s (at + r .taken) w → next ≡ placeOf (behind s (at + r .taken) w)
+      → Turned n j at kp p out (j + r .run + 1) (r .kp) next false (set out (j + r .run) v)
+  turn-value n j at kp p out r next v c b d f e =
+      let read : behind s (at + r .taken) w ≡ bitsRead next = sym (ap bitsRead e ∙ read-place (behind s (at + r .taken) w)) in
+      record {
+        low = omega (arith, ap (λ (q : BitReader). q .«bit_idx») e);
+        nearer = omega (arith, d .1);
+        long = length-set out (j + r .run) v;
+        clear = clear-behind out (j + r .run) n v (λ i x y. c i (omega arith) y);
+        left = rest-codes n j at kp (r .run) (at + r .taken) (r .kp) p (r .pending) out (omega (arith, d .1)) c (b .same)
+            ∙ rest-value n (j + r .run) (at + r .taken) (r .kp) (r .pending) out (d .1) (d .0) ∙ (λ i. rest n (j + r .run + 1) (read i) (r .kp) false (set out (j + r .run) (sym f i)));
+      }
+
+  -- the turn's place, held at the end
+  pub rest-held : (n j at kp : ℕ) (p : Bool) (out : List ℤ) (q : BitReader) → q ≡ placeOf (held s at)
+      → (q .«bit_idx» ≤ 7) × (bitsRead q ≤ 8 * length s) × (rest n j at kp p out ≡ rest n j (bitsRead q) kp p out)
+  rest-held n j at kp p out q e =
+      let read : bitsRead q ≡ held s at = ap bitsRead e ∙ read-place (held s at) in (
+        omega (arith, ap (λ (r : BitReader). r .«bit_idx») e),
+        omega (arith, read),
+        fill-held (n - j) j at kp (j - n) p out ∙ ap (λ (m : ℕ). rest n j m kp p out) (sym read),
+      )
 
   pub rest-end : (n j at kp : ℕ) (p : Bool) (out : List ℤ) → n ≤ j → rest n j at kp p out ≡ filled out (reader (held s at) kp (j - n) p)
   unfolding fill
   rest-end n j at kp p out h = let z : n - j ≡ 0 = omega arith in ap (λ (k : ℕ). heldFill s (fill s w k j (reader at kp (j - n) p) out)) z
-
--- what is clear stays so behind a store
-pub clear-behind : (out : List ℤ) (j n : ℕ) (v : ℤ) → Clear out j n → Clear (set out j v) (j + 1) n
-clear-behind out j n v c i h l = getD-set-other out j i v (pos 0) (λ e. omega arith) ∙ c i (omega arith) l
 
 -- one place more is cleared
 pub clear-next : (out : List ℤ) (n : ℕ) → n < length out → Clear out 0 n → Clear (set out n (pos 0)) 0 (n + 1)

@@ -51,9 +51,10 @@ Same s (suc k) r q = (w : ℕ) → (nextValue s w r ≡ nextValue s w q) × Same
 abbrev pub below : ℕ → ℕ
 below x = (2 + x / 4 % 2) * 2 ^ (x / 8)
 
--- what code words behind n bits bring, with `left` values to come: a reader that gives the same, with zeros or a nonzero value at hand
-pub record Brought (s : List ℕ) (n kp left : ℕ) (r : CodesRead) : Type 0 where
-  pub same : Same s left (reader n kp 0 false) (readBehind n r)
+-- what code words behind n bits bring, with `left` values to come, and none where a nonzero value is pending: a reader that gives the same, with zeros or a
+-- nonzero value at hand
+pub record Brought (s : List ℕ) (n kp : ℕ) (pending : Bool) (left : ℕ) (r : CodesRead) : Type 0 where
+  pub same : Same s left (reader n kp 0 pending) (readBehind n r)
   pub kp-low : r .kp ≤ 80
   pub run-low : r .run ≤ left + 1024
   pub near : r .taken ≤ 40

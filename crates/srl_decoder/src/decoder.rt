@@ -1,10 +1,11 @@
 // The decoder: code words, nonzero values, and calls, which go from one nonzero value to the next.
 ghost use mathlib.Core.Path.{_≡_};
+ghost use mathlib.Core.Bool.{true, false};
 ghost use mathlib.Core.List.{List, _++_};
-ghost use Prim.Native.Nat.{ℕ, _*_, _^_, _+_, _≤_};
+ghost use Prim.Native.Nat.{ℕ, _*_, _^_, _+_, _≤_, _<_};
 ghost use lib.ListN.{length, drop, replicate};
 ghost use Rattle.bits.specs.Bits.{bitAt, zeros, bitsRead};
-ghost use Rattle.bits.specs.Words.{Top};
+ghost use Rattle.bits.specs.Words.{Top, Front};
 ghost use Rattle.srl_decoder.specs.Srl.{mostZeros, behind, codeWord, values, readerAfter};
 ghost use Rattle.srl_decoder.specs.Decode.{opened, closed, stateOk, dueAmong, decoded};
 ghost use Rattle.srl_rules.specs.Rules.{noRoom, stored, Width};
@@ -81,14 +82,19 @@ fn code_word(src: &[u8], st: SrlState) -> SrlState
     }
 }
 
-// The nonzero value at a place.
-pub fn decode_nonzero(src: &[u8], reader: bits::reader::BitReader, num_bits: u8) -> NonzeroRead
-    requires { ⌜ (reader .«bit_idx» ≤ 7) × (reader .«byte_idx» ≤ 2 ^ 63 + 2) × Width «num_bits» ⌝ }
+// The nonzero value at a place, where `a` begins with `have` bits from there on.
+pub fn decode_nonzero(
+    src: &[u8],
+    reader: bits::reader::BitReader,
+    a: u64,
+    have: u32,
+    num_bits: u8,
+) -> NonzeroRead
+    requires { ⌜ (reader .«bit_idx» ≤ 7) × (reader .«byte_idx» < 2 ^ 63 + 2 ^ 61) × Width «num_bits» × (1 ≤ have) × Front have a (now src) (bitsRead reader) ⌝ }
     ensures { λ r. ⌜ (r .negative ≡ bitAt (now (src .entry)) (bitsRead reader)) × (r .magnitude ≡ zeros (now (src .entry)) (bitsRead reader + 1) (mostZeros «num_bits») + 1) × (bitsRead reader + r .taken ≡ behind (now (src .entry)) (bitsRead reader) «num_bits») × (r .taken ≤ 32769) ⌝ }
 {
-    let a = bits::reader::ahead(src, reader);
     let limit = (srl_rules::max_magnitude(num_bits) - 1) as u32;
-    let zeros = bits::reader::zeros_behind_first(src, reader, a, limit);
+    let zeros = bits::reader::zeros_behind_first(src, reader, a, have, limit);
     let taken = bits::reader::zeros_length(zeros, limit);
     NonzeroRead {
         magnitude: (zeros + 1) as u16,
@@ -108,9 +114,9 @@ fn below(x: u8) -> usize
 }
 
 // The code words that the word `a` begins with: those up to a nonzero value where it is among the next `left` values, and one where it is not.
-pub fn code_words(a: u64, kp: u8, left: usize) -> CodesRead
+fn code_words(a: u64, kp: u8, left: usize) -> CodesRead
     requires { ⌜ (kp ≤ 80) × (1 ≤ left) ⌝ }
-    ensures { λ r. ⌜ ((s : List ℕ) (n v : ℕ) → Top v a s n → 57 ≤ v → Brought s n kp left r) ⌝ }
+    ensures { λ r. ⌜ ((s : List ℕ) (n v : ℕ) → Top v a s n → 57 ≤ v → Brought s n kp false left r) ⌝ }
 {
     let c = bits::reader::leading(a);
     if 20 < c {
@@ -132,6 +138,32 @@ pub fn code_words(a: u64, kp: u8, left: usize) -> CodesRead
         run: zeros,
         pending: true,
     }
+}
+
+// The same where a nonzero value may be at hand already: it needs no code word.
+pub fn up_to_value(a: u64, kp: u8, pending: bool, left: usize) -> CodesRead
+    requires { ⌜ (kp ≤ 80) × (1 ≤ left) ⌝ }
+    ensures { λ r. ⌜ ((s : List ℕ) (n v : ℕ) → Top v a s n → 57 ≤ v → Brought s n kp pending left r) ⌝ }
+{
+    if pending {
+        return CodesRead {
+            taken: 0,
+            kp,
+            run: 0,
+            pending: true,
+        };
+    }
+    code_words(a, kp, left)
+}
+
+// Whether a nonzero value is at hand, at place `j`, and is among the first `n` values.
+pub fn due(pending: bool, j: usize, n: usize) -> bool
+    ensures { λ r. ⌜ (r ≡ true → (pending ≡ true) × (j < n)) × (r ≡ false → pending ≡ true → n ≤ j) ⌝ }
+{
+    if pending {
+        return j < n;
+    }
+    false
 }
 
 // ---- a call
@@ -174,46 +206,42 @@ fn clear(out: &mut [i16], n: usize)
     }
 }
 
-// Stores the next `num_values` values at the front of `out`. It is cleared first, so that a run of zeros need not be stored: `j` is the place of the next
-// nonzero value, or of the next code word. The loop keeps the state's parts: a struct would take its padding round.
-fn store_values(
-    src: &[u8],
-    st: SrlState,
-    out: &mut [i16],
-    num_values: usize,
-    num_bits: u8,
-) -> SrlState
-    requires { ⌜ (st .reader .«bit_idx» ≤ 7) × (st .kp ≤ 80) × (bitsRead (st .reader) ≤ 8 * length (now src)) × Width «num_bits» × («num_values» ≤ length (now out)) ⌝ }
-    ensures { λ r. ⌜ (r ≡ shut (heldReader (now (src .entry)) (readerAfter (now (src .entry)) (replicate «num_values» «num_bits») (opened st)))) × (now (out .exit) ≡ values (now (src .entry)) (replicate «num_values» «num_bits») (opened st) ++ drop «num_values» (now (out .entry))) ⌝ }
+// Stores the next `n` values at the front of `out`. It is cleared first, so that a run of zeros need not be stored: `j` is the place of the next nonzero
+// value, or of the next code word. A turn reads code words and the value behind them from one word. The loop keeps the state's parts: a struct would take
+// its padding round.
+fn store_values(src: &[u8], st: SrlState, out: &mut [i16], n: usize, num_bits: u8) -> SrlState
+    requires { ⌜ (st .reader .«bit_idx» ≤ 7) × (st .kp ≤ 80) × (bitsRead (st .reader) ≤ 8 * length (now src)) × Width «num_bits» × (n ≤ length (now out)) ⌝ }
+    ensures { λ r. ⌜ (r ≡ shut (heldReader (now (src .entry)) (readerAfter (now (src .entry)) (replicate n «num_bits») (opened st)))) × (now (out .exit) ≡ values (now (src .entry)) (replicate n «num_bits») (opened st) ++ drop n (now (out .entry))) ⌝ }
 {
-    clear(out, num_values);
+    clear(out, n);
     let start = st.reader;
     let mut byte_idx = start.byte_idx;
     let mut bit_idx = start.bit_idx;
     let mut kp = st.kp;
     let mut pending = st.nonzero_pending;
     let mut j = st.zero_run_remaining;
-    while j < num_values {
+    while j < n {
         let place = bits::reader::BitReader { byte_idx, bit_idx };
-        if pending {
-            let v = decode_nonzero(src, place, num_bits);
+        let a = bits::reader::ahead(src, place);
+        let c = up_to_value(a, kp, pending, n - j);
+        let mut next = bits::reader::skip(place, c.taken);
+        kp = c.kp;
+        pending = c.pending;
+        j += c.run;
+        if due(c.pending, j, n) {
+            let taken = c.taken as u32;
+            let have = 64 - bit_idx as u32 - taken;
+            let v = decode_nonzero(src, next, bits::reader::behind(a, taken), have, num_bits);
             out[j] = fixed::with_sign(v.magnitude, v.negative);
-            let next = bits::reader::hold(src, bits::reader::skip(place, v.taken));
-            byte_idx = next.byte_idx;
-            bit_idx = next.bit_idx;
+            next = bits::reader::skip(next, v.taken);
             pending = false;
             j += 1;
-        } else {
-            let c = code_words(bits::reader::ahead(src, place), kp, num_values - j);
-            let next = bits::reader::hold(src, bits::reader::skip(place, c.taken));
-            byte_idx = next.byte_idx;
-            bit_idx = next.bit_idx;
-            kp = c.kp;
-            pending = c.pending;
-            j += c.run;
         }
+        let held = bits::reader::hold(src, next);
+        byte_idx = held.byte_idx;
+        bit_idx = held.bit_idx;
     }
-    state_of(byte_idx, bit_idx, kp, j - num_values, pending)
+    state_of(byte_idx, bit_idx, kp, j - n, pending)
 }
 
 // The state that goes back to the caller: a place that was handed in at or past the end stays as it is.

@@ -22,8 +22,8 @@ on c = ap bitsRead (c .skip .ensures) ∙ read-place _
 
 found : (c : tie.After-zeros-ahead Inv-loop μ-loop)
     → c .zeros-ahead .result
-    ≡ zeros (c .before .before .before .before .before .before .before .before .args .src .now) (bitsRead (c .before .before .before .before .before .before .before .before .args .r) + c .before .before .before .before .before .before .loop .z) (c .before .at-most-56 .result)
-found c = c .zeros-ahead .ensures ∙ ap (λ (n : ℕ). zeros (c .before .before .before .before .before .before .before .before .args .src .now) n (c .before .at-most-56 .result)) (on (c .before .before .before .before))
+    ≡ zeros (c .before .before .before .before .before .before .before .before .args .src .now) (bitsRead (c .before .before .before .before .before .before .before .before .args .r) + c .before .before .before .before .before .before .loop .z) (c .before .at-most .result)
+found c = c .zeros-ahead .ensures ∙ ap (λ (n : ℕ). zeros (c .before .before .before .before .before .before .before .before .args .src .now) n (c .before .at-most .result)) (on (c .before .before .before .before))
 
 loop-holds : tie.Need-loop-holds Inv-loop μ-loop
 unfolding zeros
@@ -40,7 +40,7 @@ returns c =
 zeros-ahead-requires : tie.Need-zeros-ahead-requires Inv-loop μ-loop
 zeros-ahead-requires c κs =
     let b = ap (λ (q : BitReader). q .«bit_idx») (c .before .before .before .skip .ensures) in
-    (omega (arith, b), omega (arith, c .at-most-56 .ensures))
+    (omega (arith, b), omega (arith, c .at-most .ensures))
 
 returns-2 : tie.Need-returns-2 Inv-loop μ-loop
 returns-2 c =
@@ -49,7 +49,7 @@ returns-2 c =
     let l = k .before .before .loop in
     let e = found (c .before) in
     ap (λ (n : ℕ). l .z + n) e
-    ∙ zeros-stop (a .src .now) (bitsRead (a .r)) (l .z) (c .before .before .at-most-56 .result) (a .limit) (l .inv .1) (omega (arith, c .before .before .at-most-56 .ensures)) (omega (arith, e))
+    ∙ zeros-stop (a .src .now) (bitsRead (a .r)) (l .z) (c .before .before .at-most .result) (a .limit) (l .inv .1) (omega (arith, c .before .before .at-most .ensures)) (omega (arith, e))
 
 loop-again : tie.Need-loop-again Inv-loop μ-loop
 loop-again c =
@@ -57,7 +57,7 @@ loop-again c =
     let a = k .before .before .before .before .args in
     let l = k .before .before .loop in
     let e = found (c .before) in
-    (omega (arith, c .before .before .at-most-56 .ensures), zeros-go (a .src .now) (bitsRead (a .r)) (l .z) (c .before .before .at-most-56 .result) (l .inv .1) (omega (arith, e)))
+    (omega (arith, c .before .before .at-most .ensures), zeros-go (a .src .now) (bitsRead (a .r)) (l .z) (c .before .before .at-most .result) (l .inv .1) (omega (arith, e)))
 
 returns-3 : tie.Need-returns-3 Inv-loop μ-loop
 returns-3 c =

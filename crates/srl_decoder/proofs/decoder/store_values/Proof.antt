@@ -1,25 +1,26 @@
--- `srl_decoder::decoder::store_values` meets its contract: a turn reads a nonzero value or code words, and what is left to store stays the same. Assumes nothing.
+-- `srl_decoder::decoder::store_values` meets its contract: a turn reads code words and a nonzero value behind them, and what is left to store stays the same. Assumes nothing.
 use mathlib.Core.Path.{_≡_, refl, sym, ap, _∙_}
-use mathlib.Core.Bool.{Bool, true, false, cond}
 use mathlib.Core.List.{List, _++_}
-use Prim.Native.Nat.{ℕ, _+_, _-_, _*_, _≤_, _<_}
+use mathlib.Core.Logic.{⊎-elim}
+use Prim.Native.Nat.{ℕ, _+_, _-_, _*_, _≤_}
 use native.Mathlib.Nat.{zero-add}
 use native.Mathlib.Omega.{arith}
 use lib.IntN.{ℤ}
-use lib.ListN.{length, set, drop, replicate, length-set}
+use lib.ListN.{length, drop, replicate}
 use mir.Syntax.{w16}
 use mir.Val.{toZ, ofZ}
 use Rattle.fixed.specs.Fixed.{clampI16, withSign}
 use Rattle.fixed.proofs.Machine.{got}
-use Rattle.bits.specs.Bits.{bitAt, zeros, bitsRead, held}
+use Rattle.bits.specs.Bits.{bitAt, zeros, bitsRead, placeOf, held}
 use Rattle.bits.specs.declared.reader.BitReader.{BitReader}
 use Rattle.bits.proofs.Places.{read-place}
+use Rattle.bits.proofs.Tops.{front-skip}
 use Rattle.srl_decoder.specs.Srl.{reader, mostZeros, nonzero, behind, values, readerAfter}
 use Rattle.srl_decoder.specs.Decode.{opened}
 use Rattle.srl_decoder.specs.Inner.{shut, stateBy, heldReader, Clear, Brought}
 use Rattle.srl_decoder.proofs.Codes.{nonzero-is}
 use Rattle.srl_decoder.proofs.Values.{shut-opened}
-use Rattle.srl_decoder.proofs.Filled.{Filled, filled, fill, heldFill, fill-is, rest, rest-start, rest-codes, rest-value, rest-end, clear-behind}
+use Rattle.srl_decoder.proofs.Filled.{Filled, filled, fill, heldFill, fill-is, rest, rest-start, Turned, turn-codes, turn-value, rest-held, rest-end}
 use borrow.Author.Needs.{needs}
 use Rattle.srl_decoder.proofs.decoder.store_values.Statement.{statement}
 use Rattle.srl_decoder.proofs.decoder.store_values.Tie as tie
@@ -30,12 +31,7 @@ Inv-loop src out₀ n w byte₀ bit₀ kp₀ pending₀ j₀ out byte bit kp pen
     × (heldFill src (fill src w n 0 (reader (8 * byte₀ + bit₀) kp₀ j₀ pending₀) out₀) ≡ rest src w n j (8 * byte + bit) kp pending out)
 
 abbrev μ-loop : tie.MeasureT-loop
-μ-loop src out₀ n w byte₀ bit₀ kp₀ pending₀ j₀ out byte bit kp pending j = 2 * (n - j) + cond pending 0 1
-
--- code words take the measure down: they bring zeros, or a value that is due
-less : (n j run : ℕ) (b : Bool) → j < n → (b ≡ false → 1 ≤ run) → 2 * (n - (j + run)) + cond b 0 1 < 2 * (n - j) + 1
-less n j run true h m = omega arith
-less n j run false h m = omega (arith, m refl)
+μ-loop src out₀ n w byte₀ bit₀ kp₀ pending₀ j₀ out byte bit kp pending j = n - j
 
 loop-holds : tie.Need-loop-holds Inv-loop μ-loop
 loop-holds c =
@@ -43,93 +39,116 @@ loop-holds c =
     let st = k .args .st in
     let u = c .before .before .clear in (
       k .pre .0,
-      k .pre .1,
+      omega (arith, k .pre .1),
       k .pre .2,
       refl,
       λ i a b. u .ensures .0 i (omega arith) b,
-      rest-start (k .args .src .now) (k .args .num-bits) (k .args .num-values) (bitsRead (st .reader)) (st .kp) (st .«zero_run_remaining») (st .«nonzero_pending») (u .last .0) (u .ensures .0),
+      rest-start (k .args .src .now) (k .args .num-bits) (k .args .n) (bitsRead (st .reader)) (st .kp) (st .«zero_run_remaining») (st .«nonzero_pending») (u .last .0) (u .ensures .0),
     )
 
-decode-nonzero-requires : tie.Need-decode-nonzero-requires Inv-loop μ-loop
-decode-nonzero-requires c κs = let l = c .before .before .loop in (l .inv .0, omega (arith, l .inv .2), c .before .before .before .before .before .before .before .before .pre .3)
+up-to-value-requires : tie.Need-up-to-value-requires Inv-loop μ-loop
+up-to-value-requires c κs = (c .before .before .loop .inv .1, omega (arith, c .before .loop-test .taken))
 
-slice-set-from-out : tie.Need-slice-set-from-out Inv-loop μ-loop
-slice-set-from-out c = omega (arith, c .before .before .before .loop-test .taken, c .before .before .before .before .loop .inv .3, c .before .before .before .before .before .before .before .clear .kept .0, c .before .before .before .before .before .before .before .before .before .before .pre .4)
+-- what the code words bring
+brings : (c : tie.After-up-to-value Inv-loop μ-loop)
+    → Brought (c .before .before .before .before .before .before .before .before .before .args .src .now) (8 * c .before .before .before .loop .byte-idx + c .before .before .before .loop .bit-idx) (c .before .before .before .loop .kp) (c .before .before .before .loop .pending) (c .before .before .before .before .before .before .before .before .before .args .n - c .before .before .before .loop .j) (c .up-to-value .result)
+brings c =
+    let l = c .before .before .before .loop in
+    c .up-to-value .ensures (c .before .before .before .before .before .before .before .before .before .args .src .now) (8 * l .byte-idx + l .bit-idx) (64 - l .bit-idx) (c .before .ahead .ensures) (omega (arith, l .inv .0))
 
 skip-requires : tie.Need-skip-requires Inv-loop μ-loop
-skip-requires c κs = let l = c .before .before .before .before .loop in (l .inv .0, omega (arith, l .inv .2, c .before .decode-nonzero .ensures .3))
+skip-requires c κs = let l = c .before .before .before .loop in (l .inv .0, omega (arith, l .inv .2, brings c .near))
+
+-- the place behind them
+next : (c : tie.After-skip Inv-loop μ-loop) → bitsRead (c .skip .result) ≡ 8 * c .before .before .before .before .loop .byte-idx + c .before .before .before .before .loop .bit-idx + c .before .up-to-value .result .taken
+next c = ap bitsRead (c .skip .ensures) ∙ read-place _
+
+add-j : tie.Need-add-j Inv-loop μ-loop
+add-j c = record { fits = omega (arith, brings (c .before .before) .run-low, c .before .before .before .before .loop-test .taken, c .before .before .before .before .before .before .before .before .before .before .before .pre .4, c .before .before .before .before .before .before .before .before .before .before .before .good) }
+
+cast-taken : tie.Need-cast-taken Inv-loop μ-loop
+cast-taken c = record { fits = omega (arith, brings (c .before .before .before .before .before) .near) }
+
+sub-have : tie.Need-sub-have Inv-loop μ-loop
+sub-have c = omega (arith, c .before .before .before .before .before .before .before .before .loop .inv .0)
+
+sub-have-2 : tie.Need-sub-have-2 Inv-loop μ-loop
+sub-have-2 c = omega (arith, c .before .before .before .before .before .before .before .before .loop .inv .0, brings (c .before .before .before .before .before) .near)
+
+behind-requires : tie.Need-behind-requires Inv-loop μ-loop
+behind-requires c κs = omega (arith, brings (c .before .before .before .before .before) .near)
+
+decode-nonzero-requires : tie.Need-decode-nonzero-requires Inv-loop μ-loop
+decode-nonzero-requires c κs =
+    let k = c .before .before .before .before .before .before .before .before .before .before .before .before .before .before .before in
+    let l = c .before .before .before .before .before .before .before .before .before .loop in
+    let near = brings (c .before .before .before .before .before .before) .near in
+    let e = next (c .before .before .before .before .before) in
+    let v = 64 - l .bit-idx in
+    let m = c .before .before .before .before .before .before .up-to-value .result .taken in (
+      omega (arith, ap (λ (r : BitReader). r .«bit_idx») (c .before .before .before .before .before .skip .ensures)),
+      omega (arith, e, near, l .inv .2),
+      k .pre .3,
+      omega (arith, near, l .inv .0),
+      rw (e, c .behind .ensures) (front-skip v m (v - m) (c .before .before .before .before .before .before .before .ahead .result) (k .args .src .now) (8 * l .byte-idx + l .bit-idx) (c .before .before .before .before .before .before .before .ahead .ensures) (omega (arith, near, l .inv .0))),
+    )
+
+mul-t30 : tie.Need-mul-t30 Inv-loop μ-loop
+mul-t30 c = record { fits = omega (arith, c .before .before .before .before .before .due .ensures .0 (c .before .before .before .before .if1 .taken) .1, c .before .before .before .before .before .before .before .before .before .before .before .before .before .before .before .before .before .pre .4, c .before .before .before .before .before .before .before .before .before .before .before .before .before .before .before .before .before .good) }
+
+slice-set-from-out : tie.Need-slice-set-from-out Inv-loop μ-loop
+slice-set-from-out c = omega (arith, c .before .before .before .before .before .due .ensures .0 (c .before .before .before .before .if1 .taken) .1, c .before .before .before .before .before .before .before .before .before .before .before .loop .inv .3, c .before .before .before .before .before .before .before .before .before .before .before .before .before .before .clear .kept .0, c .before .before .before .before .before .before .before .before .before .before .before .before .before .before .before .before .before .pre .4)
+
+skip-requires-2 : tie.Need-skip-requires-2 Inv-loop μ-loop
+skip-requires-2 c κs =
+    let e = next (c .before .before .before .before .before .before .before) in (
+      omega (arith, ap (λ (r : BitReader). r .«bit_idx») (c .before .before .before .before .before .before .before .skip .ensures)),
+      omega (arith, e, brings (c .before .before .before .before .before .before .before .before) .near, c .before .before .before .before .before .before .before .before .before .before .before .loop .inv .2, c .before .decode-nonzero .ensures .3, c .before .before .before .before .before .before .before .before .before .before .before .before .before .before .before .before .before .good),
+    )
+
+add-j-2 : tie.Need-add-j-2 Inv-loop μ-loop
+add-j-2 c = record { fits = omega (arith, c .before .before .before .before .before .before .due .ensures .0 (c .before .before .before .before .before .if1 .taken) .1, c .before .before .before .before .before .before .before .before .before .before .before .before .before .before .before .before .before .before .good) }
+
+-- what the turn does
+turned : (c : tie.Joined1 Inv-loop μ-loop)
+    → Turned (c .before .before .before .before .before .before .before .before .before .before .before .before .before .args .src .now) (c .before .before .before .before .before .before .before .before .before .before .before .before .before .args .num-bits) (c .before .before .before .before .before .before .before .before .before .before .before .before .before .args .n) (c .before .before .before .before .before .before .before .loop .j) (8 * c .before .before .before .before .before .before .before .loop .byte-idx + c .before .before .before .before .before .before .before .loop .bit-idx) (c .before .before .before .before .before .before .before .loop .kp) (c .before .before .before .before .before .before .before .loop .pending) (c .before .before .before .before .before .before .before .loop .out)
+    (c .if1 .j) (c .before .before .before .before .up-to-value .result .kp) (c .if1 .next) (c .if1 .pending) (c .if1 .out)
+turned c =
+    let k = c .before .before .before .before .before .before .before .before .before .before .before .before .before in
+    let s = k .args .src .now in
+    let n = k .args .n in
+    let w = k .args .num-bits in
+    let l = c .before .before .before .before .before .before .before .loop in
+    let at = 8 * l .byte-idx + l .bit-idx in
+    let r = c .before .before .before .before .up-to-value .result in
+    let here = bitsRead (c .before .before .before .skip .result) in
+    let e = next (c .before .before .before) in
+    let due = c .before .due .ensures in
+    ⊎-elim
+    (λ p.
+    let v = p .3 in
+    let made = p .4 in
+    let value : toZ w16 (ofZ w16 (made .result)) ≡ nonzero s (at + r .taken) w =
+    got w16 (made .ok) (made .ensures ∙ (λ i. clampI16 (withSign (v .ensures .0 i) (v .ensures .1 i))) ∙ nonzero-is s here w (zeros s (here + 1) (mostZeros w)) (bitAt s here) (k .pre .3) refl refl ∙ ap (λ (m : ℕ). nonzero s m w) e) in
+    rw (p .6, p .7, p .8, p .9) (turn-value s w n (l .j) at (l .kp) (l .pending) (l .out) r (p .5 .result) (toZ w16 (ofZ w16 (made .result))) (l .inv .4) (brings (c .before .before .before .before)) (due .0 (p .0 .taken)) value (p .5 .ensures ∙ ap placeOf (v .ensures .2 ∙ ap (λ (m : ℕ). behind s m w) e))))
+    (λ p. rw (p .1, p .2, p .3, p .4) (turn-codes s w n (l .j) at (l .kp) (l .pending) (l .out) r (c .before .before .before .skip .result) (c .before .before .before .before .before .before .loop-test .taken) (l .inv .4) (brings (c .before .before .before .before)) (due .1 (p .0 .left)) (c .before .before .before .skip .ensures)))
+    (c .if1 .came)
 
 hold-requires : tie.Need-hold-requires Inv-loop μ-loop
-hold-requires c κs = omega (arith, ap (λ (r : BitReader). r .«bit_idx») (c .skip .ensures))
+hold-requires c κs = turned c .low
+
+loop-less : tie.Need-loop-less Inv-loop μ-loop
+loop-less c = turned (c .before) .nearer
 
 loop-again : tie.Need-loop-again Inv-loop μ-loop
 loop-again c =
-    let k = c .before .before .before .before .before .before .before .before .before .before .before .before in
-    let a = k .args in
-    let s = a .src .now in
-    let w = a .num-bits in
-    let l = c .before .before .before .before .before .before .loop in
-    let at = 8 * l .byte-idx + l .bit-idx in
-    let v = c .before .before .before .decode-nonzero in
-    let made = c .before .before .with-sign in
-    let more = c .before .before .before .before .before .loop-test .taken in
-    let read : bitsRead (c .hold .result) ≡ held s (behind s at w) = ap bitsRead (c .hold .ensures) ∙ read-place _ ∙ ap (held s) (ap bitsRead (c .before .skip .ensures) ∙ read-place _ ∙ v .ensures .2) in
-    let value : toZ w16 (ofZ w16 (made .result)) ≡ nonzero s at w =
-    got w16 (made .ok) (made .ensures ∙ (λ i. clampI16 (withSign (v .ensures .0 i) (v .ensures .1 i))) ∙ nonzero-is s at w (zeros s (at + 1) (mostZeros w)) (bitAt s at) (k .pre .3) refl refl) in (
-      omega (arith, ap (λ (r : BitReader). r .«bit_idx») (c .hold .ensures)),
-      l .inv .1,
-      omega (arith, read),
-      length-set (l .out) (l .j) (toZ w16 (ofZ w16 (made .result))) ∙ l .inv .3,
-      clear-behind (l .out) (l .j) (a .num-values) (toZ w16 (ofZ w16 (made .result))) (l .inv .4),
-      l .inv .5 ∙ rest-value s w (a .num-values) (l .j) at (l .kp) (l .pending) (l .out) more (c .before .before .before .before .if1 .taken)
-          ∙ (λ i. rest s w (a .num-values) (l .j + 1) (sym read i) (l .kp) false (set (l .out) (l .j) (sym value i))),
-    )
-
-code-words-requires : tie.Need-code-words-requires Inv-loop μ-loop
-code-words-requires c κs = (c .before .before .before .loop .inv .1, omega (arith, c .before .before .loop-test .taken))
-
--- what the code words bring
-brings : (c : tie.After-code-words Inv-loop μ-loop)
-    → Brought (c .before .before .before .before .before .before .before .before .before .before .args .src .now) (8 * c .before .before .before .before .loop .byte-idx + c .before .before .before .before .loop .bit-idx) (c .before .before .before .before .loop .kp) (c .before .before .before .before .before .before .before .before .before .before .args .num-values - c .before .before .before .before .loop .j) (c .code-words .result)
-brings c =
-    let l = c .before .before .before .before .loop in
-    c .code-words .ensures (c .before .before .before .before .before .before .before .before .before .before .args .src .now) (8 * l .byte-idx + l .bit-idx) (64 - l .bit-idx) (c .before .ahead .ensures) (omega (arith, l .inv .0))
-
-skip-requires-2 : tie.Need-skip-requires-2 Inv-loop μ-loop
-skip-requires-2 c κs = let l = c .before .before .before .before .loop in (l .inv .0, omega (arith, l .inv .2, brings c .near))
-
-hold-requires-2 : tie.Need-hold-requires-2 Inv-loop μ-loop
-hold-requires-2 c κs = omega (arith, ap (λ (r : BitReader). r .«bit_idx») (c .skip2 .ensures))
-
-add-j-2 : tie.Need-add-j-2 Inv-loop μ-loop
-add-j-2 c = record { fits = omega (arith, brings (c .before .before .before) .run-low, c .before .before .before .before .before .before .loop-test .taken, c .before .before .before .before .before .before .before .before .before .before .before .before .before .pre .4, c .before .before .before .before .before .before .before .before .before .before .before .before .before .good) }
-
-loop-less-2 : tie.Need-loop-less-2 Inv-loop μ-loop
-loop-less-2 c =
-    let l = c .before .before .before .before .before .before .before .loop in
-    let r = c .before .before .before .code-words .result in
-    rw (c .before .before .before .before .before .if1 .left) (less (c .before .before .before .before .before .before .before .before .before .before .before .before .before .args .num-values) (l .j) (r .run) (r .pending) (c .before .before .before .before .before .before .loop-test .taken) (λ e. brings (c .before .before .before) .moves e .0))
-
-loop-again-2 : tie.Need-loop-again-2 Inv-loop μ-loop
-loop-again-2 c =
-    let k = c .before .before .before .before .before .before .before .before .before .before .before .before .before in
-    let a = k .args in
-    let s = a .src .now in
-    let w = a .num-bits in
-    let l = c .before .before .before .before .before .before .before .loop in
-    let at = 8 * l .byte-idx + l .bit-idx in
-    let r = c .before .before .before .code-words .result in
-    let b = brings (c .before .before .before) in
-    let hold = c .before .hold2 in
-    let read : bitsRead (hold .result) ≡ held s (at + r .taken) = ap bitsRead (hold .ensures) ∙ read-place _ ∙ ap (held s) (ap bitsRead (c .before .before .skip2 .ensures) ∙ read-place _) in (
-      omega (arith, ap (λ (r : BitReader). r .«bit_idx») (hold .ensures)),
-      b .kp-low,
-      omega (arith, read),
-      l .inv .3,
-      λ i x y. l .inv .4 i (omega arith) y,
-      l .inv .5 ∙ rest-codes s w (a .num-values) (l .j) at (l .kp) (r .run) (at + r .taken) (r .kp) (l .pending) (r .pending) (l .out) (c .before .before .before .before .before .before .loop-test .taken) (c .before .before .before .before .before .if1 .left) (l .inv .4) (b .same)
-          ∙ ap (λ (m : ℕ). rest s w (a .num-values) (l .j + r .run) m (r .kp) (r .pending) (l .out)) (sym read),
-    )
+    let a = c .before .before .before .before .before .before .before .before .before .before .before .before .before .before .args in
+    let l = c .before .before .before .before .before .before .before .before .loop in
+    let q = c .before .if1 in
+    let b = brings (c .before .before .before .before .before) in
+    let t = turned (c .before) in
+    let held = rest-held (a .src .now) (a .num-bits) (a .n) (q .j) (bitsRead (q .next)) (c .before .before .before .before .before .up-to-value .result .kp) (q .pending) (q .out) (c .hold .result) (c .hold .ensures) in
+    (held .0, b .kp-low, held .1, t .long ∙ l .inv .3, t .clear, l .inv .5 ∙ t .left ∙ held .2)
 
 same-length : tie.Need-same-length Inv-loop μ-loop
 same-length c = c .before .before .loop .inv .3 ∙ c .before .before .before .before .before .clear .kept .0
@@ -140,7 +159,7 @@ returns c =
     let a = k .args in
     let s = a .src .now in
     let w = a .num-bits in
-    let n = a .num-values in
+    let n = a .n in
     let l = c .before .before .loop in
     let at = 8 * l .byte-idx + l .bit-idx in
     let u = c .before .before .before .before .before .clear in
@@ -155,4 +174,4 @@ returns c =
 pub store-values-spec : {M : Type 1} → statement M
 store-values-spec =
     tie.close
-    (tie.spec Inv-loop μ-loop (λ c κs. search needs) loop-holds decode-nonzero-requires (λ c κs. search needs) (λ c. search needs) slice-set-from-out skip-requires hold-requires (λ c. search needs) (λ c. search needs) loop-again (λ c κs. search needs) (λ c. search needs) code-words-requires skip-requires-2 hold-requires-2 add-j-2 loop-less-2 loop-again-2 (λ c κs. search needs) same-length returns)
+    (tie.spec Inv-loop μ-loop (λ c κs. search needs) loop-holds (λ c κs. search needs) (λ c. search needs) up-to-value-requires skip-requires add-j (λ c κs. search needs) cast-taken (λ c. search needs) sub-have sub-have-2 behind-requires decode-nonzero-requires (λ c κs. search needs) mul-t30 slice-set-from-out skip-requires-2 add-j-2 hold-requires loop-less loop-again (λ c κs. search needs) same-length returns)
