@@ -32,11 +32,11 @@ pub record Listed (m base n r : ℕ) (before after : List ℕ) : Type 0 where
 abbrev pub rowOf : ℕ → List ℕ
 rowOf m = take 8 (onesOf 8 m ++ replicate 8 0) ++ (length (onesOf 8 m) ∷ [])
 
--- the rows of c bytes from m on
-unfoldable pub rowsFrom : ℕ → ℕ → List (List ℕ)
+-- the rows of c bytes from m on, one after another
+unfoldable pub rowsFrom : ℕ → ℕ → List ℕ
 rowsFrom zero m = []
-rowsFrom (suc c) m = rowOf m ∷ rowsFrom c (suc m)
+rowsFrom (suc c) m = rowOf m ++ rowsFrom c (suc m)
 
 -- of all bytes
-abbrev pub placeRows : List (List ℕ)
+abbrev pub placeRows : List ℕ
 placeRows = rowsFrom 256 0

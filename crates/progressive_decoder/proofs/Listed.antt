@@ -160,14 +160,14 @@ module _ (s d : List ℕ) (t : Step) where
         over-run (take n list) cs ss at kp run pending m ∙ ap (λ (k : ℕ). over srl s d t (drop run (take n list)) (walked cs ss (reader at kp (run - k) pending) m)) front
 
     -- code words
-    pub turn-codes : (cs ss : List ℤ) (j at kp run at′ kp′ : ℕ) (pending pending′ : Bool) (m : ℕ) → j < n → pending ≡ false → Same s (n - j) (reader at kp 0 false) (reader at′ kp′ run pending′)
+    pub turn-codes : (cs ss : List ℤ) (j at kp run at′ kp′ : ℕ) (pending pending′ : Bool) (m : ℕ) → j < n → Same s (n - j) (reader at kp 0 pending) (reader at′ kp′ run pending′)
         → left n list cs ss j at kp pending m ≡ left n list cs ss (j + run) at′ kp′ pending′ m
-    turn-codes cs ss j at kp run at′ kp′ pending pending′ m h e same =
+    turn-codes cs ss j at kp run at′ kp′ pending pending′ m h same =
         let is = drop j (take n list) in
         let z : j - n ≡ 0 = omega arith in
         let y : run - length is ≡ j + run - n = omega (arith, rest j) in
-        ap₂ (λ (k : ℕ) (b : Bool). over srl s d t is (walked cs ss (reader at kp k b) m)) z e
-        ∙ over-same is cs ss (reader at kp 0 false) (reader at′ kp′ run pending′) m (subst (λ (k : ℕ). Same s k (reader at kp 0 false) (reader at′ kp′ run pending′)) (sym (rest j)) same)
+        ap (λ (k : ℕ). over srl s d t is (walked cs ss (reader at kp k pending) m)) z
+        ∙ over-same is cs ss (reader at kp 0 pending) (reader at′ kp′ run pending′) m (subst (λ (k : ℕ). Same s k (reader at kp 0 pending) (reader at′ kp′ run pending′)) (sym (rest j)) same)
         ∙ over-run is cs ss at′ kp′ run pending′ m
         ∙ ap₂ (λ (l : List ℕ) (k : ℕ). over srl s d t l (walked cs ss (reader at′ kp′ k pending′) m)) (drop-drop run j (take n list)) y
 

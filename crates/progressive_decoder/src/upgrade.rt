@@ -1,13 +1,13 @@
 // The reader of a pass: band by band, with a reader for each stream. A band's places are split into those that have an SRL value and the others.
 ghost use mathlib.Core.Path.{_≡_};
-ghost use mathlib.Core.Bool.{true, false, cond};
+ghost use mathlib.Core.Bool.{true, false, cond, not};
 ghost use mathlib.Core.List.{List};
-ghost use Prim.Native.Nat.{ℕ, _+_, _*_, _^_, _≤_, _<_};
+ghost use Prim.Native.Nat.{ℕ, _+_, _-_, _*_, _%_, _^_, _≤_, _<_};
 ghost use lib.IntN.{pos};
-ghost use lib.ListN.{length, getD, take, replicate};
-ghost use Rattle.bits.specs.Bits.{bitsRead};
-ghost use Rattle.bits.specs.Words.{Top};
-ghost use Rattle.srl_decoder.specs.Srl.{Reader, start};
+ghost use lib.ListN.{length, getD, set, take, replicate};
+ghost use Rattle.bits.specs.Bits.{bitAt, zeros, bitsRead};
+ghost use Rattle.bits.specs.Words.{Top, Front};
+ghost use Rattle.srl_decoder.specs.Srl.{Reader, start, mostZeros, behind};
 ghost use Rattle.srl_decoder.specs.Decode.{opened};
 ghost use Rattle.srl_rules.specs.Rules.{Width};
 ghost use Rattle.fixed.specs.Fixed.{isZero};
@@ -132,7 +132,7 @@ fn split_eight(
     n: usize,
     zeros: &mut [u16],
     others: &mut [u16],
-    rows: &[[u8; 9]; 256],
+    rows: &[u8; 2304],
 ) -> usize
     requires { ⌜ (n ≤ i) × (i + 8 ≤ length (now sign)) × (length (now sign) ≤ 1024) × (length (now sign) ≤ length (now zeros)) × (length (now sign) ≤ length (now others)) × (now rows ≡ placeRows) ⌝ }
     ensures { λ r. ⌜ ((t : Step) → t .bottom ≡ false → Split t (now (sign .entry)) i n (now (zeros .entry)) (now (others .entry)) → Split t (now (sign .entry)) (i + 8) r (now (zeros .exit)) (now (others .exit))) ⌝ }
@@ -158,7 +158,7 @@ fn split(
     sign: &[i8],
     zeros: &mut [u16],
     others: &mut [u16],
-    rows: &[[u8; 9]; 256],
+    rows: &[u8; 2304],
 ) -> usize
     requires { ⌜ (length (now sign) ≤ 1024) × (length (now sign) ≤ length (now zeros)) × (length (now sign) ≤ length (now others)) × (now rows ≡ placeRows) ⌝ }
     ensures { λ r. ⌜ Split (bandStep t) (now (sign .entry)) (length (now (sign .entry))) r (now (zeros .exit)) (now (others .exit)) ⌝ }
@@ -228,7 +228,40 @@ fn raw_list(
     at
 }
 
+// The nonzero value at `at`, behind the first `taken` bits of the word `a`.
+fn value_behind(
+    srl_data: &[u8],
+    at: usize,
+    a: u64,
+    taken: usize,
+    width: u8,
+) -> srl_decoder::decoder::NonzeroRead
+    requires { ⌜ Width width × (taken ≤ 40) × (at ≤ 2 ^ 45) × Front (57 - taken) ((a * 2 ^ taken) % 2 ^ 64) (now «srl_data») at ⌝ }
+    ensures { λ r. ⌜ (r .negative ≡ bitAt (now («srl_data» .entry)) at) × (r .magnitude ≡ zeros (now («srl_data» .entry)) (at + 1) (mostZeros width) + 1) × (at + r .taken ≡ behind (now («srl_data» .entry)) at width) × (r .taken ≤ 32769) ⌝ }
+{
+    let rest = bits::reader::behind(a, taken as u32);
+    let place = bits::reader::place(at);
+    srl_decoder::decoder::decode_nonzero(srl_data, place, rest, 57 - taken as u32, width)
+}
+
+// Moves the coefficient at a place by a nonzero value, and sets the sign.
+fn put_value(
+    coefficients: &mut [i16],
+    sign: &mut [i8],
+    i: usize,
+    v: srl_decoder::decoder::NonzeroRead,
+    position: u8,
+)
+    requires { ⌜ (i < length (now coefficients)) × (i < length (now sign)) ⌝ }
+    ensures { λ _. ⌜ (now (coefficients .exit) ≡ set (now (coefficients .entry)) i (rawCoefficient (not (v .negative)) position (v .magnitude) (getD (now (coefficients .entry)) i (pos 0)))) × (now (sign .exit) ≡ set (now (sign .entry)) i (signBy (v .negative))) ⌝ }
+{
+    let c = coefficients[i];
+    coefficients[i] = moved(c, v.magnitude, position, !v.negative);
+    sign[i] = sign_by(v.negative);
+}
+
 // The SRL values of the first `n` places of a list. `j` is the place of the next nonzero value, or of the next code word: it may lie past the list.
+// A turn takes code words and the value behind them from one word of the stream.
 fn srl_list(
     srl_data: &[u8],
     from: srl_decoder::SrlState,
@@ -246,23 +279,18 @@ fn srl_list(
     let mut pending = from.nonzero_pending;
     let mut j = from.zero_run_remaining;
     while j < n {
-        if pending {
-            let place = bits::reader::place(at);
-            let v = srl_decoder::decoder::decode_nonzero(srl_data, place, t.width);
-            let i = list[j] as usize;
-            let c = coefficients[i];
-            coefficients[i] = moved(c, v.magnitude, t.position, !v.negative);
-            sign[i] = sign_by(v.negative);
+        let a = bits::reader::ahead_at(srl_data, at);
+        let codes = srl_decoder::decoder::up_to_value(a, kp, pending, n - j);
+        at += codes.taken;
+        kp = codes.kp;
+        pending = codes.pending;
+        j += codes.run;
+        if srl_decoder::decoder::due(codes.pending, j, n) {
+            let v = value_behind(srl_data, at, a, codes.taken, t.width);
+            put_value(coefficients, sign, list[j] as usize, v, t.position);
             at += v.taken;
             pending = false;
             j += 1;
-        } else {
-            let a = bits::reader::ahead_at(srl_data, at);
-            let next = srl_decoder::decoder::code_words(a, kp, n - j);
-            at += next.taken;
-            kp = next.kp;
-            pending = next.pending;
-            j += next.run;
         }
     }
     srl_decoder::SrlState {
@@ -285,7 +313,7 @@ fn upgrade_band(
     sign: &mut [i8],
     zeros: &mut [u16],
     others: &mut [u16],
-    rows: &[[u8; 9]; 256],
+    rows: &[u8; 2304],
 ) -> Readers
     requires { ⌜ Width (t .width) × Early from (2 ^ 40) × (length (now sign) ≡ length (now coefficients)) × (length (now coefficients) ≤ 1024) × (1024 ≤ length (now zeros)) × (1024 ≤ length (now others)) × (now rows ≡ placeRows) ⌝ }
     ensures { λ r. ⌜ (walk (now («srl_data» .entry)) (now («raw_data» .entry)) (replicate (length (now (coefficients .entry))) (bandStep t)) (now (coefficients .entry)) (now (sign .entry)) (opened (from .srl)) (from .raw) ≡ reached (now (coefficients .exit)) (now (sign .exit)) r) × ((m : ℕ) → Early from m → Early r (m + 40000 * length (now (coefficients .entry)))) ⌝ }
@@ -315,7 +343,7 @@ fn one_band(
     sign: &mut [i8],
     zeros: &mut [u16],
     others: &mut [u16],
-    rows: &[[u8; 9]; 256],
+    rows: &[u8; 2304],
 ) -> Readers
     requires { ⌜ (t .width ≤ 15) × Early from (2 ^ 40) × (length (now sign) ≡ length (now coefficients)) × (length (now coefficients) ≤ 1024) × (1024 ≤ length (now zeros)) × (1024 ≤ length (now others)) × (now rows ≡ placeRows) ⌝ }
     ensures { λ r. ⌜ (walk (now («srl_data» .entry)) (now («raw_data» .entry)) (replicate (length (now (coefficients .entry))) (bandStep t)) (now (coefficients .entry)) (now (sign .entry)) (opened (from .srl)) (from .raw) ≡ reached (now (coefficients .exit)) (now (sign .exit)) r) × ((m : ℕ) → Early from m → Early r (m + 40000 * length (now (coefficients .entry)))) ⌝ }

@@ -1,29 +1,27 @@
 -- `places::put_ones` meets its contract. Assumes nothing.
 use mathlib.Core.Path.{_≡_, ap, _∙_}
-use mathlib.Core.List.{List, [], _++_, map}
-use Prim.Native.Nat.{ℕ, _+_, _≤_}
+use mathlib.Core.List.{List, _++_, map}
+use Prim.Native.Nat.{ℕ, _+_, _*_, _≤_}
 use native.Mathlib.Omega.{arith}
-use lib.ListN.{length, getD, take}
+use lib.ListN.{length, getD, take, drop}
 use lib.Seq.{length-take-le}
-use Rattle.places.specs.Places.{onesOf, rowOf}
-use Rattle.places.proofs.Table.{ones-few, row-is, row-length, row-count, ones-stored}
+use Rattle.places.specs.Places.{onesOf}
+use Rattle.places.proofs.Table.{ones-few, rows-length, row-eight, row-count, ones-stored}
 use borrow.Author.Needs.{needs}
 use Rattle.places.proofs.put_ones.Statement.{statement}
 use Rattle.places.proofs.put_ones.Tie as tie
 
--- the row of m
-row : (c : tie.Start) → getD (c .args .rows .now) (c .args .m) [] ≡ rowOf (c .args .m)
-row c = ap (λ (l : List (List ℕ)). getD l (c .args .m) []) (c .pre .0) ∙ row-is (c .args .m) (c .pre .1)
-
 store-row-requires : tie.Need-store-row-requires
 store-row-requires c κs =
     let k = c .before .before in
-    let l : length (getD (k .args .rows .now) (k .args .m) []) ≡ 9 = ap length (row k) ∙ row-length (k .args .m) in
+    let l : length (k .args .rows .now) ≡ 2304 = ap length (k .pre .0) ∙ rows-length in
     (k .pre .1, k .pre .2, k .pre .3, omega (arith, l))
 
 -- how many ones there are
 counted : (c : tie.After-count-of) → c .count-of .result ≡ length (onesOf 8 (c .before .before .before .before .before .before .before .args .m))
-counted c = let k = c .before .before .before .before .before .before .before in c .count-of .ensures ∙ ap (λ (l : List ℕ). getD l 8 0) (row k) ∙ row-count (k .args .m)
+counted c =
+    let k = c .before .before .before .before .before .before .before in
+    c .count-of .ensures ∙ ap (λ (l : List ℕ). getD l (9 * k .args .m + 8) 0) (k .pre .0) ∙ row-count (k .args .m) (k .pre .1)
 
 add-result : tie.Need-add-result
 add-result c =
@@ -34,11 +32,12 @@ returns : tie.Need-returns
 returns c =
     let k = c .before .before .before .before .before .before .before in
     let a = k .args in
+    let front = take (a .n) (a .list .now) in
+    let row = ap (λ (l : List ℕ). take 8 (drop (9 * a .m) l)) (k .pre .0) ∙ row-eight (a .m) (k .pre .1) in
     record {
       count = ap (λ (j : ℕ). a .n + j) (counted c);
-      places =
-          ones-stored (a .base) (a .m) (a .n) (c .count-of .result) (take (a .n) (a .list .now)) _ (counted c) (length-take-le (a .n) (a .list .now) (omega (arith, k .pre .3)))
-          (c .before .before .before .before .store-row .ensures ∙ ap (λ (l : List ℕ). take (a .n) (a .list .now) ++ map (λ p. a .base + p) (take 8 l)) (row k));
+      places = ones-stored (a .base) (a .m) (a .n) (c .count-of .result) front _ (counted c) (length-take-le (a .n) (a .list .now) (omega (arith, k .pre .3)))
+          (c .before .before .before .before .store-row .ensures ∙ ap (λ (l : List ℕ). front ++ map (λ p. a .base + p) l) row);
     }
 
 pub put-ones-spec : {M : Type 1} → statement M
