@@ -5,6 +5,7 @@
 ghost use mathlib.Core.Path.{_≡_};
 ghost use Rattle.progressive_decoder.specs.Upgrade.{decodeAnswer, decodeCoefficients, decodeSigns};
 
+mod split;
 mod upgrade;
 
 pub use answer::Answer;

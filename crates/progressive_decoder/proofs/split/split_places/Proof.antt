@@ -1,4 +1,4 @@
--- `progressive_decoder::upgrade::split_places` meets its contract: a place is stored in both lists, and counts in one. Assumes nothing.
+-- `progressive_decoder::split::split_places` meets its contract: a place is stored in both lists, and counts in one. Assumes nothing.
 use mathlib.Core.Path.{_≡_, refl, _∙_, subst}
 use Prim.Native.Nat.{ℕ, _+_, _-_, _≤_}
 use native.Mathlib.Omega.{arith}
@@ -7,8 +7,8 @@ use Rattle.upgrade_steps.specs.Steps.{bandStep}
 use Rattle.progressive_decoder.specs.Walk.{Split}
 use Rattle.progressive_decoder.proofs.Places.{split-next}
 use borrow.Author.Needs.{needs}
-use Rattle.progressive_decoder.proofs.upgrade.split_places.Statement.{statement}
-use Rattle.progressive_decoder.proofs.upgrade.split_places.Tie as tie
+use Rattle.progressive_decoder.proofs.split.split_places.Statement.{statement}
+use Rattle.progressive_decoder.proofs.split.split_places.Tie as tie
 
 abbrev Inv-loop : tie.InvT-loop
 Inv-loop t sign from to count zeros₀ others₀ n₀ i₀ zeros others n i = (i ≤ to) × (length zeros ≡ length zeros₀) × (length others ≡ length others₀) × Split (bandStep t) sign i n zeros others

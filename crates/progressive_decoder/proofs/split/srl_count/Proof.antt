@@ -1,12 +1,12 @@
--- `progressive_decoder::upgrade::srl_count` meets its contract. Assumes nothing.
+-- `progressive_decoder::split::srl_count` meets its contract. Assumes nothing.
 use mathlib.Core.Path.{sym, ap, _∙_}
 use mathlib.Core.Bool.{Bool, false, cond}
 use lib.IntN.{pos}
 use lib.ListN.{getD}
 use Rattle.fixed.specs.Fixed.{isZero}
 use borrow.Author.Needs.{needs}
-use Rattle.progressive_decoder.proofs.upgrade.srl_count.Statement.{statement}
-use Rattle.progressive_decoder.proofs.upgrade.srl_count.Tie as tie
+use Rattle.progressive_decoder.proofs.split.srl_count.Statement.{statement}
+use Rattle.progressive_decoder.proofs.split.srl_count.Tie as tie
 
 returns : tie.Need-returns
 returns c = sym (ap (λ (b : Bool). cond (cond b false (isZero (getD (c .before .args .sign .now) (c .before .args .i) (pos 0)))) 1 0) (c .if1 .taken))

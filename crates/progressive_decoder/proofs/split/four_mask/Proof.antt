@@ -1,8 +1,8 @@
--- `progressive_decoder::upgrade::four_mask` meets its contract. Assumes nothing.
+-- `progressive_decoder::split::four_mask` meets its contract. Assumes nothing.
 use Rattle.progressive_decoder.proofs.Places.{mask-four}
 use borrow.Author.Needs.{needs}
-use Rattle.progressive_decoder.proofs.upgrade.four_mask.Statement.{statement}
-use Rattle.progressive_decoder.proofs.upgrade.four_mask.Tie as tie
+use Rattle.progressive_decoder.proofs.split.four_mask.Statement.{statement}
+use Rattle.progressive_decoder.proofs.split.four_mask.Tie as tie
 
 returns : tie.Need-returns
 returns c =

@@ -1,4 +1,4 @@
--- `progressive_decoder::upgrade::zero_count` meets its contract. Assumes nothing.
+-- `progressive_decoder::split::zero_count` meets its contract. Assumes nothing.
 use mathlib.Core.Path.{_≡_, sym, ap, _∙_}
 use mathlib.Core.Bool.{Bool, cond}
 use native.Mathlib.Omega.{arith}
@@ -8,8 +8,8 @@ use mir.Syntax.{w8}
 use mir.ValLaws.{toZ-ofZ}
 use Rattle.fixed.specs.Fixed.{isZero}
 use borrow.Author.Needs.{needs}
-use Rattle.progressive_decoder.proofs.upgrade.zero_count.Statement.{statement}
-use Rattle.progressive_decoder.proofs.upgrade.zero_count.Tie as tie
+use Rattle.progressive_decoder.proofs.split.zero_count.Statement.{statement}
+use Rattle.progressive_decoder.proofs.split.zero_count.Tie as tie
 
 -- what the test found
 is : (c : tie.After-is-zero-sign) → isZero (getD (c .before .before .args .sign .now) (c .before .before .args .i) (pos 0)) ≡ c .is-zero-sign .result

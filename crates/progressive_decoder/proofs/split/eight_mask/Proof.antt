@@ -1,12 +1,12 @@
--- `progressive_decoder::upgrade::eight_mask` meets its contract. Assumes nothing.
+-- `progressive_decoder::split::eight_mask` meets its contract. Assumes nothing.
 use Prim.Native.Nat.{_+_, _<_}
 use native.Mathlib.Omega.{arith}
 use lib.IntN.{pos}
 use Rattle.fixed.specs.Fixed.{isZero}
 use Rattle.places.proofs.Ones.{mask-not, mask-add}
 use borrow.Author.Needs.{needs}
-use Rattle.progressive_decoder.proofs.upgrade.eight_mask.Statement.{statement}
-use Rattle.progressive_decoder.proofs.upgrade.eight_mask.Tie as tie
+use Rattle.progressive_decoder.proofs.split.eight_mask.Statement.{statement}
+use Rattle.progressive_decoder.proofs.split.eight_mask.Tie as tie
 
 -- four bits make less than 16
 low : (c : tie.After-four-mask2) → (c .before .four-mask .result < 16) × (c .four-mask2 .result < 16)

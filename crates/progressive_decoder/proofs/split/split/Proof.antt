@@ -1,4 +1,4 @@
--- `progressive_decoder::upgrade::split` meets its contract: eight places a turn, and then what is left. Assumes nothing.
+-- `progressive_decoder::split::split` meets its contract: eight places a turn, and then what is left. Assumes nothing.
 use mathlib.Core.Path.{_≡_, refl, _∙_}
 use mathlib.Core.Bool.{Bool, true, false, cond}
 use Prim.Native.Nat.{ℕ, _+_, _-_, _≤_}
@@ -8,8 +8,8 @@ use Rattle.upgrade_steps.specs.Steps.{bandStep}
 use Rattle.progressive_decoder.specs.Walk.{Split}
 use Rattle.progressive_decoder.proofs.Places.{split-none}
 use borrow.Author.Needs.{needs}
-use Rattle.progressive_decoder.proofs.upgrade.split.Statement.{statement}
-use Rattle.progressive_decoder.proofs.upgrade.split.Tie as tie
+use Rattle.progressive_decoder.proofs.split.split.Statement.{statement}
+use Rattle.progressive_decoder.proofs.split.split.Tie as tie
 
 abbrev Inv-loop : tie.InvT-loop
 Inv-loop t sign zeros₀ others₀ rows len end n₀ i₀ zeros others n i = (i ≤ length sign) × (length zeros ≡ length zeros₀) × (length others ≡ length others₀) × Split (bandStep t) sign i n zeros others

@@ -1,9 +1,9 @@
--- `progressive_decoder::upgrade::split_eight` meets its contract. Assumes nothing.
+-- `progressive_decoder::split::split_eight` meets its contract. Assumes nothing.
 use native.Mathlib.Omega.{arith}
 use Rattle.progressive_decoder.proofs.Places.{split-eight}
 use borrow.Author.Needs.{needs}
-use Rattle.progressive_decoder.proofs.upgrade.split_eight.Statement.{statement}
-use Rattle.progressive_decoder.proofs.upgrade.split_eight.Tie as tie
+use Rattle.progressive_decoder.proofs.split.split_eight.Statement.{statement}
+use Rattle.progressive_decoder.proofs.split.split_eight.Tie as tie
 
 put-ones-requires-2 : tie.Need-put-ones-requires-2
 put-ones-requires-2 c κs =
