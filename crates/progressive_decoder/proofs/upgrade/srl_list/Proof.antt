@@ -67,7 +67,7 @@ value-behind-requires c κs =
     let l = c .before .before .before .before .before .before .before .loop in
     let near = brings (c .before .before .before .before) .near in
     let m = c .before .before .before .before .up-to-value .result .taken in
-    (k .pre .0, near, omega (arith, early (c .before .before .before .before .before .before), near), front-skip (64 - l .at % 8) m (57 - m) (c .before .before .before .before .before .ahead-at .result) (k .args .srl-data .now) (l .at) (c .before .before .before .before .before .ahead-at .ensures) (omega (arith, near)))
+    (k .pre .0, near, omega (arith, early (c .before .before .before .before .before .before), near), front-skip (64 - l .at % 8) m _ (c .before .before .before .before .before .ahead-at .result) (k .args .srl-data .now) (l .at) (c .before .before .before .before .before .ahead-at .ensures) (omega (arith, near)))
 
 -- the value's place in the list, and that it lies within the slices
 there : (c : tie.After-value-behind Inv-loop μ-loop) → c .before .before .before .before .before .before .before .before .loop .j + c .before .before .before .before .before .up-to-value .result .run < c .before .before .before .before .before .before .before .before .before .before .before .before .args .n

@@ -90,7 +90,7 @@ decode-nonzero-requires c κs =
       omega (arith, e, near, l .inv .2),
       k .pre .3,
       omega (arith, near, l .inv .0),
-      rw (e, c .behind .ensures) (front-skip v m (v - m) (c .before .before .before .before .before .before .before .ahead .result) (k .args .src .now) (8 * l .byte-idx + l .bit-idx) (c .before .before .before .before .before .before .before .ahead .ensures) (omega (arith, near, l .inv .0))),
+      rw (e, c .behind .ensures) (front-skip v m _ (c .before .before .before .before .before .before .before .ahead .result) (k .args .src .now) (8 * l .byte-idx + l .bit-idx) (c .before .before .before .before .before .before .before .ahead .ensures) (omega (arith, near, l .inv .0))),
     )
 
 mul-t30 : tie.Need-mul-t30 Inv-loop μ-loop
