@@ -1,12 +1,11 @@
 -- A code word, a value from a ready reader, and the states that they leave, case by case.
-use mathlib.Core.Path.{_≡_, refl, sym, ap, ap₂, _∙_}
+use mathlib.Core.Path.{_≡_, refl, sym, ap₂, _∙_}
 use mathlib.Core.Bool.{Bool, true, false, cond}
 use mathlib.Core.List.{List}
 use Prim.Native.Nat.{ℕ, zero, suc, _+_, _-_, _/_, _^_, _≤_, _<_, min}
 use native.Mathlib.Omega.{arith}
 use borrow.Author.Tests.{ltb-true}
 use lib.Dec.{ltb}
-use lib.IntN.{pos}
 use lib.Pow.{pow-mono}
 use lib.Signed.{mag}
 use Rattle.fixed.specs.Fixed.{clampI16, withSign}
@@ -41,16 +40,6 @@ ready-run s n kp (suc run) pending h = refl
 pub ready-pending : (s : List ℕ) (n kp run : ℕ) → ready s n kp run true ≡ reader n kp run true
 ready-pending s n kp zero = refl
 ready-pending s n kp (suc run) = refl
-
--- ---- what a ready reader gives
-
-pub value-run : (s : List ℕ) (w n kp run : ℕ) (pending : Bool) → (run ≡ 0 → ⊥) → (value s w n run ≡ pos 0) × (past s w n kp run pending ≡ reader n kp (run - 1) pending)
-value-run s w n kp zero pending h = absurd (h refl)
-value-run s w n kp (suc run) pending h = (refl, ap (λ (z : ℕ). reader n kp z pending) (omega arith))
-
-pub value-none : (s : List ℕ) (w n kp run : ℕ) (pending : Bool) → run ≡ 0 → (value s w n run ≡ nonzero s n w) × (past s w n kp run pending ≡ reader (behind s n w) kp 0 false)
-value-none s w n kp zero pending h = (refl, refl)
-value-none s w n kp (suc run) pending h = absurd (omega arith)
 
 -- ---- how far a code word goes, and what it leaves
 
@@ -145,7 +134,3 @@ pub nonzero-is : (s : List ℕ) (n w z : ℕ) (b : Bool) → Width w → bitAt s
 nonzero-is s n w z b h e f =
     ap₂ (λ (b : Bool) (x : ℕ). clampI16 (withSign b (x + 1))) (sym e) f
     ∙ sym (clamp-same (nonzero s n w) (nonzero-fits s n w h))
-
-pub value-fits : (s : List ℕ) (n w run : ℕ) → Width w → mag (value s w n run) < 32768
-value-fits s n w zero h = nonzero-fits s n w h
-value-fits s n w (suc run) h = omega arith

@@ -1,10 +1,9 @@
 -- `progressive_decoder::upgrade::put_value` meets its contract. Assumes nothing.
-use mathlib.Core.Path.{_≡_, ap, _∙_}
+use mathlib.Core.Path.{ap, _∙_}
 use mathlib.Core.Bool.{not}
-use lib.IntN.{ℤ, pos}
+use lib.IntN.{pos}
 use lib.ListN.{getD, set}
 use mir.Syntax.{w8, w16}
-use mir.Val.{toZ, ofZ}
 use mir.ValLaws.{toZ-ofZ}
 use Rattle.fixed.proofs.Machine.{got}
 use Rattle.progressive_decoder.specs.Upgrade.{rawCoefficient}
