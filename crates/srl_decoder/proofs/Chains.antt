@@ -141,3 +141,13 @@ one-code s n kp left r h l e =
       near = omega (arith, read, near .read-near);
       moves = λ f. let m = code-left s n kp (sym (ap (λ (q : Reader). q .pending) e) ∙ f) in (omega (arith, run, m .0), omega (arith, read, m .1));
     }
+
+-- ════ no value due ════
+
+-- where no value is due among the first m places from j on, code words bring zeros: they end before a value, or it lies further on
+pub zeros-brought : (s : List ℕ) (n kp : ℕ) (p : Bool) (left m j : ℕ) (r : CodesRead) → Brought s n kp p left r → j < m → (r .pending ≡ true → m ≤ j + r .run) → 1 ≤ r .run
+zeros-brought s n kp p left m j r b h d = by (r .pending) refl
+  where
+    by : (t : Bool) → r .pending ≡ t → 1 ≤ r .run
+    by true f = omega (arith, d f)
+    by false f = b .moves f .0

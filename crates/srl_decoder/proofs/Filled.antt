@@ -17,6 +17,7 @@ use Rattle.bits.specs.declared.reader.BitReader.{BitReader}
 use Rattle.bits.proofs.Places.{read-place}
 use Rattle.srl_decoder.specs.Inner.{Same, Brought, Clear, heldReader}
 use Rattle.srl_decoder.specs.declared.decoder.CodesRead.{CodesRead}
+use Rattle.srl_decoder.proofs.Chains.{zeros-brought}
 use Rattle.srl_decoder.proofs.Values.{AlikeReader, reader-held, held-readers, next-alike}
 
 -- the output and the reader
@@ -148,15 +149,11 @@ module _ (s : List ℕ) (w : ℕ) where
       let read : at + r .taken ≡ bitsRead next = sym (ap bitsRead e ∙ read-place (at + r .taken)) in
       record {
         low = omega (arith, ap (λ (q : BitReader). q .«bit_idx») e);
-        nearer = by (r .pending) refl;
+        nearer = omega (arith, zeros-brought s at kp p (n - j) n j r b h d);
         long = refl;
         clear = λ i x y. c i (omega arith) y;
         left = rest-codes n j at kp (r .run) (at + r .taken) (r .kp) p (r .pending) out h c (b .same) ∙ ap (λ (m : ℕ). rest n (j + r .run) m (r .kp) (r .pending) out) read;
       }
-    where
-      by : (t : Bool) → r .pending ≡ t → n - (j + r .run) < n - j
-      by true f = omega (arith, d f)
-      by false f = omega (arith, b .moves f .0)
 
   -- code words, and the value behind them
   pub turn-value : (n j at kp : ℕ) (p : Bool) (out : List ℤ) (r : CodesRead) (next : BitReader) (v : ℤ) → Clear out j n → Brought s at kp p (n - j) r

@@ -1,6 +1,6 @@
 -- `progressive_decoder::upgrade::srl_list` meets its contract: a turn reads code words and a nonzero value behind them, and what is left of the list stays the same. Assumes nothing.
 use mathlib.Core.Path.{_≡_, refl, sym, ap, _∙_}
-use mathlib.Core.Bool.{Bool, true, false, not}
+use mathlib.Core.Bool.{false, not}
 use mathlib.Core.List.{List}
 use Prim.Native.Nat.{ℕ, _+_, _-_, _*_, _%_, _≤_, _<_}
 use native.Mathlib.Omega.{arith}
@@ -12,6 +12,7 @@ use Rattle.bits.proofs.Places.{read-place}
 use Rattle.bits.proofs.Tops.{front-skip}
 use Rattle.srl_decoder.specs.Srl.{reader, mostZeros, nonzero}
 use Rattle.srl_decoder.specs.Inner.{Brought}
+use Rattle.srl_decoder.proofs.Chains.{zeros-brought}
 use Rattle.upgrade_steps.specs.Steps.{bandStep, srl}
 use Rattle.progressive_decoder.specs.Upgrade.{srlCoefficient, srlSign, rawCoefficient}
 use Rattle.progressive_decoder.specs.Walk.{walked, over, signBy}
@@ -130,18 +131,15 @@ loop-again c =
           ∙ (λ e. left s d t (a .n) (a .list .now) (sym coefficients e) (sym sign e) (j + 1) (sym (v .ensures .2) e) (r .kp) false m),
     )
 
--- where no value is due the code words brought zeros: they end before a value, or it lies past the list
-grows : (n j run : ℕ) (b : Bool) → j < n → (b ≡ false → (1 ≤ run) × Unit {0}) → (b ≡ true → n ≤ j + run) → 1 ≤ run
-grows n j run true h z p = omega (arith, p refl)
-grows n j run false h z p = z refl .0
-
-zeros-brought : (c : tie.Else1 Inv-loop μ-loop) → 1 ≤ c .before .before .before .before .up-to-value .result .run
-zeros-brought c =
-    let r = c .before .before .before .before .up-to-value .result in
-    grows (c .before .before .before .before .before .before .before .before .before .before .before .args .n) (c .before .before .before .before .before .before .before .loop .j) (r .run) (r .pending) (c .before .before .before .before .before .before .loop-test .taken) (λ e. (brings (c .before .before .before .before) .moves e .0, tt)) (c .before .due .ensures .1 (c .if1 .left))
+-- where no value is due the code words brought zeros
+some : (c : tie.Else1 Inv-loop μ-loop) → 1 ≤ c .before .before .before .before .up-to-value .result .run
+some c =
+    let l = c .before .before .before .before .before .before .before .loop in
+    let n = c .before .before .before .before .before .before .before .before .before .before .before .args .n in
+    zeros-brought (c .before .before .before .before .before .before .before .before .before .before .before .args .srl-data .now) (l .at) (l .kp) (l .pending) (n - l .j) n (l .j) (c .before .before .before .before .up-to-value .result) (brings (c .before .before .before .before)) (c .before .before .before .before .before .before .loop-test .taken) (c .before .due .ensures .1 (c .if1 .left))
 
 loop-less-2 : tie.Need-loop-less-2 Inv-loop μ-loop
-loop-less-2 c = omega (arith, zeros-brought c, c .before .before .before .before .before .before .loop-test .taken)
+loop-less-2 c = omega (arith, some c, c .before .before .before .before .before .before .loop-test .taken)
 
 loop-again-2 : tie.Need-loop-again-2 Inv-loop μ-loop
 loop-again-2 c =
@@ -151,7 +149,7 @@ loop-again-2 c =
     let b = brings (c .before .before .before .before) in
     let r = c .before .before .before .before .up-to-value .result in (
       b .kp-low,
-      omega (arith, l .inv .1, b .near, zeros-brought c),
+      omega (arith, l .inv .1, b .near, some c),
       l .inv .2,
       l .inv .3,
       λ d m. l .inv .4 d m
