@@ -4,8 +4,9 @@
  *
  * Link with libtarjimp.a, which `rt staticlib tarjimp` writes to
  * target/staticlib/. It needs no other library, keeps no state of its own,
- * allocates nothing, and any number of threads may call it. A call takes about
- * 1 KB of stack, tarjimp_tile_reconstruct_to_rgba 36 KB (measured on x86-64).
+ * allocates nothing, and any number of threads may call it. A call takes up to
+ * 1 KB of stack; tarjimp_decode_upgrade_pass and tarjimp_tile_decode_upgrade 8,
+ * tarjimp_tile_reconstruct_to_rgba 36 (measured on x86-64).
  *
  * WHAT A CALL RETURNS
  *
