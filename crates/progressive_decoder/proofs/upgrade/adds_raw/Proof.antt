@@ -1,15 +1,15 @@
 -- `progressive_decoder::upgrade::adds_raw` meets its contract. Assumes nothing.
 use mathlib.Core.Path.{sym, ap, _∙_}
 use mathlib.Core.Bool.{_||_}
+use mir.Facts.{toZ-ofZ}
 use Rattle.fixed.specs.Fixed.{isOne}
-use Rattle.fixed.proofs.Machine.{exact}
 use borrow.Author.Needs.{needs}
 use Rattle.progressive_decoder.proofs.upgrade.adds_raw.Statement.{statement}
 use Rattle.progressive_decoder.proofs.upgrade.adds_raw.Tie as tie
 
 returns-2 : tie.Need-returns-2
 returns-2 c =
-    c .is-positive-sign .ensures ∙ ap isOne (search exact depth 20) ∙ sym (ap (λ b. b || isOne (c .before .before .args .s)) (c .before .if1 .left))
+    c .is-positive-sign .ensures ∙ ap isOne (toZ-ofZ (c .before .before .fits .s)) ∙ sym (ap (λ b. b || isOne (c .before .before .args .s)) (c .before .if1 .left))
 
 pub adds-raw-spec : {M : Type 1} → statement M
 adds-raw-spec = tie.close (tie.spec (λ c. search needs) (λ c κs. search needs) returns-2)

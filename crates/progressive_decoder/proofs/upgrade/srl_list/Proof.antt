@@ -34,7 +34,7 @@ loop-holds : tie.Need-loop-holds Inv-loop μ-loop
 loop-holds c =
     let k = c .before .before .before in
     let a = k .args in (
-      k .pre .2,
+      omega (arith, k .pre .2),
       omega arith,
       refl,
       refl,
