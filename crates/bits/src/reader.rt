@@ -160,13 +160,6 @@ pub fn leading(a: u64) -> u32
     u64::leading_zeros(a)
 }
 
-// The bits of a word behind its first.
-pub fn behind_first(a: u64) -> u64
-    ensures { λ r. ⌜ r ≡ (a * 2 ^ 1) % 2 ^ 64 ⌝ }
-{
-    a << 1
-}
-
 // The top `count` bits of a word, as a number.
 pub fn top(a: u64, count: u8) -> u64
     requires { ⌜ count ≤ 63 ⌝ }
@@ -225,7 +218,7 @@ pub fn zeros_behind_first(src: &[u8], r: BitReader, a: u64, have: u32, limit: u3
     ensures { λ z. ⌜ z ≡ zeros (now (src .entry)) (bitsRead r + 1) limit ⌝ }
 {
     let part = at_most(limit, have - 1);
-    let z = lead(behind_first(a), part);
+    let z = lead(behind(a, 1), part);
     if z < part {
         return z;
     }

@@ -1,16 +1,15 @@
 -- The table of places: what it has for a byte, and a row of it stored behind what a list has.
 use mathlib.Core.Path.{_≡_, refl, sym, ap, ap₂, _∙_}
 use mathlib.Core.Bool.{Bool, true, false, cond}
-use mathlib.Core.List.{List, [], _∷_, _++_, map, append-nil, append-assoc}
+use mathlib.Core.List.{List, [], _∷_, _++_, map}
 use Prim.Native.Nat.{ℕ, zero, suc, _+_, _-_, _*_, _/_, _%_, _≤_, _<_}
 use native.Mathlib.Nat.{add-zero, zero-add}
 use native.Mathlib.Numerals.{add-one}
 use native.Mathlib.Omega.{arith}
 use lib.Dec.{eqb}
-use lib.ListN.{length, getD, set, take, drop, replicate, length-append, length-drop, length-replicate, length-map}
-use lib.Seq.{length-take-le, take-at, take-suc, take-suc-set, take-take, take-append-seam, take-append-add, drop-append-add, getD-take, getD-drop, getD-at}
-use Rattle.places.specs.Places.{onesOf, rowOf, rowsFrom, placeRows}
-use Rattle.places.proofs.Ones.{map-append}
+use lib.ListN.{length, getD, set, take, drop, replicate, length-append, length-drop, length-replicate, length-map, List·getD-map}
+use lib.Seq.{paste, paste-suc, take-paste, length-take-le, take-at, take-take, take-append-seam, take-append-add, drop-append-add, getD-take, getD-drop, getD-at}
+use Rattle.places.specs.Places.{onesOf, rowOf, rowsFrom, placeRows, Listed}
 
 -- at most k of k bits are ones
 pub ones-few : (k m : ℕ) → length (onesOf k m) ≤ k
@@ -68,35 +67,44 @@ row-count m h =
 
 -- ════ a row stored behind what a list has ════
 
-module _ (base from n : ℕ) (rows front : List ℕ) where
-  pub row-none : (list : List ℕ) → take n list ≡ front → take (n + 0) list ≡ front ++ map (λ p. base + p) (take 0 (drop from rows))
-  row-none list e = ap (λ (j : ℕ). take j list) (add-zero n) ∙ e ∙ sym (append-nil front)
-
-  -- one number more
-  pub row-next : (k x : ℕ) (list : List ℕ) → n + k < length list → from + k < length rows → x ≡ base + getD rows (from + k) 0
-      → take (n + k) list ≡ front ++ map (λ p. base + p) (take k (drop from rows)) → take (n + (k + 1)) (set list (n + k) x) ≡ front ++ map (λ p. base + p) (take (k + 1) (drop from rows))
-  row-next k x list h l v e =
-      let row = drop from rows in
-      let s : n + (k + 1) ≡ suc (n + k) = omega arith in
-      ap (λ (j : ℕ). take j (set list (n + k) x)) s
-      ∙ take-suc-set list (n + k) x h
-      ∙ ap₂ (λ (a : List ℕ) (y : ℕ). a ++ (y ∷ [])) e (v ∙ ap (λ (y : ℕ). base + y) (sym (getD-drop from rows k 0)))
-      ∙ append-assoc front (map (λ p. base + p) (take k row)) ((base + getD row k 0) ∷ [])
-      ∙ ap (λ (a : List ℕ). front ++ a) (sym (map-append (λ p. base + p) (take k row) (getD row k 0 ∷ [])) ∙ ap (map (λ p. base + p)) (sym (ap (λ (j : ℕ). take j row) (add-one k) ∙ take-suc row k 0 (omega (arith, length-drop from rows)))))
+-- one number more
+pub row-next : (base from n k x : ℕ) (rows start list : List ℕ) → n + k < length start → from + k < length rows → x ≡ base + getD rows (from + k) 0
+    → list ≡ paste start n (map (λ p. base + p) (drop from rows)) k → set list (n + k) x ≡ paste start n (map (λ p. base + p) (drop from rows)) (k + 1)
+row-next base from n k x rows start list h l v e =
+    let row = drop from rows in
+    let s = map (λ p. base + p) row in
+    let w : x ≡ getD s k (base + 0) = v ∙ ap (λ (y : ℕ). base + y) (sym (getD-drop from rows k 0)) ∙ sym (List·getD-map (λ p. base + p) row k 0) in
+    ap₂ (λ (a : List ℕ) (y : ℕ). set a (n + k) y) e w
+    ∙ paste-suc start n s k (base + 0) h (omega (arith, length-map row (λ p. base + p), length-drop from rows))
+    ∙ ap (paste start n s) (sym (add-one k))
 
 map-take : (f : ℕ → ℕ) (c : ℕ) (l : List ℕ) → take c (map f l) ≡ map f (take c l)
 map-take f zero l = refl
 map-take f (suc c) [] = refl
 map-take f (suc c) (x ∷ l) = ap (λ (a : List ℕ). f x ∷ a) (map-take f c l)
 
--- of the numbers stored, those that are ones
-pub ones-stored : (base m n c : ℕ) (front list : List ℕ) → c ≡ length (onesOf 8 m) → length front ≡ n → take (n + 8) list ≡ front ++ map (λ p. base + p) (take 8 (rowOf m))
-    → take (n + c) list ≡ front ++ map (λ p. base + p) (onesOf 8 m)
-ones-stored base m n c front list g l e =
+-- the row of m, where the table's numbers from 9 * m on were stored
+pub row-stored : (base m n : ℕ) (start : List ℕ) → m < 256
+    → paste start n (map (λ p. base + p) (drop (9 * m) placeRows)) 8 ≡ paste start n (map (λ p. base + p) (rowOf m)) 8
+row-stored base m n start h =
+    ap (λ (a : List ℕ). take n start ++ a ++ drop (n + 8) start)
+    (map-take (λ p. base + p) 8 (drop (9 * m) placeRows) ∙ ap (map (λ p. base + p)) (row-eight m h) ∙ sym (map-take (λ p. base + p) 8 (rowOf m)))
+
+-- what is in the list then: what was in, and the ones
+pub listed-ones : (m base n r : ℕ) (start list : List ℕ) → n + 8 ≤ length start → Listed m base n r start list → take r list ≡ take n start ++ map (λ p. base + p) (onesOf 8 m)
+listed-ones m base n r start list h p =
+    let c = length (onesOf 8 m) in
+    let front = take n start in
     let eights = map (λ p. base + p) (take 8 (rowOf m)) in
-    let q : n + c ≡ length front + c = omega (arith, l) in
-    sym (take-take (n + c) (n + 8) list (omega (arith, g, ones-few 8 m)))
-    ∙ ap (take (n + c)) e
+    let f : length front ≡ n = length-take-le n start (omega arith) in
+    let q : n + c ≡ length front + c = omega (arith, f) in
+    let whole : take (n + 8) list ≡ front ++ eights =
+    ap (take (n + 8)) (p .list)
+    ∙ take-paste start n (map (λ p. base + p) (rowOf m)) 8 (omega arith) (omega (arith, length-map (rowOf m) (λ p. base + p), row-length m))
+    ∙ ap (λ (a : List ℕ). front ++ a) (map-take (λ p. base + p) 8 (rowOf m)) in
+    ap (λ (j : ℕ). take j list) (p .count)
+    ∙ sym (take-take (n + c) (n + 8) list (omega (arith, ones-few 8 m)))
+    ∙ ap (take (n + c)) whole
     ∙ ap (λ (j : ℕ). take j (front ++ eights)) q
     ∙ take-append-add front eights c
-    ∙ ap (λ (a : List ℕ). front ++ a) (map-take (λ p. base + p) c (take 8 (rowOf m)) ∙ ap (map (λ p. base + p)) (ap (λ (j : ℕ). take j (take 8 (rowOf m))) g ∙ row-ones m))
+    ∙ ap (λ (a : List ℕ). front ++ a) (map-take (λ p. base + p) c (take 8 (rowOf m)) ∙ ap (map (λ p. base + p)) (row-ones m))

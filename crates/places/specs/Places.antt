@@ -5,6 +5,7 @@ use mathlib.Core.List.{List, [], _∷_, _++_, map}
 use Prim.Native.Nat.{ℕ, zero, suc, _+_, _*_, _/_, _%_}
 use lib.Dec.{eqb}
 use lib.ListN.{length, getD, take, replicate}
+use lib.Seq.{paste}
 
 -- the places of some elements that have a property, in order
 unfoldable pub placesOf : {A : Type 0} → (A → Bool) → List A → List ℕ
@@ -21,11 +22,6 @@ unfoldable pub onesOf : ℕ → ℕ → List ℕ
 onesOf zero m = []
 onesOf (suc k) m = cond (eqb (m % 2) 1) (0 ∷ map suc (onesOf k (m / 2))) (map suc (onesOf k (m / 2)))
 
--- the ones of a byte m, counted from base on, stand in a list behind the n that were in: r are in then
-pub record Listed (m base n r : ℕ) (before after : List ℕ) : Type 0 where
-  pub count : r ≡ n + length (onesOf 8 m)
-  pub places : take r after ≡ take n before ++ map (λ p. base + p) (onesOf 8 m)
-
 -- ════ the table ════
 
 -- of a byte, with zeros behind them: eight numbers, and then how many ones there are
@@ -40,3 +36,10 @@ rowsFrom (suc c) m = rowOf m ++ rowsFrom c (suc m)
 -- of all bytes
 abbrev pub placeRows : List ℕ
 placeRows = rowsFrom 256 0
+
+-- ════ a row in a list ════
+
+-- eight numbers of a byte's row, counted from base on, stand in a list behind the n that were in, and the rest stays; of these the ones count, r are in then
+pub record Listed (m base n r : ℕ) (before after : List ℕ) : Type 0 where
+  pub count : r ≡ n + length (onesOf 8 m)
+  pub list : after ≡ paste before n (map (λ p. base + p) (rowOf m)) 8

@@ -1,8 +1,9 @@
 // Lists of places, eight at a time: the places of the ones of a byte, from a table.
 ghost use mathlib.Core.Path.{_≡_};
-ghost use mathlib.Core.List.{_++_, map};
+ghost use mathlib.Core.List.{map};
 ghost use Prim.Native.Nat.{_+_, _*_, _≤_, _<_};
-ghost use lib.ListN.{length, take, drop};
+ghost use lib.ListN.{length, drop};
+ghost use lib.Seq.{paste};
 ghost use Rattle.places.specs.Places.{placeRows, Listed};
 
 // For each byte m a row of nine numbers: the places of its ones, the lowest first, zeros behind them, and last how many ones there are.
@@ -94,7 +95,7 @@ fn count_of(x: u8) -> usize
 // Stores the first eight numbers of row m, `base` added to each, behind the first `n` of `list`. Eight whatever m is: no branch depends on it.
 fn store_row(rows: &[u8; 2304], m: usize, base: u16, list: &mut [u16], n: usize)
     requires { ⌜ (m < 256) × (base ≤ 1024) × (n + 8 ≤ length (now list)) × (2304 ≤ length (now rows)) ⌝ }
-    ensures { λ _. ⌜ take (n + 8) (now (list .exit)) ≡ take n (now (list .entry)) ++ map (λ p. base + p) (take 8 (drop (9 * m) (now (rows .entry)))) ⌝ }
+    ensures { λ _. ⌜ now (list .exit) ≡ paste (now (list .entry)) n (map (λ p. base + p) (drop (9 * m) (now (rows .entry)))) 8 ⌝ }
 {
     let from = 9 * m;
     let mut k: usize = 0;
@@ -104,8 +105,8 @@ fn store_row(rows: &[u8; 2304], m: usize, base: u16, list: &mut [u16], n: usize)
     }
 }
 
-// Puts the places of the ones of m, counted from `base` on, behind the first `n` of `list`; how many are in then. What `list` has behind these, up to
-// eight numbers from `n` on, may change.
+// Puts the places of the ones of m, counted from `base` on, behind the first `n` of `list`; how many are in then. Eight numbers are stored: behind the
+// places stand zeros of the row, and the caller's next places overwrite them.
 pub fn put_ones(rows: &[u8; 2304], m: usize, base: u16, list: &mut [u16], n: usize) -> usize
     requires { ⌜ (now rows ≡ placeRows) × (m < 256) × (base ≤ 1024) × (n + 8 ≤ length (now list)) ⌝ }
     ensures { λ r. ⌜ Listed m base n r (now (list .entry)) (now (list .exit)) ⌝ }

@@ -12,6 +12,7 @@ use lib.Seq.{length-take-le, take-length, take-suc-set, take-set-le, getD-take}
 use Rattle.fixed.specs.Fixed.{isZero}
 use Rattle.places.specs.Places.{placesOf, maskOf, onesOf, Listed}
 use Rattle.places.proofs.Ones.{places-suc, places-more, mask-not, ones-both}
+use Rattle.places.proofs.Table.{listed-ones}
 use Rattle.upgrade_steps.specs.Steps.{Step, fromSrl}
 use Rattle.progressive_decoder.specs.Walk.{srlPlaces, rawPlaces, Split, Within}
 
@@ -64,14 +65,14 @@ mask-four ss i a b c d e f g h =
     omega (arith, e, f ∙ ap at i₁, g ∙ ap at i₂, h ∙ ap at i₃)
 
 -- eight places more, by the ones of a byte
-listed : (f : ℤ → Bool) (ss : List ℤ) (i n r m : ℕ) (l l′ : List ℕ) → i + 8 ≤ length ss → m ≡ maskOf f (pos 0) ss i 8 → Listed m i n r l l′ → take n l ≡ placesOf f (take i ss)
+listed : (f : ℤ → Bool) (ss : List ℤ) (i n r m : ℕ) (l l′ : List ℕ) → i + 8 ≤ length ss → n + 8 ≤ length l → m ≡ maskOf f (pos 0) ss i 8 → Listed m i n r l l′ → take n l ≡ placesOf f (take i ss)
     → take r l′ ≡ placesOf f (take (i + 8) ss)
-listed f ss i n r m l l′ h e p k =
-    p .places ∙ ap₂ (λ (a : List ℕ) (j : ℕ). a ++ map (λ p. i + p) (onesOf 8 j)) k e ∙ sym (places-more f (pos 0) ss 8 i h)
+listed f ss i n r m l l′ h o e p k =
+    listed-ones m i n r l l′ o p ∙ ap₂ (λ (a : List ℕ) (j : ℕ). a ++ map (λ p. i + p) (onesOf 8 j)) k e ∙ sym (places-more f (pos 0) ss 8 i h)
 
-pub split-eight : (t : Step) (ss : List ℤ) (i n r o m : ℕ) (zeros zeros′ others others′ : List ℕ) → t .bottom ≡ false → i + 8 ≤ length ss → m ≡ maskOf isZero (pos 0) ss i 8
+pub split-eight : (t : Step) (ss : List ℤ) (i n r o m : ℕ) (zeros zeros′ others others′ : List ℕ) → t .bottom ≡ false → i + 8 ≤ length ss → i + 8 ≤ length zeros → i + 8 ≤ length others → m ≡ maskOf isZero (pos 0) ss i 8
     → Listed m i n r zeros zeros′ → Listed (255 - m) i (i - n) o others others′ → Split t ss i n zeros others → Split t ss (i + 8) r zeros′ others′
-split-eight t ss i n r o m zeros zeros′ others others′ b h e p q s =
+split-eight t ss i n r o m zeros zeros′ others others′ b h z o′ e p q s =
     let f = fromSrl t in
     let g : ℤ → Bool = λ x. not (fromSrl t x) in
     let e′ : m ≡ maskOf f (pos 0) ss i 8 = e ∙ ap (λ (a : Bool). maskOf (λ x. cond a false (isZero x)) (pos 0) ss i 8) (sym b) in
@@ -80,8 +81,8 @@ split-eight t ss i n r o m zeros zeros′ others others′ b h e p q s =
     let rest : i + 8 - r ≡ o = omega (arith, p .count, q .count, both, s .few) in
     record {
       few = omega (arith, p .count, both, s .few);
-      srl = listed f ss i n r m zeros zeros′ h e′ p (s .srl);
-      raw = ap (λ (j : ℕ). take j others′) rest ∙ listed g ss i (i - n) o (255 - m) others others′ h d q (s .raw);
+      srl = listed f ss i n r m zeros zeros′ h (omega (arith, z, s .few)) e′ p (s .srl);
+      raw = ap (λ (j : ℕ). take j others′) rest ∙ listed g ss i (i - n) o (255 - m) others others′ h (omega (arith, o′, s .few)) d q (s .raw);
     }
 
 -- places lie within the signs

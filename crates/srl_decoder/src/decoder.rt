@@ -58,7 +58,7 @@ fn one_code(a: u64, kp: u8) -> CodesRead
         };
     }
     let k = kp / 8;
-    let zeros = bits::reader::top(bits::reader::behind_first(a), k);
+    let zeros = bits::reader::top(bits::reader::behind(a, 1), k);
     CodesRead {
         taken: 1 + k as usize,
         kp: srl_rules::lowered(kp),

@@ -1,12 +1,12 @@
 -- `places::put_ones` meets its contract. Assumes nothing.
 use mathlib.Core.Path.{_≡_, ap, _∙_}
-use mathlib.Core.List.{List, _++_, map}
+use mathlib.Core.List.{List, map}
 use Prim.Native.Nat.{ℕ, _+_, _*_, _≤_}
 use native.Mathlib.Omega.{arith}
-use lib.ListN.{length, getD, take, drop}
-use lib.Seq.{length-take-le}
+use lib.ListN.{length, getD, drop}
+use lib.Seq.{paste}
 use Rattle.places.specs.Places.{onesOf}
-use Rattle.places.proofs.Table.{ones-few, rows-length, row-eight, row-count, ones-stored}
+use Rattle.places.proofs.Table.{ones-few, rows-length, row-count, row-stored}
 use borrow.Author.Needs.{needs}
 use Rattle.places.proofs.put_ones.Statement.{statement}
 use Rattle.places.proofs.put_ones.Tie as tie
@@ -32,12 +32,9 @@ returns : tie.Need-returns
 returns c =
     let k = c .before .before .before .before .before .before .before in
     let a = k .args in
-    let front = take (a .n) (a .list .now) in
-    let row = ap (λ (l : List ℕ). take 8 (drop (9 * a .m) l)) (k .pre .0) ∙ row-eight (a .m) (k .pre .1) in
     record {
       count = ap (λ (j : ℕ). a .n + j) (counted c);
-      places = ones-stored (a .base) (a .m) (a .n) (c .count-of .result) front _ (counted c) (length-take-le (a .n) (a .list .now) (omega (arith, k .pre .3)))
-          (c .before .before .before .before .store-row .ensures ∙ ap (λ (l : List ℕ). front ++ map (λ p. a .base + p) l) row);
+      list = c .before .before .before .before .store-row .ensures ∙ ap (λ (l : List ℕ). paste (a .list .now) (a .n) (map (λ p. a .base + p) (drop (9 * a .m) l)) 8) (k .pre .0) ∙ row-stored (a .base) (a .m) (a .n) (a .list .now) (k .pre .1);
     }
 
 pub put-ones-spec : {M : Type 1} → statement M

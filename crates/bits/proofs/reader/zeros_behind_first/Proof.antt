@@ -18,7 +18,7 @@ found c =
     let k = c .before .before .before .before in
     let a = k .args in
     let f = k .pre .3 in
-    let b = c .before .behind-first in
+    let b = c .before .behind in
     let t : Top (f .all - 1) (b .result) (a .src .now) (bitsRead (a .r) + 1) = rw (b .ensures) (top-skip (f .all) 1 (a .a) (a .src .now) (bitsRead (a .r)) (f .top) (omega (arith, k .pre .2, f .enough))) in
     c .lead .ensures ∙ top-zeros (f .all - 1) (c .before .before .at-most .result) (b .result) (a .src .now) (bitsRead (a .r) + 1) t (omega (arith, c .before .before .at-most .ensures, f .enough))
 

@@ -22,7 +22,7 @@ returns-2 : tie.Need-returns-2
 returns-2 c =
     let k = c .before .before .before .before in
     let a = k .args in
-    let r = c .before .before .behind-first in (
+    let r = c .before .before .behind in (
       λ s n v t h.
           let b = first-one v (a .a) s n t (omega arith) (c .before .before .before .if1 .left) in
           let t′ : Top (v - 1) (r .result) s (n + 1) = rw (r .ensures) (top-skip v 1 (a .a) s n t (omega arith)) in
