@@ -11,7 +11,7 @@ use lib.ListN.{length}
 use Rattle.bands.specs.Positions.{inDomain, rowInDomain}
 use Rattle.bands.proofs.Every.{part-passes}
 use Rattle.upgrade_steps.specs.Steps.{Step, Source, skipped, srl, raw, source, steps}
-use Rattle.progressive_decoder.specs.Upgrade.{signThen, signsAfter, coefficientThen, coefficientsAfter, upgradedCoefficients, upgradedSigns, passRefusal}
+use Rattle.progressive_decoder.specs.Upgrade.{signThen, signsAfter, coefficientThen, coefficientsAfter, upgradedCoefficients, upgradedSigns, decodePassRefusal}
 use Rattle.answer.specs.Refusals.{unlessRefused, longEnough}
 use Rattle.components.specs.Components.{stepsOf, passCoefficients, passSigns}
 use Rattle.planes.specs.Planes.{component, rowOf, joined, of, withComponent}
@@ -50,7 +50,7 @@ signs-long (t ∷ ts) (s ∷ ss) vs = sign-longer (source t s) s vs (signsAfter 
 -- ════ one component, where it lies ════
 
 -- it is not refused
-accepted : (prev curr : List ℕ) (c s : List ℤ) → rowInDomain prev ≡ true → rowInDomain curr ≡ true → length c ≡ 4096 → length s ≡ 4096 → passRefusal prev curr c s ≡ 0
+accepted : (prev curr : List ℕ) (c s : List ℤ) → rowInDomain prev ≡ true → rowInDomain curr ≡ true → length c ≡ 4096 → length s ≡ 4096 → decodePassRefusal prev curr c s ≡ 0
 accepted prev curr c s p q h j =
     let long : longEnough c ≡ true = le-leb 4096 (length c) (omega arith) in
     let long′ : longEnough s ≡ true = le-leb 4096 (length s) (omega arith) in
@@ -60,13 +60,13 @@ module _ (e : Bool) (positions : List ℕ) (rows : List (List ℕ)) (k n : ℕ) 
     (third : k < 3) (longC : length cs ≡ 12288) (longS : length ss ≡ 12288) (whole : n ≡ 4096) where
   -- what a function of the steps and of both parts gives goes where one of them lies; n is the length of a part as the code has it
   pub put : (prev : List ℕ) → prev ≡ rowOf k positions → (f : List Step → List ℤ → List ℤ → List ℤ) (l old y : List ℤ)
-      → y ≡ unlessRefused (passRefusal prev (of rows k) (midOf (k * 4096) n cs) (midOf (k * 4096) n ss)) (f (steps e prev (of rows k)) (midOf (k * 4096) n cs) (midOf (k * 4096) n ss)) old
+      → y ≡ unlessRefused (decodePassRefusal prev (of rows k) (midOf (k * 4096) n cs) (midOf (k * 4096) n ss)) (f (steps e prev (of rows k)) (midOf (k * 4096) n cs) (midOf (k * 4096) n ss)) old
       → putMid (k * 4096) n l y ≡ withComponent k (f (stepsOf e positions rows k) (component k cs) (component k ss)) l
   put prev row f l old y d =
       let c = component k cs in
       let s = component k ss in
       ap (putMid (k * 4096) n l) d
-      ∙ ap₂ (λ (n : ℕ) (prev : List ℕ). putMid (k * 4096) n l (unlessRefused (passRefusal prev (of rows k) (midOf (k * 4096) n cs) (midOf (k * 4096) n ss)) (f (steps e prev (of rows k)) (midOf (k * 4096) n cs) (midOf (k * 4096) n ss)) old)) whole row
+      ∙ ap₂ (λ (n : ℕ) (prev : List ℕ). putMid (k * 4096) n l (unlessRefused (decodePassRefusal prev (of rows k) (midOf (k * 4096) n cs) (midOf (k * 4096) n ss)) (f (steps e prev (of rows k)) (midOf (k * 4096) n cs) (midOf (k * 4096) n ss)) old)) whole row
       ∙ ap (λ (r : ℕ). withComponent k (unlessRefused r (f (stepsOf e positions rows k) c s) old) l)
       (accepted (rowOf k positions) (of rows k) c s (part-passes inDomain 10 (k * 10) positions low) low′ (parts-long 4096 cs longC k third) (parts-long 4096 ss longS k third))
 

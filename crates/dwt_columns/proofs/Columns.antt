@@ -7,7 +7,7 @@ use native.Mathlib.Nat.{suc-mul}
 use native.Mathlib.Omega.{arith}
 use lib.IntN.{ℤ, pos}
 use lib.ListN.{length, getD, drop, length-append, length-map}
-use Rattle.dwt_lines.specs.Line.{edge, even, odd, half, mean, tail, from, line, Halves}
+use Rattle.dwt_lines.specs.Line.{edge, even, odd, half, mean, oddTail, from, line, Halves}
 use Rattle.dwt_lines.proofs.Lines.{line-length}
 use Rattle.dwt_columns.specs.Columns.{rows, columns, down}
 use Rattle.dwt_columns.specs.Inner.{zipWith3, fromRows, lineRows}
@@ -67,7 +67,7 @@ module _ (w : ℕ) where
   from-heads : (x h : List ℤ) (ls hs : List (List ℤ)) → length x ≡ suc w → length h ≡ suc w → Wide (suc w) ls → Wide (suc w) hs
       → heads (fromRows x h ls hs) ≡ from (head x) (head h) (heads ls) (heads hs)
   unfolding from fromRows
-  from-heads x h [] hs ex eh el ek = rw (zip-get tail x h 0 (pos 0) (omega arith) (omega arith))
+  from-heads x h [] hs ex eh el ek = rw (zip-get oddTail x h 0 (pos 0) (omega arith) (omega arith))
   from-heads x h (l ∷ []) [] ex eh el ek =
       let n : length (zipWith edge l h) ≡ suc w = zip-length edge l h (el .0) eh in
       rw (zip3-get odd x (zipWith edge l h) h 0 (pos 0) (omega arith) (omega arith) (omega arith), zip-get edge l h 0 (pos 0) (omega arith) (omega arith))
@@ -96,7 +96,7 @@ module _ (w : ℕ) where
 -- from the even row x on
 from-tails : (x h : List ℤ) (ls hs : List (List ℤ)) → tails (fromRows x h ls hs) ≡ fromRows (drop 1 x) (drop 1 h) (tails ls) (tails hs)
 unfolding fromRows
-from-tails x h [] hs = rw (zip-drop tail x h)
+from-tails x h [] hs = rw (zip-drop oddTail x h)
 from-tails x h (l ∷ []) [] = rw (zip3-drop odd x (zipWith edge l h) h, zip-drop edge l h)
 from-tails x h (l ∷ m ∷ ls) [] = rw (zip3-drop odd x (zipWith half l h) h, zip-drop mean (zipWith half l h) m, zip-drop half l h)
 from-tails x h (l ∷ ls) (k ∷ hs) = rw (zip3-drop odd x (zipWith3 even l h k) h, from-tails (zipWith3 even l h k) k ls hs, zip3-drop even l h k)
@@ -127,7 +127,7 @@ module _ (w : ℕ) where
   -- rows of rows that are w wide are w wide, from the even row x on
   from-wide : (x h : List ℤ) (ls hs : List (List ℤ)) → length x ≡ w → length h ≡ w → Wide w ls → Wide w hs → Wide w (fromRows x h ls hs)
   unfolding fromRows
-  from-wide x h [] hs ex eh el ek = (ex, (zip-length tail x h ex eh, tt))
+  from-wide x h [] hs ex eh el ek = (ex, (zip-length oddTail x h ex eh, tt))
   from-wide x h (l ∷ []) [] ex eh el ek =
       let n : length (zipWith edge l h) ≡ w = zip-length edge l h (el .0) eh in
       (ex, (zip3-length odd x (zipWith edge l h) h ex n eh, (n, tt)))

@@ -9,7 +9,7 @@ use native.Mathlib.Omega.{arith}
 use lib.IntN.{ℤ, pos}
 use lib.ListN.{length, getD, set, take, drop, length-set, length-append, drop-of-length-le, List·getD-append}
 use lib.Seq.{take-all, length-take-le, paste, paste-zero, paste-suc, length-paste, take-paste, getD-take, set-append-left, take-set-lt, drop-set-lt}
-use Rattle.dwt_lines.specs.Line.{edge, even, odd, half, mean, tail}
+use Rattle.dwt_lines.specs.Line.{edge, even, odd, half, mean, oddTail}
 use Rattle.dwt_columns.specs.Inner.{zipWith3, pairRows, lastRows, tailRows}
 use Rattle.dwt_columns.proofs.Places.{zip-length, zip-get, zip3-length, zip3-get}
 
@@ -70,28 +70,28 @@ module _ (l h d₀ : List ℤ) (eh : length h ≡ length l) (ed : length d₀ �
 
 -- d is d₀, which begins with the even row, after i turns
 abbrev pub TailDone : List ℤ → List ℤ → ℕ → List ℤ → Type 0
-TailDone h d₀ i d = d ≡ paste d₀ (length h) (zipWith tail (take (length h) d₀) h) i
+TailDone h d₀ i d = d ≡ paste d₀ (length h) (zipWith oddTail (take (length h) d₀) h) i
 
 -- after none
 pub tail-start : (h d : List ℤ) → TailDone h d 0 d
-tail-start h d = paste-zero d (length h) (zipWith tail (take (length h) d) h)
+tail-start h d = paste-zero d (length h) (zipWith oddTail (take (length h) d) h)
 
 module _ (h d₀ : List ℤ) (ed : length d₀ ≡ 2 * length h) where
   -- the even row, and the row that it makes
-  tail-long : (length (take (length h) d₀) ≡ length h) × (length (zipWith tail (take (length h) d₀) h) ≡ length h)
+  tail-long : (length (take (length h) d₀) ≡ length h) × (length (zipWith oddTail (take (length h) d₀) h) ≡ length h)
   tail-long =
       let nx : length (take (length h) d₀) ≡ length h = length-take-le (length h) d₀ (omega arith) in
-      (nx, zip-length tail (take (length h) d₀) h nx (omega arith))
+      (nx, zip-length oddTail (take (length h) d₀) h nx (omega arith))
 
   -- after one more
-  pub tail-turn : (d : List ℤ) (i : ℕ) (t : ℤ) → i < length h → TailDone h d₀ i d → t ≡ tail (getD d i (pos 0)) (getD h i (pos 0)) → TailDone h d₀ (i + 1) (set d (length h + i) t)
+  pub tail-turn : (d : List ℤ) (i : ℕ) (t : ℤ) → i < length h → TailDone h d₀ i d → t ≡ oddTail (getD d i (pos 0)) (getD h i (pos 0)) → TailDone h d₀ (i + 1) (set d (length h + i) t)
   tail-turn d i t e f p =
       let w = length h in
       let x = take w d₀ in
-      let T = zipWith tail x h in
+      let T = zipWith oddTail x h in
       let n = tail-long in
       let gx : getD d i (pos 0) ≡ getD x i (pos 0) = ap (λ (z : List ℤ). getD z i (pos 0)) f ∙ paste-get d₀ w T i i (omega arith) e ∙ sym (getD-take w d₀ i (pos 0) e) in
-      rw f (paste-more d₀ w T i t (omega arith) (omega arith) (p ∙ rw gx (sym (zip-get tail x h i (pos 0) (omega arith) e))))
+      rw f (paste-more d₀ w T i t (omega arith) (omega arith) (p ∙ rw gx (sym (zip-get oddTail x h i (pos 0) (omega arith) e))))
 
   -- after all
   pub tail-done : (d : List ℤ) (i : ℕ) → i ≡ length h → TailDone h d₀ i d → d ≡ tailRows h (take (length h) d₀)
@@ -100,7 +100,7 @@ module _ (h d₀ : List ℤ) (ed : length d₀ ≡ 2 * length h) where
       let w = length h in
       let n = tail-long in
       let none : drop (w + w) d₀ ≡ [] = drop-of-length-le d₀ {i = w + w} (omega arith) in
-      (rw e at f) ∙ rw (none, append-nil, take-all w (zipWith tail (take w d₀) h) (omega arith))
+      (rw e at f) ∙ rw (none, append-nil, take-all w (zipWith oddTail (take w d₀) h) (omega arith))
 
 -- ════ a pair of rows ════
 

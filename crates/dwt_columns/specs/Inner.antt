@@ -4,7 +4,7 @@ use mathlib.Core.List.{List, [], _∷_, _++_, zipWith}
 use Prim.Native.Nat.{ℕ}
 use lib.IntN.{ℤ}
 use lib.ListN.{take, drop}
-use Rattle.dwt_lines.specs.Line.{edge, even, odd, half, mean, tail}
+use Rattle.dwt_lines.specs.Line.{edge, even, odd, half, mean, oddTail}
 
 -- a list of three lists, place by place
 unfoldable pub zipWith3 : (ℤ → ℤ → ℤ → ℤ) → List ℤ → List ℤ → List ℤ → List ℤ
@@ -18,7 +18,7 @@ unfoldable pub fromRows : List ℤ → List ℤ → List (List ℤ) → List (Li
 fromRows x h (l ∷ ls) (k ∷ hs) = x ∷ zipWith3 odd x (zipWith3 even l h k) h ∷ fromRows (zipWith3 even l h k) k ls hs
 fromRows x h (l ∷ m ∷ ls) [] = x ∷ zipWith3 odd x (zipWith half l h) h ∷ zipWith half l h ∷ zipWith mean (zipWith half l h) m ∷ []
 fromRows x h (l ∷ []) [] = x ∷ zipWith3 odd x (zipWith edge l h) h ∷ zipWith edge l h ∷ []
-fromRows x h [] hs = x ∷ zipWith tail x h ∷ []
+fromRows x h [] hs = x ∷ zipWith oddTail x h ∷ []
 
 -- `line` of all columns
 unfoldable pub lineRows : List (List ℤ) → List (List ℤ) → List (List ℤ)
@@ -36,7 +36,7 @@ lastRows l h m x = x ++ (zipWith3 odd x (zipWith half l h) h ++ (zipWith half l 
 
 -- the even row x, and the last one, where there are no more low rows than high ones
 unfoldable pub tailRows : List ℤ → List ℤ → List ℤ
-tailRows h x = x ++ zipWith tail x h
+tailRows h x = x ++ zipWith oddTail x h
 
 -- d, with u in the place of the k places from i on
 abbrev pub put : ℕ → ℕ → List ℤ → List ℤ → List ℤ

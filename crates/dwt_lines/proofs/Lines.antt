@@ -9,7 +9,7 @@ use lib.IntN.{ℤ, pos, negsuc, _+ℤ_}
 use lib.ListN.{length, getD, set, take, drop, length-set, length-drop, drop-of-length-le}
 use lib.Seq.{drop-cons, take-all, drop-drop, take-suc-set, sets, sets-eq}
 use Rattle.fixed.specs.Fixed.{halfTowardZero}
-use Rattle.dwt_lines.specs.Line.{edge, even, odd, half, mean, tail, from, line, Halves}
+use Rattle.dwt_lines.specs.Line.{edge, even, odd, half, mean, oddTail, from, line, Halves}
 
 -- ════ one sample ════
 
@@ -33,7 +33,7 @@ filled d vs e =
     sets-eq vs d 0 (omega arith) ∙ ap (λ (z : List ℤ). vs ++ z) (drop-of-length-le d {i = 0 + length vs} (omega arith)) ∙ append-nil vs
 
 -- no low place is left
-pub end-none : (l d : List ℤ) (x h t : ℤ) → length l ≡ 0 → length d ≡ length l + 2 → t ≡ tail x h → set (set d 0 x) 1 t ≡ from x h l []
+pub end-none : (l d : List ℤ) (x h t : ℤ) → length l ≡ 0 → length d ≡ length l + 2 → t ≡ oddTail x h → set (set d 0 x) 1 t ≡ from x h l []
 unfolding from
 end-none [] d x h t e f p = filled d (x ∷ t ∷ []) f ∙ rw p
 end-none (a ∷ l) d x h t e f p = absurd (omega arith)

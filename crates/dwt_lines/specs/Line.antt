@@ -28,8 +28,8 @@ unfoldable pub mean : ℤ → ℤ → ℤ
 mean x l = wrapI16 (halfTowardZero (x +ℤ l))
 
 -- "the even place before it plus 2H": the last sample where no low place is left
-unfoldable pub tail : ℤ → ℤ → ℤ
-tail x h = wrapI16 (x +ℤ pos 2 *ℤ h)
+unfoldable pub oddTail : ℤ → ℤ → ℤ
+oddTail x h = wrapI16 (x +ℤ pos 2 *ℤ h)
 
 -- ════ a line ════
 
@@ -39,7 +39,7 @@ unfoldable pub from : ℤ → ℤ → List ℤ → List ℤ → List ℤ
 from x h (l ∷ ls) (k ∷ hs) = x ∷ odd x (even l h k) h ∷ from (even l h k) k ls hs
 from x h (l ∷ m ∷ ls) [] = x ∷ odd x (half l h) h ∷ half l h ∷ mean (half l h) m ∷ []
 from x h (l ∷ []) [] = x ∷ odd x (edge l h) h ∷ edge l h ∷ []
-from x h [] hs = x ∷ tail x h ∷ []
+from x h [] hs = x ∷ oddTail x h ∷ []
 
 -- the whole line, of its low and its high half
 unfoldable pub line : List ℤ → List ℤ → List ℤ

@@ -3,7 +3,7 @@ ghost use mathlib.Core.Path.{_≡_};
 ghost use mathlib.Core.List.{[]};
 ghost use Prim.Native.Nat.{_+_, _≤_};
 ghost use lib.ListN.{length};
-ghost use Rattle.dwt_lines.specs.Line.{edge, even, odd, half, mean, tail, from, line, Halves};
+ghost use Rattle.dwt_lines.specs.Line.{edge, even, odd, half, mean, oddTail, from, line, Halves};
 
 // ---- one sample. `fixed::t` keeps the low sixteen bits, and `/` rounds towards zero
 
@@ -44,7 +44,7 @@ pub fn mean_sample(x: i16, l: i16) -> i16
 
 // The last place where there are no more low places than high ones.
 pub fn tail_sample(x: i16, h: i16) -> i16
-    ensures { λ r. ⌜ r ≡ tail x h ⌝ }
+    ensures { λ r. ⌜ r ≡ oddTail x h ⌝ }
 {
     fixed::t(x as i32 + 2 * (h as i32))
 }

@@ -30,7 +30,7 @@ use Rattle.srl.proofs.Trip.{stream-values}
 use Rattle.upgrade_steps.specs.Steps.{Step, Source, skipped, srl, raw, source, sourceOf, steps, stepOf, srlWidths, rawWidths}
 use Rattle.answer.specs.Refusals.{longEnough}
 use Rattle.progressive_decoder.specs.Upgrade.{srlCoefficient, srlSign, adds, rawCoefficient, signThen, signsAfter, coefficientThen, coefficientsAfter, srlValues, rawNumbers, decodeCoefficients, decodeSigns}
-use Rattle.progressive_encoder.specs.Encode.{srlDifference, rawDifference, srlGiven, srlDifferences, rawGiven, rawDifferences, srlStream, srlBytes, rawBytes, valuesFault, passFault, noRoomFor, encodeRefusal}
+use Rattle.progressive_encoder.specs.Encode.{srlDifference, rawDifference, srlGiven, srlDifferences, rawGiven, rawDifferences, srlStream, srlBytes, rawBytes, valuesFault, passFault, noRoomFor, encodePassRefusal}
 use Rattle.progressive_encoder.proofs.Placewise.{same-length}
 use Rattle.progressive.specs.Laws.{Small, small, Sent, downward, towardZero, cut, cuts, cutSign, cutSigns, Onward, Regained, Regains, regained, PassRoundTrip}
 
@@ -232,7 +232,7 @@ record Taken (cs ps ss : List ℤ) (prev curr : List ℕ) (e : Bool) : Type 0 wh
   pub rows : (rowInDomain prev && rowInDomain curr) ≡ true
   pub no-fault : passFault (steps e prev curr) cs ps ss ≡ 0
 
-taken : (cs ps ss : List ℤ) (prev curr : List ℕ) (e : Bool) (srlOut rawOut : List ℕ) → encodeRefusal cs ps prev curr ss e srlOut rawOut ≡ 0 → Taken cs ps ss prev curr e
+taken : (cs ps ss : List ℤ) (prev curr : List ℕ) (e : Bool) (srlOut rawOut : List ℕ) → encodePassRefusal cs ps prev curr ss e srlOut rawOut ≡ 0 → Taken cs ps ss prev curr e
 taken cs ps ss prev curr e srlOut rawOut = by (longEnough cs && (longEnough ps && longEnough ss)) refl (rowInDomain prev && rowInDomain curr) refl
   where
     rest : ℕ
@@ -251,7 +251,7 @@ long : {A : Type 0} (e : Bool) (prev curr : List ℕ) (l : List A) → longEnoug
 long e prev curr l h = omega (arith, leb-true 4096 (length l) h, place-whole e (stepOf prev curr))
 
 calls-back : (cs ps ss : List ℤ) (prev curr : List ℕ) (e : Bool) (srlOut rawOut : List ℕ)
-    → encodeRefusal cs ps prev curr ss e srlOut rawOut ≡ 0
+    → encodePassRefusal cs ps prev curr ss e srlOut rawOut ≡ 0
     → Small (rawWidths (steps e prev curr) ss) (rawDifferences (steps e prev curr) cs ps ss)
     → Regains (steps e prev curr) cs ps ss
     → (decodeCoefficients (srlBytes (steps e prev curr) cs ps ss) (rawBytes (steps e prev curr) cs ps ss) prev curr e ps ss ≡ cuts (steps e prev curr) cs ps ss)

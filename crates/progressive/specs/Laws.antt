@@ -10,7 +10,7 @@ use lib.Signed.{mag}
 use Rattle.fixed.specs.Fixed.{floorShift, isNegative, signOf, withSign}
 use Rattle.upgrade_steps.specs.Steps.{Step, Source, skipped, srl, raw, source, steps, rawWidths}
 use Rattle.progressive_decoder.specs.Upgrade.{adds, srlValues, rawNumbers, upgradedSigns, upgradedCoefficients, decodeCoefficients, decodeSigns}
-use Rattle.progressive_encoder.specs.Encode.{srlDifferences, rawDifferences, srlBytes, rawBytes, passFault, encodeRefusal}
+use Rattle.progressive_encoder.specs.Encode.{srlDifferences, rawDifferences, srlBytes, rawBytes, passFault, encodePassRefusal}
 
 -- ════ what the writer could send whole ════
 
@@ -103,7 +103,7 @@ pub record PassRoundTrip : Type 0 where
       → upgradedSigns ts (srlBytes ts cs ps ss) ss ≡ cutSigns ts cs ss
   -- the same of the two calls, one of which was accepted with some outputs
   pub calls : (cs ps ss : List ℤ) (prev curr : List ℕ) (e : Bool) (srlOut rawOut : List ℕ)
-      → encodeRefusal cs ps prev curr ss e srlOut rawOut ≡ 0
+      → encodePassRefusal cs ps prev curr ss e srlOut rawOut ≡ 0
       → Small (rawWidths (steps e prev curr) ss) (rawDifferences (steps e prev curr) cs ps ss)
       → Regains (steps e prev curr) cs ps ss
       → (decodeCoefficients (srlBytes (steps e prev curr) cs ps ss) (rawBytes (steps e prev curr) cs ps ss) prev curr e ps ss ≡ cuts (steps e prev curr) cs ps ss)

@@ -87,22 +87,22 @@ upgradedCoefficients ts srlData rawData cs ss =
 -- ════ refusals: 0 is none ════
 
 -- "order: .. 1, 2": 2 is "a position or quantizer above 15"
-abbrev pub passRefusal : List ℕ → List ℕ → List ℤ → List ℤ → ℕ
-passRefusal prev curr cs ss =
+abbrev pub decodePassRefusal : List ℕ → List ℕ → List ℤ → List ℤ → ℕ
+decodePassRefusal prev curr cs ss =
     cond (longEnough cs && longEnough ss) (cond (rowInDomain prev && rowInDomain curr) 0 2) 1
 
 -- ════ what `decode_upgrade_pass` answers, and what it leaves in the two slices ════
 
 -- the answer: "stream bytes never cause [a refusal]", so they are not among its arguments
-abbrev pub decodeAnswer : List ℕ → List ℕ → List ℤ → List ℤ → Answer
-decodeAnswer prev curr cs ss = answered (passRefusal prev curr cs ss)
+abbrev pub decodePassAnswer : List ℕ → List ℕ → List ℤ → List ℤ → Answer
+decodePassAnswer prev curr cs ss = answered (decodePassRefusal prev curr cs ss)
 
 -- the coefficients then
 abbrev pub decodeCoefficients : List ℕ → List ℕ → List ℕ → List ℕ → Bool → List ℤ → List ℤ → List ℤ
 decodeCoefficients srlData rawData prev curr e cs ss =
-    unlessRefused (passRefusal prev curr cs ss) (upgradedCoefficients (steps e prev curr) srlData rawData cs ss) cs
+    unlessRefused (decodePassRefusal prev curr cs ss) (upgradedCoefficients (steps e prev curr) srlData rawData cs ss) cs
 
 -- the signs then
 abbrev pub decodeSigns : List ℕ → List ℕ → List ℕ → Bool → List ℤ → List ℤ → List ℤ
 decodeSigns srlData prev curr e cs ss =
-    unlessRefused (passRefusal prev curr cs ss) (upgradedSigns (steps e prev curr) srlData ss) ss
+    unlessRefused (decodePassRefusal prev curr cs ss) (upgradedSigns (steps e prev curr) srlData ss) ss

@@ -3,7 +3,7 @@
 // A refusal has a number (docs/SCOPE.md, "Refusals") and alters nothing.
 
 ghost use mathlib.Core.Path.{_≡_};
-ghost use Rattle.progressive_decoder.specs.Upgrade.{decodeAnswer, decodeCoefficients, decodeSigns};
+ghost use Rattle.progressive_decoder.specs.Upgrade.{decodePassAnswer, decodeCoefficients, decodeSigns};
 
 mod split;
 mod upgrade;
@@ -20,7 +20,7 @@ pub fn decode_upgrade_pass(
     coefficients: &mut [i16],
     sign: &mut [i8],
 ) -> Answer
-    ensures { λ r. ⌜ (r ≡ decodeAnswer prev curr (now (coefficients .entry)) (now (sign .entry))) × (now (coefficients .exit) ≡ decodeCoefficients (now («srl_data» .entry)) (now («raw_data» .entry)) prev curr «use_reduce_extrapolate» (now (coefficients .entry)) (now (sign .entry))) × (now (sign .exit) ≡ decodeSigns (now («srl_data» .entry)) prev curr «use_reduce_extrapolate» (now (coefficients .entry)) (now (sign .entry))) ⌝ }
+    ensures { λ r. ⌜ (r ≡ decodePassAnswer prev curr (now (coefficients .entry)) (now (sign .entry))) × (now (coefficients .exit) ≡ decodeCoefficients (now («srl_data» .entry)) (now («raw_data» .entry)) prev curr «use_reduce_extrapolate» (now (coefficients .entry)) (now (sign .entry))) × (now (sign .exit) ≡ decodeSigns (now («srl_data» .entry)) prev curr «use_reduce_extrapolate» (now (coefficients .entry)) (now (sign .entry))) ⌝ }
 {
     if coefficients.len() < 4096 {
         return Answer::Refused(1);

@@ -96,8 +96,8 @@ noRoomFor srlBs srlOut rawBs rawOut =
     cond (ltb (length srlOut) (length srlBs) || ltb (length rawOut) (length rawBs)) 7 0
 
 -- "order: .. 1, 2, .. then 5 or 6 by the earlier value, 7"
-abbrev pub encodeRefusal : List ℤ → List ℤ → List ℕ → List ℕ → List ℤ → Bool → List ℕ → List ℕ → ℕ
-encodeRefusal cs ps prev curr ss e srlOut rawOut =
+abbrev pub encodePassRefusal : List ℤ → List ℤ → List ℕ → List ℕ → List ℤ → Bool → List ℕ → List ℕ → ℕ
+encodePassRefusal cs ps prev curr ss e srlOut rawOut =
     cond (longEnough cs && (longEnough ps && longEnough ss))
     (cond (rowInDomain prev && rowInDomain curr)
     (firstOf (passFault (steps e prev curr) cs ps ss)
@@ -113,21 +113,21 @@ written zero n m = Bytes n m
 written (suc k) n m = Refused (suc k)
 
 -- the answer: how many bytes of each stream, or a refusal
-abbrev pub encodeAnswer : List ℤ → List ℤ → List ℕ → List ℕ → List ℤ → Bool → List ℕ → List ℕ → Written
-encodeAnswer cs ps prev curr ss e srlOut rawOut =
-    written (encodeRefusal cs ps prev curr ss e srlOut rawOut)
+abbrev pub encodePassAnswer : List ℤ → List ℤ → List ℕ → List ℕ → List ℤ → Bool → List ℕ → List ℕ → Written
+encodePassAnswer cs ps prev curr ss e srlOut rawOut =
+    written (encodePassRefusal cs ps prev curr ss e srlOut rawOut)
     (length (srlBytes (steps e prev curr) cs ps ss))
     (length (rawBytes (steps e prev curr) cs ps ss))
 
 -- the SRL output then; "on acceptance, elements past the answer are untouched"
 abbrev pub encodeSrlOut : List ℤ → List ℤ → List ℕ → List ℕ → List ℤ → Bool → List ℕ → List ℕ → List ℕ
 encodeSrlOut cs ps prev curr ss e srlOut rawOut =
-    stored (encodeRefusal cs ps prev curr ss e srlOut rawOut) (srlBytes (steps e prev curr) cs ps ss) srlOut
+    stored (encodePassRefusal cs ps prev curr ss e srlOut rawOut) (srlBytes (steps e prev curr) cs ps ss) srlOut
 
 -- the raw output then
 abbrev pub encodeRawOut : List ℤ → List ℤ → List ℕ → List ℕ → List ℤ → Bool → List ℕ → List ℕ → List ℕ
 encodeRawOut cs ps prev curr ss e srlOut rawOut =
-    stored (encodeRefusal cs ps prev curr ss e srlOut rawOut) (rawBytes (steps e prev curr) cs ps ss) rawOut
+    stored (encodePassRefusal cs ps prev curr ss e srlOut rawOut) (rawBytes (steps e prev curr) cs ps ss) rawOut
 
 -- the number and the counts of bytes of each case
 abbrev pub writtenNumber : Written → ℕ

@@ -3,7 +3,7 @@
 // A refusal has a number (docs/SCOPE.md, "Refusals") and alters nothing.
 
 ghost use mathlib.Core.Path.{_≡_};
-ghost use Rattle.progressive_encoder.specs.Encode.{encodeAnswer, encodeSrlOut, encodeRawOut};
+ghost use Rattle.progressive_encoder.specs.Encode.{encodePassAnswer, encodeSrlOut, encodeRawOut};
 
 mod writer;
 
@@ -25,7 +25,7 @@ pub fn encode_upgrade_pass(
     srl_out: &mut [u8],
     raw_out: &mut [u8],
 ) -> Written
-    ensures { λ r. ⌜ (r ≡ encodeAnswer (now (coefficients .entry)) (now («prev_coefficients» .entry)) prev curr (now (sign .entry)) «use_reduce_extrapolate» (now («srl_out» .entry)) (now («raw_out» .entry))) × (now («srl_out» .exit) ≡ encodeSrlOut (now (coefficients .entry)) (now («prev_coefficients» .entry)) prev curr (now (sign .entry)) «use_reduce_extrapolate» (now («srl_out» .entry)) (now («raw_out» .entry))) × (now («raw_out» .exit) ≡ encodeRawOut (now (coefficients .entry)) (now («prev_coefficients» .entry)) prev curr (now (sign .entry)) «use_reduce_extrapolate» (now («srl_out» .entry)) (now («raw_out» .entry))) ⌝ }
+    ensures { λ r. ⌜ (r ≡ encodePassAnswer (now (coefficients .entry)) (now («prev_coefficients» .entry)) prev curr (now (sign .entry)) «use_reduce_extrapolate» (now («srl_out» .entry)) (now («raw_out» .entry))) × (now («srl_out» .exit) ≡ encodeSrlOut (now (coefficients .entry)) (now («prev_coefficients» .entry)) prev curr (now (sign .entry)) «use_reduce_extrapolate» (now («srl_out» .entry)) (now («raw_out» .entry))) × (now («raw_out» .exit) ≡ encodeRawOut (now (coefficients .entry)) (now («prev_coefficients» .entry)) prev curr (now (sign .entry)) «use_reduce_extrapolate» (now («srl_out» .entry)) (now («raw_out» .entry))) ⌝ }
 {
     if coefficients.len() < 4096 {
         return Written::Refused(1);

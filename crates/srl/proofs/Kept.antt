@@ -3,7 +3,7 @@ use mathlib.Core.Path.{_≡_, refl, ap}
 use Prim.Native.Nat.{ℕ, zero, suc}
 use lib.ListN.{length, replicate}
 use Rattle.srl_decoder.specs.Srl.{values, readerAfter}
-use Rattle.srl_decoder.specs.Decode.{opened, closed, decodeRefusal, decoded, numberOf, valueCount, stateOf}
+use Rattle.srl_decoder.specs.Decode.{opened, closed, decodeRefusal, decoded, decodedNumber, decodedCount, decodedState}
 use Rattle.srl_rules.specs.Rules.{stored}
 use Rattle.srl_encoder.specs.Encode.{callBytes, callAfter, encodeRefusal, encoded, encodedNumber, encodedCount, encodedState}
 use Rattle.srl_encoder.specs.Finish.{finishBytes, finishRefusal, finished, finishedNumber, finishedCount}
@@ -12,7 +12,7 @@ use Rattle.srl_decoder.specs.declared.SrlState.{SrlState}
 use Rattle.srl_encoder.specs.declared.SrlWriter.{SrlWriter}
 
 -- the number of the case that a number stands for
-decoded-number : (k n : ℕ) (next st : SrlState) → numberOf (decoded k n next st) ≡ k
+decoded-number : (k n : ℕ) (next st : SrlState) → decodedNumber (decoded k n next st) ≡ k
 decoded-number zero n next st = refl
 decoded-number (suc k) n next st = refl
 
@@ -29,8 +29,8 @@ kept = record {
   decode-number = λ s st room n w. decoded-number (decodeRefusal s st room n w) n (closed s st (readerAfter s (replicate n w) (opened st))) st;
   decode-kept = λ s st out n w k e.
       let next = closed s st (readerAfter s (replicate n w) (opened st)) in (
-        ap (λ (r : ℕ). valueCount (decoded r n next st)) e,
-        ap (λ (r : ℕ). stateOf (decoded r n next st)) e,
+        ap (λ (r : ℕ). decodedCount (decoded r n next st)) e,
+        ap (λ (r : ℕ). decodedState (decoded r n next st)) e,
         ap (λ (r : ℕ). stored r (values s (replicate n w) (opened st)) out) e,
       );
   encode-number = λ st vs room w. encoded-number (encodeRefusal st vs room w) (length (callBytes w st vs)) (callAfter w st vs) st;

@@ -6,7 +6,7 @@ use Prim.Native.Nat.{ℕ, suc, _^_, _<_}
 use lib.IntN.{ℤ, pos, natAbs}
 use lib.ListN.{length, replicate}
 use Rattle.srl_decoder.specs.Srl.{Reader, values}
-use Rattle.srl_decoder.specs.Decode.{startState, stateOk, decodeRefusal, decodeAnswer, decodeOut, numberOf, valueCount, stateOf}
+use Rattle.srl_decoder.specs.Decode.{startState, stateOk, decodeRefusal, decodeAnswer, decodeOut, decodedNumber, decodedCount, decodedState}
 use Rattle.srl_encoder.specs.Encode.{freshWriter, writerOk, callBytes, callAfter, encodeRefusal, encodeAnswer, encodeOut, encodedNumber, encodedCount, encodedState}
 use Rattle.srl_encoder.specs.Finish.{finishBytes, finishRefusal, finishAnswer, finishOut, finishedNumber, finishedCount}
 use Rattle.srl_decoder.specs.declared.SrlState.{SrlState}
@@ -76,7 +76,7 @@ room a = replicate (a .count) (pos 0)
 abbrev pub readBack : List ℕ → SrlState → List Ask → List ℤ
 readBack s st [] = []
 readBack s st (a ∷ asks) =
-    decodeOut s st (room a) (a .count) (a .width) ++ readBack s (stateOf (decodeAnswer s st (a .count) (a .count) (a .width))) asks
+    decodeOut s st (room a) (a .count) (a .width) ++ readBack s (decodedState (decodeAnswer s st (a .count) (a .count) (a .width))) asks
 
 -- what was written is read back
 pub record RoundTrip : Type 0 where
@@ -89,7 +89,7 @@ pub record RoundTrip : Type 0 where
 -- `decode` goes on from where it stopped
 pub record DecoderResumes : Type 0 where
   -- a state that `decode` hands back is one that it accepts, where the one handed in was
-  pub again : (s : List ℕ) (st : SrlState) (room n w : ℕ) → stateOk st ≡ true → stateOk (stateOf (decodeAnswer s st room n w)) ≡ true
+  pub again : (s : List ℕ) (st : SrlState) (room n w : ℕ) → stateOk st ≡ true → stateOk (decodedState (decodeAnswer s st room n w)) ≡ true
 
 -- and `encode`
 pub record EncoderResumes : Type 0 where
@@ -100,9 +100,9 @@ pub record EncoderResumes : Type 0 where
 
 -- "a refusal gives its number, zero lengths and counts, and the state handed in, and alters no lent element"
 pub record Refusals : Type 0 where
-  pub decode-number : (s : List ℕ) (st : SrlState) (room n w : ℕ) → numberOf (decodeAnswer s st room n w) ≡ decodeRefusal s st room n w
+  pub decode-number : (s : List ℕ) (st : SrlState) (room n w : ℕ) → decodedNumber (decodeAnswer s st room n w) ≡ decodeRefusal s st room n w
   pub decode-kept : (s : List ℕ) (st : SrlState) (out : List ℤ) (n w k : ℕ) → decodeRefusal s st (length out) n w ≡ suc k
-      → (valueCount (decodeAnswer s st (length out) n w) ≡ 0) × (stateOf (decodeAnswer s st (length out) n w) ≡ st) × (decodeOut s st out n w ≡ out)
+      → (decodedCount (decodeAnswer s st (length out) n w) ≡ 0) × (decodedState (decodeAnswer s st (length out) n w) ≡ st) × (decodeOut s st out n w ≡ out)
   pub encode-number : (st : SrlWriter) (vs : List ℤ) (room w : ℕ) → encodedNumber (encodeAnswer st vs room w) ≡ encodeRefusal st vs room w
   pub encode-kept : (st : SrlWriter) (vs : List ℤ) (out : List ℕ) (w k : ℕ) → encodeRefusal st vs (length out) w ≡ suc k
       → (encodedCount (encodeAnswer st vs (length out) w) ≡ 0) × (encodedState (encodeAnswer st vs (length out) w) ≡ st) × (encodeOut st vs out w ≡ out)

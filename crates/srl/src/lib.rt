@@ -5,13 +5,11 @@ ghost use Rattle.srl.specs.Laws.{Refusals, DecodedMagnitudes, RoundTrip,
 pub use srl_decoder::Decoded;
 pub use srl_decoder::SrlState;
 pub use srl_decoder::decode;
-pub use srl_decoder::decoder;
 pub use srl_encoder::Encoded;
 pub use srl_encoder::Finished;
 pub use srl_encoder::MAX_ZERO_RUN;
 pub use srl_encoder::SrlWriter;
 pub use srl_encoder::encode;
-pub use srl_encoder::encoder;
 pub use srl_encoder::finish;
 pub use srl_held::DecodedBy;
 pub use srl_held::Outcome;

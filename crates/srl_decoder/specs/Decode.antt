@@ -64,16 +64,16 @@ abbrev pub decodeOut : List ℕ → SrlState → List ℤ → ℕ → ℕ → Li
 decodeOut s st out n w = stored (decodeRefusal s st (length out) n w) (values s (replicate n w) (opened st)) out
 
 -- the number of each case
-abbrev pub numberOf : Decoded → ℕ
-numberOf (Values n st) = 0
-numberOf (Refused k st) = k
+abbrev pub decodedNumber : Decoded → ℕ
+decodedNumber (Values n st) = 0
+decodedNumber (Refused k st) = k
 
 -- the count of values of each case: "zero lengths and counts" with a refusal
-abbrev pub valueCount : Decoded → ℕ
-valueCount (Values n st) = n
-valueCount (Refused k st) = 0
+abbrev pub decodedCount : Decoded → ℕ
+decodedCount (Values n st) = n
+decodedCount (Refused k st) = 0
 
 -- the state of each case
-abbrev pub stateOf : Decoded → SrlState
-stateOf (Values n st) = st
-stateOf (Refused k st) = st
+abbrev pub decodedState : Decoded → SrlState
+decodedState (Values n st) = st
+decodedState (Refused k st) = st

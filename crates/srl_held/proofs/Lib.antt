@@ -1,4 +1,3 @@
 -- What the proofs of `srl_held` share.
-pub mod Answers
 pub mod WholeStreams
 pub mod Samples

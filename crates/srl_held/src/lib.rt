@@ -7,9 +7,9 @@ ghost use lib.Dec.{ltb};
 ghost use lib.ListN.{length};
 ghost use lib.Seq.{sets};
 ghost use Rattle.srl_rules.specs.Rules.{Width};
-ghost use Rattle.srl_decoder.specs.Decode.{startState, decoded, decodeAnswer, decodeOut, stateOf};
+ghost use Rattle.srl_decoder.specs.Decode.{startState, decodeAnswer, decodeOut};
 ghost use Rattle.srl_encoder.specs.Encode.{fault};
-ghost use Rattle.srl_held.specs.Held.{decoderAt, parts, decodedBy, outcome};
+ghost use Rattle.srl_held.specs.Held.{decoderAt, parts, decodedBy};
 ghost use Rattle.srl_held.specs.Stream.{streamBytes, streamAnswer, streamOut};
 
 // The decoder of a stream: the stream, and where it stands.
@@ -18,27 +18,25 @@ pub struct SrlDecoder<'a> {
     pub state: srl_decoder::SrlState,
 }
 
-// What a call answers, as numbers: 0 or the refusal's number, how many values were stored, and the state after the call.
+// What a call of a decoder answers: how many values it stored, or the number of its refusal.
+pub enum Outcome {
+    Values(usize),
+    Refused(u8),
+}
+
+// That, and the state after the call.
 struct Parts {
-    pub number: u8,
-    pub count: usize,
+    pub outcome: Outcome,
     pub state: srl_decoder::SrlState,
 }
 
-// The same with the decoder at its new places.
+// That, and the decoder at its new places.
 pub struct DecodedBy<'a> {
-    pub number: u8,
-    pub count: usize,
+    pub outcome: Outcome,
     pub decoder: SrlDecoder<'a>,
 }
 
-// The number and the count alone, where the decoder is lent.
-pub struct Outcome {
-    pub number: u8,
-    pub count: usize,
-}
-
-// A call of `srl_decoder::decode`, its answer as numbers.
+// A call of `srl_decoder::decode`, its answer and its state apart.
 fn decode_at(
     src: &[u8],
     state: srl_decoder::SrlState,
@@ -50,13 +48,11 @@ fn decode_at(
 {
     match srl_decoder::decode(src, state, out, num_values, num_bits) {
         srl_decoder::Decoded::Values(count, next) => Parts {
-            number: 0,
-            count,
+            outcome: Outcome::Values(count),
             state: next,
         },
         srl_decoder::Decoded::Refused(number, kept) => Parts {
-            number,
-            count: 0,
+            outcome: Outcome::Refused(number),
             state: kept,
         },
     }
@@ -87,37 +83,13 @@ impl<'a> SrlDecoder<'a> {
     {
         let r = decode_at(self.src, self.state, out, num_values, num_bits);
         DecodedBy {
-            number: r.number,
-            count: r.count,
+            outcome: r.outcome,
             decoder: SrlDecoder {
                 src: self.src,
                 state: r.state,
             },
         }
     }
-
-    // The same where the decoder is lent, as in the source: it is left at its new places.
-    pub fn decode_mut(&mut self, out: &mut [i16], num_values: usize, num_bits: u8) -> Outcome
-        ensures { λ r. ⌜ (r ≡ outcome (decodeAnswer (now (now (self .entry) .src)) (now (self .entry) .state) (length (now (out .entry))) «num_values» «num_bits»)) × ((now (self .exit) ≡ decoderAt (now (self .entry) .src) (stateOf (decodeAnswer (now (now (self .entry) .src)) (now (self .entry) .state) (length (now (out .entry))) «num_values» «num_bits»))) × (now (out .exit) ≡ decodeOut (now (now (self .entry) .src)) (now (self .entry) .state) (now (out .entry)) «num_values» «num_bits»)) ⌝ }
-    {
-        let d = *self;
-        let r = d.decode(out, num_values, num_bits);
-        *self = r.decoder;
-        Outcome {
-            number: r.number,
-            count: r.count,
-        }
-    }
-}
-
-// The answer that the numbers are.
-fn answer_of(number: u8, count: usize, state: srl_decoder::SrlState) -> srl_decoder::Decoded
-    ensures { λ r. ⌜ r ≡ decoded number count state state ⌝ }
-{
-    if number == 0 {
-        return srl_decoder::Decoded::Values(count, state);
-    }
-    srl_decoder::Decoded::Refused(number, state)
 }
 
 // The first `num_values` values of a stream, at the front of `out`.
@@ -129,8 +101,7 @@ pub fn decode_srl(
 ) -> srl_decoder::Decoded
     ensures { λ r. ⌜ (r ≡ decodeAnswer (now (src .entry)) startState (length (now (out .entry))) «num_values» «num_bits») × (now (out .exit) ≡ decodeOut (now (src .entry)) startState (now (out .entry)) «num_values» «num_bits») ⌝ }
 {
-    let r = SrlDecoder::new(src).decode(out, num_values, num_bits);
-    answer_of(r.number, r.count, r.decoder.state)
+    srl_decoder::decode(src, srl_decoder::SrlState::new(), out, num_values, num_bits)
 }
 
 // ---- a whole stream, written

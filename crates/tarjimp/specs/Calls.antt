@@ -4,7 +4,7 @@ use mathlib.Core.List.{List}
 use Prim.Native.Nat.{ℕ}
 use lib.IntN.{ℤ}
 use lib.ListN.{replicate}
-use Rattle.srl_decoder.specs.Decode.{decodeAnswer, decodeOut, numberOf}
+use Rattle.srl_decoder.specs.Decode.{decodeAnswer, decodeOut, decodedNumber}
 use Rattle.srl_decoder.specs.declared.Decoded.{Decoded}
 use Rattle.srl_decoder.specs.declared.Decoded.the-variants as D
 use Rattle.srl_encoder.specs.Encode.{encodeAnswer, encodeOut, encodedNumber, encodedCount}
@@ -25,7 +25,7 @@ decodedNumbers (D.Refused k st) s = s
 
 -- the number returned: "one that does not fit its field .. is no state: 8"
 abbrev pub srlDecodeNumber : List ℕ → List ℕ → ℕ → ℕ → ℕ → ℕ
-srlDecodeNumber src s room n w = cond (readerFits s) (numberOf (decodeAnswer src (readerOf s) room n w)) 8
+srlDecodeNumber src s room n w = cond (readerFits s) (decodedNumber (decodeAnswer src (readerOf s) room n w)) 8
 
 -- the state's numbers then
 abbrev pub srlDecodeState : List ℕ → List ℕ → ℕ → ℕ → ℕ → List ℕ

@@ -1,7 +1,7 @@
 // What calls answer, taken apart into numbers.
 
 ghost use mathlib.Core.Path.{_≡_};
-ghost use Rattle.srl_decoder.specs.Decode.{numberOf};
+ghost use Rattle.srl_decoder.specs.Decode.{decodedNumber};
 ghost use Rattle.srl_encoder.specs.Encode.{encodedNumber, encodedCount};
 ghost use Rattle.srl_encoder.specs.Finish.{finishedNumber, finishedCount};
 ghost use Rattle.progressive_encoder.specs.Encode.{writtenNumber, srlCount, rawCount};
@@ -14,7 +14,7 @@ use srl_encoder::Finished;
 
 // The number of what `decode` answers.
 pub fn decoded_number(d: Decoded) -> u8
-    ensures { λ r. ⌜ r ≡ numberOf d ⌝ }
+    ensures { λ r. ⌜ r ≡ decodedNumber d ⌝ }
 {
     match d {
         Decoded::Values(_, _) => 0,

@@ -4,9 +4,9 @@
 ghost use mathlib.Core.Path.{_≡_};
 ghost use mathlib.Core.List.{_∷_, []};
 ghost use lib.ListN.{length};
-ghost use Rattle.progressive_decoder.specs.Upgrade.{decodeAnswer, decodeCoefficients, decodeSigns};
+ghost use Rattle.progressive_decoder.specs.Upgrade.{decodePassAnswer, decodeCoefficients, decodeSigns};
 ghost use Rattle.answer.specs.Refusals.{numberOf};
-ghost use Rattle.progressive_encoder.specs.Encode.{writtenNumber, srlCount, rawCount, encodeAnswer, encodeSrlOut, encodeRawOut};
+ghost use Rattle.progressive_encoder.specs.Encode.{writtenNumber, srlCount, rawCount, encodePassAnswer, encodeSrlOut, encodeRawOut};
 ghost use Rattle.dwt_extrapolate.specs.Transform.{inverseAnswer, inverseBuffer, inverseScratch};
 ghost use Rattle.pixels.specs.Pixels.{pixelsAnswer, pixelsOut};
 ghost use Rattle.dequantizer.specs.Dequantize.{dequantizeAnswer, dequantizeOut};
@@ -87,7 +87,7 @@ pub extern "C" fn tarjimp_decode_upgrade_pass(
     coefficients: &mut [i16],
     sign: &mut [i8],
 ) -> u8
-    ensures { λ r. ⌜ (r ≡ numberOf (decodeAnswer (now (prev .entry)) (now (curr .entry)) (now (coefficients .entry)) (now (sign .entry)))) × (now (coefficients .exit) ≡ decodeCoefficients (now («srl_data» .entry)) (now («raw_data» .entry)) (now (prev .entry)) (now (curr .entry)) «use_reduce_extrapolate» (now (coefficients .entry)) (now (sign .entry))) × (now (sign .exit) ≡ decodeSigns (now («srl_data» .entry)) (now (prev .entry)) (now (curr .entry)) «use_reduce_extrapolate» (now (coefficients .entry)) (now (sign .entry))) ⌝ }
+    ensures { λ r. ⌜ (r ≡ numberOf (decodePassAnswer (now (prev .entry)) (now (curr .entry)) (now (coefficients .entry)) (now (sign .entry)))) × (now (coefficients .exit) ≡ decodeCoefficients (now («srl_data» .entry)) (now («raw_data» .entry)) (now (prev .entry)) (now (curr .entry)) «use_reduce_extrapolate» (now (coefficients .entry)) (now (sign .entry))) × (now (sign .exit) ≡ decodeSigns (now («srl_data» .entry)) (now (prev .entry)) (now (curr .entry)) «use_reduce_extrapolate» (now (coefficients .entry)) (now (sign .entry))) ⌝ }
 {
     let p = *prev;
     let q = *curr;
@@ -132,7 +132,7 @@ pub extern "C" fn tarjimp_encode_upgrade_pass(
     raw_out: &mut [u8],
     written: &mut [usize; 2],
 ) -> u8
-    ensures { λ r. ⌜ (r ≡ writtenNumber (encodeAnswer (now (coefficients .entry)) (now («prev_coefficients» .entry)) (now (prev .entry)) (now (curr .entry)) (now (sign .entry)) «use_reduce_extrapolate» (now («srl_out» .entry)) (now («raw_out» .entry)))) × (now (written .exit) ≡ (srlCount (encodeAnswer (now (coefficients .entry)) (now («prev_coefficients» .entry)) (now (prev .entry)) (now (curr .entry)) (now (sign .entry)) «use_reduce_extrapolate» (now («srl_out» .entry)) (now («raw_out» .entry))) ∷ rawCount (encodeAnswer (now (coefficients .entry)) (now («prev_coefficients» .entry)) (now (prev .entry)) (now (curr .entry)) (now (sign .entry)) «use_reduce_extrapolate» (now («srl_out» .entry)) (now («raw_out» .entry))) ∷ [])) × (now («srl_out» .exit) ≡ encodeSrlOut (now (coefficients .entry)) (now («prev_coefficients» .entry)) (now (prev .entry)) (now (curr .entry)) (now (sign .entry)) «use_reduce_extrapolate» (now («srl_out» .entry)) (now («raw_out» .entry))) × (now («raw_out» .exit) ≡ encodeRawOut (now (coefficients .entry)) (now («prev_coefficients» .entry)) (now (prev .entry)) (now (curr .entry)) (now (sign .entry)) «use_reduce_extrapolate» (now («srl_out» .entry)) (now («raw_out» .entry))) ⌝ }
+    ensures { λ r. ⌜ (r ≡ writtenNumber (encodePassAnswer (now (coefficients .entry)) (now («prev_coefficients» .entry)) (now (prev .entry)) (now (curr .entry)) (now (sign .entry)) «use_reduce_extrapolate» (now («srl_out» .entry)) (now («raw_out» .entry)))) × (now (written .exit) ≡ (srlCount (encodePassAnswer (now (coefficients .entry)) (now («prev_coefficients» .entry)) (now (prev .entry)) (now (curr .entry)) (now (sign .entry)) «use_reduce_extrapolate» (now («srl_out» .entry)) (now («raw_out» .entry))) ∷ rawCount (encodePassAnswer (now (coefficients .entry)) (now («prev_coefficients» .entry)) (now (prev .entry)) (now (curr .entry)) (now (sign .entry)) «use_reduce_extrapolate» (now («srl_out» .entry)) (now («raw_out» .entry))) ∷ [])) × (now («srl_out» .exit) ≡ encodeSrlOut (now (coefficients .entry)) (now («prev_coefficients» .entry)) (now (prev .entry)) (now (curr .entry)) (now (sign .entry)) «use_reduce_extrapolate» (now («srl_out» .entry)) (now («raw_out» .entry))) × (now («raw_out» .exit) ≡ encodeRawOut (now (coefficients .entry)) (now («prev_coefficients» .entry)) (now (prev .entry)) (now (curr .entry)) (now (sign .entry)) «use_reduce_extrapolate» (now («srl_out» .entry)) (now («raw_out» .entry))) ⌝ }
 {
     let p = *prev;
     let q = *curr;

@@ -1,4 +1,4 @@
--- `progressive_encoder::encode_upgrade_pass` meets its contract: its tests are the first of `encodeRefusal`, and the rest is `write_pass`. Assumes nothing.
+-- `progressive_encoder::encode_upgrade_pass` meets its contract: its tests are the first of `encodePassRefusal`, and the rest is `write_pass`. Assumes nothing.
 use mathlib.Core.Path.{_≡_, sym, _∙_}
 use mathlib.Core.Bool.{true, false, _&&_}
 use native.Mathlib.Omega.{arith}

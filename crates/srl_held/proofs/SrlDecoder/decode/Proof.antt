@@ -32,6 +32,7 @@ use denote.Ref.{RefT, NamedLft, now}
 use denote.Signature.{plain, namedLft}
 use denote.Slice.{sliceVal, MutSlice, ShrSlice, Room, finally, slice-vals, mut-slice-tells}
 use denote.Steps.{only, owned, peeks, heard, nothing}
+use denote.Enum.Laws as EL
 use denote.Struct.Laws as LL
 use denote.Struct.Declared.{Declared}
 use denote.Struct.Rest.{all-own, ownAt, rest, own-open, own-out, own-shut, own-put}
@@ -52,10 +53,14 @@ use Rattle.srl_held.specs.Held.{decoderAt, parts}
 use Rattle.srl_held.specs.declared.SrlDecoder.{SrlDecoder}
 use Rattle.srl_held.specs.declared.Parts.{Parts}
 use Rattle.srl_held.specs.declared.DecodedBy.{DecodedBy}
+use Rattle.srl_held.specs.declared.Outcome.{Outcome}
+use Rattle.srl_held.specs.declared.Outcome.the-variants as E
 use Rattle.srl_held.proofs.SrlDecoder as T
 use Rattle.srl_held.proofs.SrlDecoder.Laws as T′
 use Rattle.srl_held.proofs.Parts as R
 use Rattle.srl_held.proofs.Parts.Laws as R′
+use Rattle.srl_held.proofs.Outcome as O
+use Rattle.srl_held.proofs.Outcome.Laws as O′
 use Rattle.srl_held.proofs.DecodedBy as By
 use Rattle.srl_held.proofs.DecodedBy.Laws as By′
 use Rattle.srl_held.proofs.decode_at as core
@@ -78,9 +83,25 @@ stayed = (stay-none B yes, (gave-slice (1 ∷ []) tt (plain (λ _. i16)), (stay-
 abbrev Core : {M : Type 1} (𝓤 : URA M) (H : Heap 𝓤) (A : Atoms 𝓤) (mem : Memory → SProp 𝓤) (run : Routine → Fun 𝓤) → Contract 𝓤
 Core 𝓤 H A mem run = tripleOf 𝓤 H A core.signature (core.spec 𝓤 H A mem run)
 
+-- a value of the enum has the machine value that its variant's does, whichever it is
+outcome-is : (o : Outcome) → Is O.the-row o (EL.vals O.the-type O′.the-laws o) → Is O.the-row o (O′.lowered o ∷ [])
+outcome-is (E.Values n) p = p
+outcome-is (E.Refused k) p = p
+
+-- and so has a struct that holds one
+parts-are : (o : Outcome) (st : SrlState) → Is O.the-row o (EL.vals O.the-type O′.the-laws o) × (Is S.the-row st (S′.lowered st ∷ []) × Unit {0})
+    → Is R.the-row (record { outcome = o; state = st }) (R′.lowered (record { outcome = o; state = st }) ∷ [])
+parts-are (E.Values n) st are = LL.owes R.the-type R′.the-laws (record { outcome = E.Values n; state = st }) are
+parts-are (E.Refused k) st are = LL.owes R.the-type R′.the-laws (record { outcome = E.Refused k; state = st }) are
+
+-- and the answer, which holds one beside a decoder, has its type
+answer-typed : (o : Outcome) (next : SrlDecoder) → Holds (hasTy (By′.mir (named 0)) (By′.lowered (record { outcome = o; decoder = next })))
+answer-typed (E.Values n) next = tt
+answer-typed (E.Refused k) next = tt
+
 -- the callee's answer with the decoder of the stream
 abbrev handed : RefT (List ℕ) → Parts → DecodedBy
-handed src r = record { number = r .number; count = r .count; decoder = decoderAt src (r .state) }
+handed src r = record { outcome = r .outcome; decoder = decoderAt src (r .state) }
 
 module _ {M : Type 1} (𝓤 : URA M) (H : Heap 𝓤) (A : Atoms 𝓤) (W : Given 𝓤 H A) (mem : Memory → SProp 𝓤) (run : Routine → Fun 𝓤) (κ κ′ : Lft) (q q′ : Share) (d : SrlDecoder) (b o : ℕ) (γ : GName) (ys : List ℤ) (n w : ℕ) (n-fits : n < 2 ^ 64) (w-fits : w < 2 ^ 8) where
   -- 'a as the signature names it
@@ -163,6 +184,12 @@ module _ {M : Type 1} (𝓤 : URA M) (H : Heap 𝓤) (A : Atoms 𝓤) (W : Given
   abbrev next : Parts → SrlDecoder
   next r = decoderAt (d .src) (r .state)
 
+  -- what an outcome and a decoder own together is what the answer owns
+  shut : (o : Outcome) (next : SrlDecoder)
+      → ent 𝓤 (⋆ 𝓤 H A (‵ (owns (O.the-row ∷ T.the-row α ∷ []) (o, (next, tt)) (O′.lowered o ∷ [], (T′.lowered next ∷ [], tt))) ∷ [])) (sem 𝓤 H A (By.the-row α .own (record { outcome = o; decoder = next }) (By′.lowered (record { outcome = o; decoder = next }) ∷ [])))
+  shut (E.Values n) next = own-shut 𝓤 H A W (By.the-type α) (By′.the-laws α) (E.Values n, (next, tt))
+  shut (E.Refused k) next = own-shut 𝓤 H A W (By.the-type α) (By′.the-laws α) (E.Refused k, (next, tt))
+
   exits : (r : Parts) (zs : List ℤ) → Said r zs → length zs ≡ length ys → Is R.the-row r (R′.lowered r ∷ []) → ent 𝓤 (⋆ 𝓤 H A ((‵ (flft κ q) ⊛ ‵ (flft κ′ q′) ⊛ ‵ ftrue) ∷ ‵ (finally i16 γ zs) ∷ ‵ Own ∷ [])) (Post (By′.lowered (handed (d .src) r)))
   exits r zs e l is =
       qed W ((‵ (flft κ q) ⊛ ‵ (flft κ′ q′) ⊛ ‵ ftrue) ∷ ‵ (finally i16 γ zs) ∷ ‵ Own ∷ []) ∵
@@ -170,14 +197,16 @@ module _ {M : Type 1} (𝓤 : URA M) (H : Heap 𝓤) (A : Atoms 𝓤) (W : Given
       says ! (ap (handed (d .src)) (e .0), e .1) $ frame ! $ move ! (1 ∷ []) $ use1 W (‵ Own ⊛ ‵ Own) twice $ split ! $
       -- [what the struct owns, twice; the last list]: one copy stays with the parameters
       nothing ! $ owned ! u8 (Is u8) (uint-makes 𝓤 H A W w8) w _ (refl, w-fits) $ fjoin ! $ owned ! usize (Is usize) (uint-makes 𝓤 H A W w64) n _ (refl, n-fits) $ fjoin ! $ move ! (3 ∷ 0 ∷ []) $ fjoin ! $ move ! (1 ∷ 0 ∷ []) $ fjoin ! $ frame ! $
-      -- [what the struct owns]: with the new state it is what the next decoder owns, and with the facts of the count and of the number what the answer owns
-      owned ! S.the-row (Is S.the-row) (LL.makes S.the-type S′.the-plain 𝓤 H A) (r .state) (S′.lowered (r .state) ∷ []) (are .1 .1 .0) $ move ! (1 ∷ 0 ∷ []) $
+      -- [what the struct owns]: with the new state it is what the next decoder owns, and with the facts of the outcome what the answer owns
+      owned ! S.the-row (Is S.the-row) (LL.makes S.the-type S′.the-plain 𝓤 H A) (r .state) (S′.lowered (r .state) ∷ []) (are .1 .0) $ move ! (1 ∷ 0 ∷ []) $
       use2 W (‵ (T.the-row α .own (next r) (T′.lowered (next r) ∷ []))) (own-put 𝓤 H A W D L 1 vd (r .state) mach) $ nothing ! $ move ! (1 ∷ 0 ∷ []) $ fjoin ! $
-      owned ! usize (Is usize) (uint-makes 𝓤 H A W w64) (r .count) _ (are .1 .0) $ fjoin ! $ owned ! u8 (Is u8) (uint-makes 𝓤 H A W w8) (r .number) _ (are .0) $ fjoin ! $
-      by ! (own-shut 𝓤 H A W (By.the-type α) (By′.the-laws α) (r .number, (r .count, (next r, tt))))
+      owned ! O.the-row (Is O.the-row) (EL.makes O.the-type O′.the-plain 𝓤 H A) (r .outcome) _ (are .0) $ fjoin ! $
+      by ! (shut (r .outcome) (next r))
     where
-      are : Is u8 (r .number) (vint w8 (r .number) ∷ []) × (Is usize (r .count) (vint w64 (r .count) ∷ []) × (Is S.the-row (r .state) (S′.lowered (r .state) ∷ []) × Unit {0}))
-      are = LL.owed R.the-type R′.the-laws r (R′.lowered r ∷ []) is
+      are : Is O.the-row (r .outcome) (O′.lowered (r .outcome) ∷ []) × (Is S.the-row (r .state) (S′.lowered (r .state) ∷ []) × Unit {0})
+      are =
+          let each = LL.owed R.the-type R′.the-laws r (R′.lowered r ∷ []) is in
+          (outcome-is (r .outcome) (each .0), each .1)
 
   module _ (C : Calls 𝓤 H) (Λ : Loops 𝓤 H) (fm : FmC 𝓤 H (W .laws) C) (known : Triple 𝓤 (C #srl-held·decode-at) (Core 𝓤 H A mem run)) where
     walk : Is (T.the-row α) d (mach ∷ []) → Room i16 (length ys) → ent 𝓤 (onEntry 𝓤 H A decode.signature (κ, (κ′, tt)) (q, (q′, tt)) a at) (WpFn 𝓤 H C Λ code.function (mach ∷ vₒ ∷ vint w64 n ∷ vint w8 w ∷ []) Post)
@@ -200,11 +229,11 @@ module _ {M : Type 1} (𝓤 : URA M) (H : Heap 𝓤) (A : Atoms 𝓤) (W : Given
         -- [the last list; true; true; true; the tokens and the result; what the struct owns; _11; …]
         move ! (4 ∷ []) $ split ! $ move ! (1 ∷ []) $ peeks ! R.the-row (Is R.the-row) (shows 𝓤 H A R.the-row) r (u ∷ []) (λ is.
         -- [the result's; the tokens; the last list; true; true; true; what the struct owns; _11; …], local i at 7 + 2 · (11 − i)
-        land ! (from ! (stop !)) (init ! 19 refl (LL.lawful R.the-type R′.the-laws 𝓤 H A W .typed r _ is .0)) $ rewrite ! 19 (λ (z : Val). ‵ (fat fullShare R′.mir l₅ 0 z)) (ap only (LL.tells R.the-type R′.the-laws r _ is)) refl $
+        land ! (from ! (stop !)) (init ! 19 refl (LL.lawful R.the-type R′.the-laws 𝓤 H A W .typed r _ is .0)) $ rewrite ! 19 (λ (z : Val). ‵ (fat fullShare R′.mir l₅ 0 z)) (ap only (R′.lowers .val-is r _ is)) refl $
         assigns ! (of-opd ! (load ! (from ! (fld ! refl (stop !))) (look-in ! 27 (sub ! 0 refl (whole !))))) (from ! (stop !)) (init ! 9 refl (tt, wt .1 .0)) $
-        assigns ! (agg ! (and-then ! (load ! (from ! (stop !)) (look ! 9 refl)) (and-then ! (load ! (from ! (fld ! refl (stop !))) (look-in ! 19 (sub ! 2 refl (whole !)))) (no-more !)))) (from ! (stop !)) (init ! 7 refl (tt, (wt .1 .0, (typed r is .1 .1 .1 .0, tt)))) $
-        assigns ! (agg ! (and-then ! (load ! (from ! (fld ! refl (stop !))) (look-in ! 19 (sub ! 0 refl (whole !)))) (and-then ! (load ! (from ! (fld ! refl (stop !))) (look-in ! 19 (sub ! 1 refl (whole !)))) (and-then ! (load ! (from ! (stop !)) (look ! 7 refl)) (no-more !)))))
-        (from ! (stop !)) (init ! 29 refl (tt, (typed r is .1 .0, (typed r is .1 .1 .0, ((wt .1 .0, (typed r is .1 .1 .1 .0, tt)), tt))))) $
+        assigns ! (agg ! (and-then ! (load ! (from ! (stop !)) (look ! 9 refl)) (and-then ! (load ! (from ! (fld ! refl (stop !))) (look-in ! 19 (sub ! 1 refl (whole !)))) (no-more !)))) (from ! (stop !)) (init ! 7 refl (tt, (wt .1 .0, (typed r is .1 .1 .0, tt)))) $
+        assigns ! (agg ! (and-then ! (load ! (from ! (fld ! refl (stop !))) (look-in ! 19 (sub ! 0 refl (whole !)))) (and-then ! (load ! (from ! (stop !)) (look ! 7 refl)) (no-more !))))
+        (from ! (stop !)) (init ! 29 refl (answer-typed (r .outcome) (next r), (typed r is .1 .0, ((wt .1 .0, (typed r is .1 .1 .0, tt)), tt)))) $
         returns ! (look ! 29 refl) $ forget ! 7 refl $ forget ! 9 refl $ forget ! 11 refl $ forget ! 13 refl $ forget ! 15 refl $ forget ! 17 refl $ forget ! 19 refl $ forget ! 21 refl $ forget ! 23 refl $ forget ! 25 refl $ forget ! 27 refl $ forget ! 29 refl $
         move ! (29 ∷ 30 ∷ []) $ free1 ! $ move ! (27 ∷ 28 ∷ []) $ free1 ! $ move ! (25 ∷ 26 ∷ []) $ free1 ! $ move ! (23 ∷ 24 ∷ []) $ free1 ! $ move ! (21 ∷ 22 ∷ []) $ free1 ! $ move ! (19 ∷ 20 ∷ []) $ free1 ! $
         move ! (17 ∷ 18 ∷ []) $ free1 ! $ move ! (15 ∷ 16 ∷ []) $ free1 ! $ move ! (13 ∷ 14 ∷ []) $ free1 ! $ move ! (11 ∷ 12 ∷ []) $ free1 ! $ move ! (9 ∷ 10 ∷ []) $ free1 ! $ move ! (7 ∷ 8 ∷ []) $ free1 ! $ free0 ! $
@@ -214,7 +243,7 @@ module _ {M : Type 1} (𝓤 : URA M) (H : Heap 𝓤) (A : Atoms 𝓤) (W : Given
         wt = LL.lawful D L 𝓤 H A W .typed d _ p .0
 
         exact : (r : Parts) {us : List Val} → Is R.the-row r us → Is R.the-row r (R′.lowered r ∷ [])
-        exact r {us} is = LL.owes R.the-type R′.the-laws r (LL.owed R.the-type R′.the-laws r us is)
+        exact r {us} is = parts-are (r .outcome) (r .state) (LL.owed R.the-type R′.the-laws r us is)
 
         typed : (r : Parts) {us : List Val} → Is R.the-row r us → Holds (hasTy R′.mir (R′.lowered r)) × WT (R′.lowered r)
         typed r is = LL.lawful R.the-type R′.the-laws 𝓤 H A W .typed r _ (exact r is) .0

@@ -8,7 +8,7 @@ returns : tie.Need-returns
 unfolding upgraded
 returns c =
     let done = c .before .before .before .before .before .before .upgrade-components .ensures in
-    rw (done .0, done .1, c .before .before .before .flat-rows .ensures, c .next-pass .ensures)
+    simp (done .0, done .1, c .before .before .before .flat-rows .ensures, c .next-pass .ensures)
 
 pub upgraded-spec : {M : Type 1} → statement M
 upgraded-spec =
