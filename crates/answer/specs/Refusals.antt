@@ -1,5 +1,6 @@
 -- Answers and refusals (docs/SCOPE.md, "Refusals"). A definition of each call gives the number of its refusal, 0 where there is none; the
 -- rest follows from that number.
+use mathlib.Core.Path.{_≡_}
 use mathlib.Core.Bool.{Bool}
 use mathlib.Core.List.{List}
 use Prim.Native.Nat.{ℕ, zero, suc}
@@ -22,6 +23,10 @@ unlessRefused (suc k) new old = old
 abbrev pub numberOf : Answer → ℕ
 numberOf Accepted = 0
 numberOf (Refused k) = k
+
+-- what is answered has the number of the rules, whatever it is
+pub record AnswerNumbers : Type 0 where
+  pub number : (n : ℕ) → numberOf (answered n) ≡ n
 
 -- 1: "a coefficient, sign .. slice under 4,096 elements"
 abbrev pub longEnough : {A : Type 0} → List A → Bool

@@ -1,7 +1,7 @@
 // What a call that works in place answers: accepted, or refused with a number (docs/SCOPE.md, "Refusals").
 
 ghost use mathlib.Core.Path.{_≡_};
-ghost use Rattle.answer.specs.Refusals.{numberOf};
+ghost use Rattle.answer.specs.Refusals.{numberOf, AnswerNumbers};
 
 pub enum Answer {
     Accepted,
@@ -17,3 +17,8 @@ pub fn number_of(answer: Answer) -> u8
         Answer::Refused(k) => k,
     }
 }
+
+// What a call answers has the number that the rules give.
+pub fn answer_numbers()
+    ensures { λ _. ⌜ AnswerNumbers ⌝ }
+{}

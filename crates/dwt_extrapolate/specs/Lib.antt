@@ -1,3 +1,4 @@
 -- What the contracts of `dwt_extrapolate` cite.
 pub mod Block
 pub mod Transform
+pub mod Refused

@@ -6,6 +6,7 @@ ghost use lib.ListN.{length, drop};
 ghost use Rattle.dwt_lines.specs.Line.{Halves};
 ghost use Rattle.dwt_extrapolate.specs.Block.{lines, scratch, block};
 ghost use Rattle.dwt_extrapolate.specs.Transform.{inverseAnswer, inverseBuffer, inverseScratch};
+ghost use Rattle.dwt_extrapolate.specs.Refused.{InverseRefusals};
 
 // The lines of n rows: p low places and q high ones each.
 fn idwt_rows(low: &[i16], high: &[i16], dst: &mut [i16], p: usize, q: usize, n: usize)
@@ -71,3 +72,8 @@ pub fn decode(buffer: &mut [i16], temp: &mut [i16]) -> answer::Answer
     decode_block(buffer, temp, 33, 31);
     answer::Answer::Accepted
 }
+
+// A refused call gives the refusal's number and leaves both slices as they were.
+pub fn refusals()
+    ensures { λ _. ⌜ InverseRefusals ⌝ }
+{}

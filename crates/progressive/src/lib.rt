@@ -1,9 +1,10 @@
 // Upgrade passes over one component, read and written, and dequantizing: a port of progressive.rs. Each is a crate of its own, so that each
-// is proved by itself; here they are handed on, and here is the law of the reader and the writer of a pass.
+// is proved by itself; here they are handed on, and here are their laws.
 // Positions and quantizers go in by value, a row of ten in band order; coefficients, signs and streams are slices that the caller lends.
 // A refusal has a number (docs/SCOPE.md, "Refusals") and alters nothing.
 
 ghost use Rattle.progressive.specs.Laws.{PassRoundTrip};
+ghost use Rattle.progressive.specs.Refused.{PassRefusals};
 pub use answer::Answer;
 pub use dequantizer::dequantize_component_ccq;
 pub use progressive_decoder::decode_upgrade_pass;
@@ -13,4 +14,9 @@ pub use progressive_encoder::encode_upgrade_pass;
 // What the writer wrote is read back, and where the writer's rules bring a component to its target.
 pub fn pass_round_trip()
     ensures { λ _. ⌜ PassRoundTrip ⌝ }
+{}
+
+// A refused call gives the refusal's number and counts of 0, and leaves every slice as it was; an accepted writer gives the counts of both streams.
+pub fn refusals()
+    ensures { λ _. ⌜ PassRefusals ⌝ }
 {}

@@ -5,13 +5,15 @@ use mathlib.Core.List.{List, [], _∷_, _++_}
 use Prim.Native.Nat.{ℕ, suc, _^_, _<_}
 use lib.IntN.{ℤ, pos, natAbs}
 use lib.ListN.{length, replicate}
-use Rattle.srl_decoder.specs.Srl.{Reader, values}
-use Rattle.srl_decoder.specs.Decode.{startState, stateOk, decodeRefusal, decodeAnswer, decodeOut, decodedNumber, decodedCount, decodedState}
+use Rattle.srl_decoder.specs.Srl.{Reader, values, readerAfter}
+use Rattle.srl_decoder.specs.Decode.{startState, opened, closed, stateOk, decodeRefusal, decodeAnswer, decodeOut, decodedNumber, decodedCount, decodedState}
 use Rattle.srl_encoder.specs.Encode.{freshWriter, writerOk, callBytes, callAfter, encodeRefusal, encodeAnswer, encodeOut, encodedNumber, encodedCount, encodedState}
-use Rattle.srl_encoder.specs.Finish.{finishBytes, finishRefusal, finishAnswer, finishOut, finishedNumber, finishedCount}
+use Rattle.srl_encoder.specs.Finish.{finishBytes, finishRefusal, finishAnswer, finishOut, finishedNumber, finishedCount, finishedState}
+use Rattle.srl_held.specs.Held.{outcome, outcomeNumber, outcomeCount}
+use Rattle.srl_held.specs.Stream.{streamBytes, streamRefusal, streamAnswer, streamOut}
 use Rattle.srl_decoder.specs.declared.SrlState.{SrlState}
+use Rattle.srl_decoder.specs.declared.Decoded.{Decoded}
 use Rattle.srl_encoder.specs.declared.SrlWriter.{SrlWriter}
-use Rattle.srl_encoder.specs.declared.Finished.the-variants.{Refused}
 
 -- ════ magnitudes ════
 
@@ -96,16 +98,33 @@ pub record EncoderResumes : Type 0 where
   -- and so is a state that `encode` hands back with bytes
   pub again : (st : SrlWriter) (vs : List ℤ) (room w : ℕ) → encodeRefusal st vs room w ≡ 0 → writerOk (callAfter w st vs) ≡ true
 
--- ════ refusals ════
+-- ════ answers: number, count and state of each case, and what is lent ════
 
--- "a refusal gives its number, zero lengths and counts, and the state handed in, and alters no lent element"
+-- "a refusal gives its number, zero lengths and counts, and the state handed in, and alters no lent element"; an answer that is none has
+-- the count and the state of the definitions
 pub record Refusals : Type 0 where
   pub decode-number : (s : List ℕ) (st : SrlState) (room n w : ℕ) → decodedNumber (decodeAnswer s st room n w) ≡ decodeRefusal s st room n w
   pub decode-kept : (s : List ℕ) (st : SrlState) (out : List ℤ) (n w k : ℕ) → decodeRefusal s st (length out) n w ≡ suc k
       → (decodedCount (decodeAnswer s st (length out) n w) ≡ 0) × (decodedState (decodeAnswer s st (length out) n w) ≡ st) × (decodeOut s st out n w ≡ out)
+  pub decode-done : (s : List ℕ) (st : SrlState) (room n w : ℕ) → decodeRefusal s st room n w ≡ 0
+      → (decodedCount (decodeAnswer s st room n w) ≡ n) × (decodedState (decodeAnswer s st room n w) ≡ closed s st (readerAfter s (replicate n w) (opened st)))
   pub encode-number : (st : SrlWriter) (vs : List ℤ) (room w : ℕ) → encodedNumber (encodeAnswer st vs room w) ≡ encodeRefusal st vs room w
   pub encode-kept : (st : SrlWriter) (vs : List ℤ) (out : List ℕ) (w k : ℕ) → encodeRefusal st vs (length out) w ≡ suc k
       → (encodedCount (encodeAnswer st vs (length out) w) ≡ 0) × (encodedState (encodeAnswer st vs (length out) w) ≡ st) × (encodeOut st vs out w ≡ out)
+  pub encode-done : (st : SrlWriter) (vs : List ℤ) (room w : ℕ) → encodeRefusal st vs room w ≡ 0
+      → (encodedCount (encodeAnswer st vs room w) ≡ length (callBytes w st vs)) × (encodedState (encodeAnswer st vs room w) ≡ callAfter w st vs)
   pub finish-number : (st : SrlWriter) (room : ℕ) → finishedNumber (finishAnswer st room) ≡ finishRefusal st room
   pub finish-kept : (st : SrlWriter) (out : List ℕ) (k : ℕ) → finishRefusal st (length out) ≡ suc k
-      → (finishedCount (finishAnswer st (length out)) ≡ 0) × (finishAnswer st (length out) ≡ Refused (suc k) st) × (finishOut st out ≡ out)
+      → (finishedCount (finishAnswer st (length out)) ≡ 0) × (finishedState (finishAnswer st (length out)) ≡ st ∷ []) × (finishOut st out ≡ out)
+  pub finish-done : (st : SrlWriter) (room : ℕ) → finishRefusal st room ≡ 0
+      → (finishedCount (finishAnswer st room) ≡ length (finishBytes st)) × (finishedState (finishAnswer st room) ≡ [])
+
+-- the same of a decoder that holds its stream, and of a whole stream, for which no state is handed in: it is the first one
+pub record HeldRefusals : Type 0 where
+  pub held-number : (r : Decoded) → outcomeNumber (outcome r) ≡ decodedNumber r
+  pub held-count : (r : Decoded) → outcomeCount (outcome r) ≡ decodedCount r
+  pub stream-number : (vs : List ℤ) (room w : ℕ) → finishedNumber (streamAnswer vs room w) ≡ streamRefusal vs room w
+  pub stream-kept : (vs : List ℤ) (out : List ℕ) (w k : ℕ) → streamRefusal vs (length out) w ≡ suc k
+      → (finishedCount (streamAnswer vs (length out) w) ≡ 0) × (finishedState (streamAnswer vs (length out) w) ≡ freshWriter ∷ []) × (streamOut vs out w ≡ out)
+  pub stream-done : (vs : List ℤ) (room w : ℕ) → streamRefusal vs room w ≡ 0
+      → (finishedCount (streamAnswer vs room w) ≡ length (streamBytes w vs)) × (finishedState (streamAnswer vs room w) ≡ [])

@@ -1,7 +1,7 @@
 // Simplified Run-Length (SRL) coding, both ways: a port of srl.rs. The decoder and the encoder are crates of their own, so that each is
 // proved by itself, and so is the decoder that holds its stream; here they are handed on, and here are the laws of both coders.
 
-ghost use Rattle.srl.specs.Laws.{Refusals, DecodedMagnitudes, RoundTrip, DecoderResumes, EncoderResumes};
+ghost use Rattle.srl.specs.Laws.{Refusals, HeldRefusals, DecodedMagnitudes, RoundTrip, DecoderResumes, EncoderResumes};
 pub use srl_decoder::Decoded;
 pub use srl_decoder::SrlState;
 pub use srl_decoder::decode;
@@ -21,9 +21,15 @@ pub use srl_rules::MAX_KP;
 
 // ---- laws: each is what its function ensures
 
-// A refused call gives the refusal's number, no count and the state handed in, and leaves the output as it was.
+// A refused call gives the refusal's number, no count and the state handed in, and leaves the output as it was; an accepted one gives
+// the count and the state of the definitions.
 pub fn refusals()
     ensures { λ _. ⌜ Refusals ⌝ }
+{}
+
+// The same of a decoder that holds its stream, and of a whole stream.
+pub fn held_refusals()
+    ensures { λ _. ⌜ HeldRefusals ⌝ }
 {}
 
 // Whatever the stream holds, a decoded value is 0 or has a magnitude of 1 to 2^w - 1, where w is its width.

@@ -52,3 +52,8 @@ finishedNumber (Refused k st) = k
 abbrev pub finishedCount : Finished → ℕ
 finishedCount (Stream n) = n
 finishedCount (Refused k st) = 0
+
+-- the state of each case: after the end of a stream there is none
+abbrev pub finishedState : Finished → List SrlWriter
+finishedState (Stream n) = []
+finishedState (Refused k st) = st ∷ []

@@ -21,6 +21,16 @@ abbrev pub outcome : Decoded → Outcome
 outcome (D.Values n st) = O.Values n
 outcome (D.Refused k st) = O.Refused k
 
+-- the number of each case
+abbrev pub outcomeNumber : Outcome → ℕ
+outcomeNumber (O.Values n) = 0
+outcomeNumber (O.Refused k) = k
+
+-- the count of values of each case
+abbrev pub outcomeCount : Outcome → ℕ
+outcomeCount (O.Values n) = n
+outcomeCount (O.Refused k) = 0
+
 -- "a call then answers as on that stream and state, and leaves the decoder at the new state"
 abbrev pub decodedBy : RefT (List ℕ) → Decoded → DecodedBy
 decodedBy src r = record { outcome = outcome r; decoder = decoderAt src (decodedState r) }

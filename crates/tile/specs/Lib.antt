@@ -1,2 +1,3 @@
 -- What the contracts of `tile` cite.
 pub mod Tile
+pub mod Refused

@@ -9,6 +9,7 @@ ghost use lib.ListN.{length};
 ghost use Rattle.bands.specs.Positions.{every, rowInDomain, rowsInDomain};
 ghost use Rattle.planes.specs.Planes.{three};
 ghost use Rattle.tile.specs.Tile.{fresh, loaded, loadedBy, load, nextPass, upgraded, decodeUpgrade, reconstructAnswer, reconstructPixels};
+ghost use Rattle.tile.specs.Refused.{TileRefusals};
 
 // A tile: 64 x 64 pixels, with what has arrived of them. Arrays are flat: three components (Y, Cb, Cr) of 4,096, three rows of ten.
 #[repr(C)]
@@ -205,7 +206,7 @@ impl TileState {
     {
         let mut coefficients = self.coefficients;
         let mut sign = self.sign;
-        let positions = self.prog_quant;
+        let prev = self.prog_quant;
         components::upgrade_components(
             y_srl,
             y_raw,
@@ -213,7 +214,7 @@ impl TileState {
             cb_raw,
             cr_srl,
             cr_raw,
-            positions,
+            prev,
             prog_quants,
             self.use_reduce_extrapolate,
             &mut coefficients,
@@ -290,3 +291,8 @@ impl TileState {
         )
     }
 }
+
+// A refused call gives the refusal's number, and the tile handed in or the pixels as they were; a refused load gives the fresh tile.
+pub fn refusals()
+    ensures { λ _. ⌜ TileRefusals ⌝ }
+{}
