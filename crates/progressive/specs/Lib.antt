@@ -1,2 +1,3 @@
 -- What the contracts of `progressive` cite.
 pub mod Laws
+pub mod OwnCuts

@@ -4,6 +4,7 @@
 // A refusal has a number (docs/SCOPE.md, "Refusals") and alters nothing.
 
 ghost use Rattle.progressive.specs.Laws.{PassRoundTrip};
+ghost use Rattle.progressive.specs.OwnCuts.{OwnCutsSent};
 pub use answer::Answer;
 pub use dequantizer::dequantize_component_ccq;
 pub use progressive_decoder::decode_upgrade_pass;
@@ -13,4 +14,9 @@ pub use progressive_encoder::encode_upgrade_pass;
 // What the writer wrote is read back, and where the writer's rules bring a component to its target.
 pub fn pass_round_trip()
     ensures { λ _. ⌜ PassRoundTrip ⌝ }
+{}
+
+// Where a pass goes on from the coefficients' own cut at the previous positions, every value fits its width: the writer never refuses by 5.
+pub fn own_cuts_sent()
+    ensures { λ _. ⌜ OwnCutsSent ⌝ }
 {}
