@@ -1,3 +1,4 @@
 -- Laws of the pass, both ways, for the proofs here and in the crates above.
+pub mod OwnCuts
 pub mod Regained
 pub mod Samples

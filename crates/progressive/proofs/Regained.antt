@@ -87,7 +87,7 @@ gained q far near l e =
     let sum : b ≡ a + (b - a) = omega (arith, more) in
     sym (ap (λ (k : ℕ). k * 2 ^ q) sum ∙ add-mul a (b - a) (2 ^ q) ∙ ap (λ (k : ℕ). k + (b - a) * 2 ^ q) e)
 
-toward-pos : (q n : ℕ) → towardZero q (pos n) ≡ pos (n / 2 ^ q * 2 ^ q)
+pub toward-pos : (q n : ℕ) → towardZero q (pos n) ≡ pos (n / 2 ^ q * 2 ^ q)
 toward-pos q n = ap (λ (b : Bool). withSign b (n / 2 ^ q * 2 ^ q)) (le-ltb n 0 (omega arith))
 
 raw-up : (q far near : ℕ) → far < 32768 → near ≤ far → near / 2 ^ q * 2 ^ q ≡ near → addScaled (pos near) (far / 2 ^ q - near / 2 ^ q) q ≡ pos (far / 2 ^ q * 2 ^ q)

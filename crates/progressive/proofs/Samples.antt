@@ -1,11 +1,11 @@
 -- The definitions at known numbers, by `refl`: a definition is tried here before anything is proved against it.
 use mathlib.Core.Path.{_≡_, refl}
-use mathlib.Core.Bool.{Bool, true, false}
+use mathlib.Core.Bool.{Bool, true, false, true≢false}
 use mathlib.Core.List.{List, [], _∷_}
 use lib.IntN.{ℤ, pos, negsuc}
 use Rattle.bits.specs.Bits.{num, numbers, zeros}
 use Rattle.bits.specs.Written.{bitsOfAll}
-use Rattle.fixed.specs.Fixed.{clampI16, addScaled, subScaled, isZero, isOne, roundShift, shiftLeftClamp}
+use Rattle.fixed.specs.Fixed.{clampI16, addScaled, subScaled, isZero, isOne, signOf, roundShift, shiftLeftClamp}
 use Rattle.srl_decoder.specs.Srl.{values}
 use Rattle.srl_encoder.specs.Finish.{streamBits}
 use Rattle.upgrade_steps.specs.Steps.{Step, srlWidths, rawWidths}
@@ -13,6 +13,7 @@ use Rattle.progressive_decoder.specs.Upgrade.{signsAfter, coefficientsAfter, up
 use Rattle.progressive_encoder.specs.Encode.{srlDifferences, rawDifferences, valuesFault, passFault, srlBytes, rawBytes}
 use Rattle.dequantizer.specs.Dequantize.{dequantizedAll}
 use Rattle.progressive.specs.Laws.{cuts}
+use Rattle.progressive.specs.OwnCuts.{OwnCuts}
 
 -- positions 3 to 1
 abbrev from3to1 : Bool → Step
@@ -72,6 +73,14 @@ back = (refl, refl)
 bottom-stays : upgradedCoefficients (from3to1 true ∷ []) [] (rawBytes (from3to1 true ∷ []) (negsuc 6 ∷ []) (negsuc 7 ∷ []) (pos 0 ∷ [])) (negsuc 7 ∷ []) (pos 0 ∷ []) ≡ (negsuc 7 ∷ [])
 unfolding srlWidths rawWidths rawDifferences coefficientsAfter values numbers num clampI16 addScaled isZero isOne bitsOfAll
 bottom-stays = refl
+
+-- own cuts: -6 over 0, -22 over -16, and in the bottom -22 over -16 with any sign. -7 over 0, refused above, has a bit below position 1
+own-cuts : OwnCuts (from3to1 false ∷ from3to1 false ∷ from3to1 true ∷ []) (negsuc 5 ∷ negsuc 21 ∷ negsuc 21 ∷ []) (pos 0 ∷ negsuc 15 ∷ negsuc 15 ∷ []) (pos 0 ∷ negsuc 0 ∷ pos 5 ∷ [])
+unfolding signOf
+own-cuts =
+    OwnCuts.own (record { whole = refl; from = refl; own = λ e. refl })
+    (OwnCuts.own (record { whole = refl; from = refl; own = λ e. refl })
+    (OwnCuts.own (record { whole = refl; from = refl; own = λ e. absurd (true≢false e) }) OwnCuts.none))
 
 -- quantizer 5: -1 gives 0, 1 gives 1, -3 gives -1; 7: 20000 gives 32767
 dequantizes : dequantizedAll (5 ∷ 5 ∷ 5 ∷ 7 ∷ 6 ∷ []) (negsuc 0 ∷ pos 1 ∷ negsuc 2 ∷ pos 20000 ∷ negsuc 8 ∷ pos 9 ∷ [])

@@ -1,3 +1,4 @@
 -- What the contracts of `progressive` cite.
 pub mod Laws
 pub mod Refused
+pub mod OwnCuts

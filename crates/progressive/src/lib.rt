@@ -5,6 +5,7 @@
 
 ghost use Rattle.progressive.specs.Laws.{PassRoundTrip};
 ghost use Rattle.progressive.specs.Refused.{PassRefusals};
+ghost use Rattle.progressive.specs.OwnCuts.{OwnCutsSent};
 pub use answer::Answer;
 pub use dequantizer::dequantize_component_ccq;
 pub use progressive_decoder::decode_upgrade_pass;
@@ -19,4 +20,9 @@ pub fn pass_round_trip()
 // A refused call gives the refusal's number and counts of 0, and leaves every slice as it was; an accepted writer gives the counts of both streams.
 pub fn refusals()
     ensures { λ _. ⌜ PassRefusals ⌝ }
+{}
+
+// Where a pass goes on from the coefficients' own cut at the previous positions, every value fits its width: the writer never refuses by 5.
+pub fn own_cuts_sent()
+    ensures { λ _. ⌜ OwnCutsSent ⌝ }
 {}

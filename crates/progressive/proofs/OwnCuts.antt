@@ -1,0 +1,193 @@
+-- A pass that goes on from the coefficients' own cut: what each place gives fits its width, then all places, then the writer's call. Assumes nothing.
+use mathlib.Core.Path.{_≡_, refl, sym, ap, _∙_}
+use mathlib.Core.Logic.{_≢_}
+use mathlib.Core.Bool.{Bool, true, false, cond, _&&_, _||_, true≢false}
+use mathlib.Core.List.{List}
+use Prim.Native.Nat.{ℕ, zero, suc, _+_, _-_, _*_, _/_, _^_, _≤_, _<_}
+use native.Mathlib.Nat.{zero-div, div-add-mod', mod-lt, div-lt-iff-lt-mul, mul-assoc, mul-comm}
+use native.Mathlib.Omega.{arith}
+use borrow.Author.Tests.{le-ltb}
+use lib.Dec.{ltb}
+use lib.IntN.{ℤ, pos, negsuc, natAbs, _-ℤ_, +ℤ-idr}
+use lib.ListN.{length}
+use lib.Pow.{pow-pos, pow-add, shr-shr, shl-shr}
+use Rattle.fixed.specs.Fixed.{clampI16, floorShift, isZero, signOf}
+use Rattle.fixed.proofs.Sign.{abs-minus, zero-is}
+use Rattle.bands.specs.Positions.{rowInDomain}
+use Rattle.bands.proofs.Spread.{place-whole}
+use Rattle.srl_encoder.specs.Encode.{firstOf}
+use Rattle.srl.specs.Laws.{Legal, legal}
+use Rattle.upgrade_steps.specs.Steps.{Step, Source, skipped, srl, raw, source, sourceOf, steps, stepOf, srlWidth, srlWidths, rawWidth, rawWidths}
+use Rattle.answer.specs.Refusals.{longEnough}
+use Rattle.progressive_encoder.specs.Encode.{srlDifference, rawDifference, srlGiven, srlDifferences, rawGiven, rawDifferences, srlBytes, rawBytes, passFault, encodePassRefusal}
+use Rattle.progressive_encoder.specs.Writing.{anyTooLarge}
+use Rattle.progressive_encoder.proofs.WrittenValues.{fault-by-size}
+use Rattle.progressive.specs.Laws.{Small, small, Sent, towardZero}
+use Rattle.progressive.specs.OwnCuts.{OwnCut, OwnCuts, OwnCutsSent}
+use Rattle.progressive.proofs.Regained.{toward-pos}
+
+-- ════ a magnitude ════
+
+-- what a cut at 2^(q + w) leaves, in steps of 2^q
+cut-steps : (q w n : ℕ) → n / 2 ^ (q + w) * 2 ^ (q + w) / 2 ^ q ≡ n / 2 ^ q / 2 ^ w * 2 ^ w
+cut-steps q w n =
+    let k = n / 2 ^ (q + w) in
+    ap (λ (m : ℕ). k * m / 2 ^ q) (pow-add 2 q w ∙ mul-comm (2 ^ q) (2 ^ w))
+    ∙ ap (λ (m : ℕ). m / 2 ^ q) (sym (mul-assoc k (2 ^ w) (2 ^ q)))
+    ∙ shl-shr (k * 2 ^ w) q
+    ∙ ap (λ (m : ℕ). m * 2 ^ w) (sym (shr-shr n q w))
+
+-- so what it takes away is less than 2^w of them
+taken-small : (q w n : ℕ) → n / 2 ^ q - n / 2 ^ (q + w) * 2 ^ (q + w) / 2 ^ q < 2 ^ w
+taken-small q w n = omega (arith, cut-steps q w n, div-add-mod' (n / 2 ^ q) (2 ^ w), mod-lt (n / 2 ^ q) (pow-pos w))
+
+-- the magnitude of a cut
+abs-toward : (q : ℕ) (c : ℤ) → natAbs (towardZero q c) ≡ natAbs c / 2 ^ q * 2 ^ q
+abs-toward q (pos n) = ap natAbs (toward-pos q n)
+abs-toward q (negsuc n) = abs-minus (suc n / 2 ^ q * 2 ^ q)
+
+-- ════ one place ════
+
+-- a raw number over the own cut
+number-small : (q w : ℕ) (c p : ℤ) → towardZero (q + w) c ≡ p → rawDifference q c p < 2 ^ w
+number-small q w c p e =
+    let n : natAbs p ≡ natAbs c / 2 ^ (q + w) * 2 ^ (q + w) = ap natAbs (sym e) ∙ abs-toward (q + w) c in
+    rw n (taken-small q w (natAbs c))
+
+-- without bits below the position, rounded down is not further from zero than cut
+floor-abs : (q : ℕ) (c : ℤ) → towardZero q c ≡ c → natAbs (floorShift c q) ≤ natAbs c / 2 ^ q
+floor-abs q (pos n) e = omega arith
+floor-abs q (negsuc n) e =
+    let k = suc n / 2 ^ q in
+    let all : k * 2 ^ q ≡ suc n = sym (abs-toward q (negsuc n)) ∙ ap natAbs e in
+    div-lt-iff-lt-mul {k = 2 ^ q} {x = n} {y = k} (pow-pos q) .1 (omega (arith, all))
+
+-- the clamp makes no magnitude larger
+clamp-less : (z : ℤ) → natAbs (clampI16 z) ≤ natAbs z
+unfolding clampI16
+clamp-less (pos n) = omega arith
+clamp-less (negsuc n) = omega arith
+
+-- an SRL value over the own cut, which is 0
+value-small : (q w : ℕ) (c p : ℤ) → towardZero q c ≡ c → towardZero (q + w) c ≡ p → p ≡ pos 0 → natAbs (srlDifference q c p) < 2 ^ w
+value-small q w c p h e z =
+    let v = floorShift c q in
+    let d : srlDifference q c p ≡ clampI16 v =
+    ap (srlDifference q c) z ∙ ap (λ (k : ℕ). clampI16 (v -ℤ pos k)) (zero-div (2 ^ q)) ∙ ap clampI16 (+ℤ-idr v) in
+    let k : natAbs c / 2 ^ q - 0 / 2 ^ q < 2 ^ w = number-small q w c (pos 0) (e ∙ z) in
+    rw d (omega (arith, clamp-less v, floor-abs q c h, k, zero-div (2 ^ q)))
+
+-- a sign is 0 only where the value is
+sign-none : (v : ℤ) → signOf v ≡ pos 0 → v ≡ pos 0
+unfolding isZero signOf
+sign-none (pos zero) e = refl
+sign-none (pos (suc n)) e = absurd (true≢false (ap isZero (sym e)))
+sign-none (negsuc n) e = absurd (true≢false (ap isZero (sym e)))
+
+-- what a place gives has no more bits than its width
+abbrev Fitting : Source → Step → ℤ → ℤ → Type 0
+Fitting skipped t c p = Unit {0}
+Fitting srl t c p = natAbs (srlDifference (t .position) c p) < 2 ^ t .width
+Fitting raw t c p = rawDifference (t .position) c p < 2 ^ t .width
+
+-- by where its value goes: a width of 0 gives nothing, and outside the bottom a zero sign says that the previous coefficient is 0
+place-fitting : (t : Step) (c p s : ℤ) → OwnCut t c p s → Fitting (source t s) t c p
+place-fitting t c p s o = by (t .bottom) refl (t .width) (isZero s) refl
+  where
+    value : p ≡ pos 0 → natAbs (srlDifference (t .position) c p) < 2 ^ t .width
+    value z = value-small (t .position) _ c p (o .whole) (o .from) z
+
+    number : rawDifference (t .position) c p < 2 ^ t .width
+    number = number-small (t .position) _ c p (o .from)
+
+    by : (b : Bool) → t .bottom ≡ b → (w : ℕ) (z : Bool) → isZero s ≡ z → Fitting (sourceOf b w z) t c p
+    by b f zero z e = tt
+    by true f (suc w) z e = number
+    by false f (suc w) true e = value (sign-none p (o .own f ∙ zero-is s e))
+    by false f (suc w) false e = number
+
+-- ════ all places ════
+
+-- a place before others: the values
+legal-then : (o : Source) (t : Step) (c p : ℤ) {ws : List ℕ} {vs : List ℤ} → Fitting o t c p → Legal ws vs → Legal (srlWidth o (t .width) ws) (srlGiven o (srlDifference (t .position) c p) vs)
+legal-then skipped t c p h l = l
+legal-then srl t c p h l = legal h l
+legal-then raw t c p h l = l
+
+-- the raw numbers
+small-then : (o : Source) (t : Step) (c p : ℤ) {ws ms : List ℕ} → Fitting o t c p → Small ws ms → Small (rawWidth o (t .width) ws) (rawGiven o (rawDifference (t .position) c p) ms)
+small-then skipped t c p h l = l
+small-then srl t c p h l = l
+small-then raw t c p h l = small h l
+
+-- and at most one value more
+few-then : (o : Source) (v : ℤ) (vs : List ℤ) (n : ℕ) → length vs ≤ n → length (srlGiven o v vs) ≤ suc n
+few-then skipped v vs n h = omega arith
+few-then srl v vs n h = omega arith
+few-then raw v vs n h = omega arith
+
+-- what such a pass gives
+record Gives (ts : List Step) (cs ps ss : List ℤ) : Type 0 where
+  coefficients-long : length ts ≤ length cs
+  previous-long : length ts ≤ length ps
+  signs-long : length ts ≤ length ss
+  legals : Legal (srlWidths ts ss) (srlDifferences ts cs ps ss)
+  smalls : Small (rawWidths ts ss) (rawDifferences ts cs ps ss)
+  few : length (srlDifferences ts cs ps ss) ≤ length ts
+
+-- place by place
+gives : {ts : List Step} {cs ps ss : List ℤ} → OwnCuts ts cs ps ss → Gives ts cs ps ss
+unfolding srlWidths srlDifferences rawWidths rawDifferences
+gives OwnCuts.none = record { coefficients-long = omega arith; previous-long = omega arith; signs-long = omega arith; legals = Legal.none; smalls = Small.none; few = omega arith }
+gives (OwnCuts.own {t = t} {c = c} {p = p} {s = s} {ts = ts} {cs = cs} {ps = ps} {ss = ss} o os) =
+    let g = gives os in
+    let f = place-fitting t c p s o in
+    record {
+      coefficients-long = omega (arith, g .coefficients-long);
+      previous-long = omega (arith, g .previous-long);
+      signs-long = omega (arith, g .signs-long);
+      legals = legal-then (source t s) t c p f (g .legals);
+      smalls = small-then (source t s) t c p f (g .smalls);
+      few = few-then (source t s) (srlDifference (t .position) c p) (srlDifferences ts cs ps ss) (length ts) (g .few);
+    }
+
+-- values that fit are not too large
+none-large : {ws : List ℕ} {vs : List ℤ} → Legal ws vs → anyTooLarge ws vs ≡ false
+unfolding anyTooLarge
+none-large Legal.none = refl
+none-large (legal {w = w} {v = v} {ws = ws} {vs = vs} h l) = ap (λ (b : Bool). b || anyTooLarge ws vs) (le-ltb (2 ^ w - 1) (natAbs v) (omega arith)) ∙ none-large l
+
+-- ════ the law ════
+
+-- up to 4,096 places, so that no run of zeros is too long
+all-sent : (ts : List Step) (cs ps ss : List ℤ) → length ts ≤ 4096 → OwnCuts ts cs ps ss → Sent ts cs ps ss
+all-sent ts cs ps ss h o =
+    let g = gives o in
+    record {
+      coefficients-long = g .coefficients-long;
+      previous-long = g .previous-long;
+      signs-long = g .signs-long;
+      srl-fits = fault-by-size 0 (srlWidths ts ss) (srlDifferences ts cs ps ss) (omega (arith, g .few)) ∙ ap (λ (b : Bool). cond b 5 0) (none-large (g .legals));
+      raw-fits = g .smalls;
+    }
+
+-- without a fault, what is refused is refused by 1, 2 or 7
+no-5 : (a b d : Bool) (f : ℕ) → f ≡ 0 → cond a (cond b (firstOf f (cond d 7 0)) 2) 1 ≢ 5
+no-5 a b d (suc f) h e = absurd (omega (arith, h))
+no-5 false b d zero h e = absurd (omega (arith, e))
+no-5 true false d zero h e = absurd (omega (arith, e))
+no-5 true true true zero h e = absurd (omega (arith, e))
+no-5 true true false zero h e = absurd (omega (arith, e))
+
+-- of a call
+calls-sent : (cs ps ss : List ℤ) (prev curr : List ℕ) (e : Bool) (srlOut rawOut : List ℕ)
+    → OwnCuts (steps e prev curr) cs ps ss → encodePassRefusal cs ps prev curr ss e srlOut rawOut ≢ 5
+calls-sent cs ps ss prev curr e srlOut rawOut o =
+    let ts = steps e prev curr in
+    no-5 (longEnough cs && (longEnough ps && longEnough ss)) (rowInDomain prev && rowInDomain curr)
+    (ltb (length srlOut) (length (srlBytes ts cs ps ss)) || ltb (length rawOut) (length (rawBytes ts cs ps ss)))
+    (passFault ts cs ps ss)
+    (all-sent ts cs ps ss (omega (arith, place-whole e (stepOf prev curr))) o .srl-fits)
+
+pub own-cuts-sent : OwnCutsSent
+own-cuts-sent = record { sent = all-sent; never-5 = calls-sent }
