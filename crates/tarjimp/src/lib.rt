@@ -193,21 +193,20 @@ pub extern "C" fn tarjimp_tile_decode_upgrade(
     if !tile::in_domain(rows, positions, quants) {
         return 2;
     }
-    components::upgrade_components(
+    tile::upgrade_in_place(
         y_srl,
         y_raw,
         cb_srl,
         cb_raw,
         cr_srl,
         cr_raw,
-        positions,
         rows,
         use_reduce_extrapolate,
         coefficients,
         sign,
+        prog_quant,
+        pass,
     );
-    *prog_quant = planes::flat_rows(rows);
-    *pass = tile::next_pass(*pass);
     *quality = new_quality;
     0
 }

@@ -7,7 +7,8 @@ ghost use Prim.Native.Nat.{_≤_, _<_};
 ghost use lib.Dec.{leb};
 ghost use lib.ListN.{length};
 ghost use Rattle.bands.specs.Positions.{every, rowInDomain, rowsInDomain};
-ghost use Rattle.planes.specs.Planes.{three};
+ghost use Rattle.planes.specs.Planes.{three, joined, of};
+ghost use Rattle.components.specs.Components.{passCoefficients, passSigns};
 ghost use Rattle.tile.specs.Tile.{fresh, loaded, loadedBy, load, nextPass, upgraded, decodeUpgrade, reconstructAnswer, reconstructPixels};
 ghost use Rattle.tile.specs.Refused.{TileRefusals};
 
@@ -38,7 +39,7 @@ pub struct Upgraded {
 }
 
 // The number of a tile's next pass.
-pub fn next_pass(pass: u16) -> u16
+fn next_pass(pass: u16) -> u16
     ensures { λ r. ⌜ r ≡ nextPass pass ⌝ }
 {
     if pass < 65535 {
@@ -85,6 +86,48 @@ fn not_loaded(refusal: u8) -> Loaded
         answer: answer::Answer::Refused(refusal),
         tile: TileState::new(),
     }
+}
+
+// A pass over the fields of a tile that it changes, where they lie, but for the quality, which is handed in whole. What the fields have is in
+// the domain.
+pub fn upgrade_in_place(
+    y_srl: &[u8],
+    y_raw: &[u8],
+    cb_srl: &[u8],
+    cb_raw: &[u8],
+    cr_srl: &[u8],
+    cr_raw: &[u8],
+    rows: [[u8; 10]; 3],
+    use_reduce_extrapolate: bool,
+    coefficients: &mut [i16; 12288],
+    sign: &mut [i8; 12288],
+    prog_quant: &mut [u8; 30],
+    pass: &mut u16,
+)
+    requires { ⌜ (rowInDomain (now «prog_quant») ≡ true) × (rowsInDomain rows ≡ true) ⌝ }
+    ensures { λ _. ⌜
+        (now (coefficients .exit) ≡ passCoefficients «use_reduce_extrapolate» (now («prog_quant» .entry)) rows (three (now («y_srl» .entry)) (now («cb_srl» .entry)) (now («cr_srl» .entry))) (three (now («y_raw» .entry)) (now («cb_raw» .entry)) (now («cr_raw» .entry))) (now (coefficients .entry)) (now (sign .entry)))
+        × (now (sign .exit) ≡ passSigns «use_reduce_extrapolate» (now («prog_quant» .entry)) rows (three (now («y_srl» .entry)) (now («cb_srl» .entry)) (now («cr_srl» .entry))) (now (sign .entry)))
+        × (now («prog_quant» .exit) ≡ joined (of rows))
+        × (now (pass .exit) ≡ nextPass (now (pass .entry))) ⌝ }
+{
+    let prev = *prog_quant;
+    let number = *pass;
+    components::upgrade_components(
+        y_srl,
+        y_raw,
+        cb_srl,
+        cb_raw,
+        cr_srl,
+        cr_raw,
+        prev,
+        rows,
+        use_reduce_extrapolate,
+        coefficients,
+        sign,
+    );
+    *prog_quant = planes::flat_rows(rows);
+    *pass = next_pass(number);
 }
 
 impl TileState {
@@ -204,26 +247,27 @@ impl TileState {
         requires { ⌜ (rowInDomain (self .«prog_quant») ≡ true) × (rowsInDomain «prog_quants» ≡ true) ⌝ }
         ensures { λ r. ⌜ r ≡ upgraded self (three (now («y_srl» .entry)) (now («cb_srl» .entry)) (now («cr_srl» .entry))) (three (now («y_raw» .entry)) (now («cb_raw» .entry)) (now («cr_raw» .entry))) «prog_quants» quality ⌝ }
     {
+        let e = self.use_reduce_extrapolate;
         let mut coefficients = self.coefficients;
         let mut sign = self.sign;
-        let prev = self.prog_quant;
-        components::upgrade_components(
+        let mut prog_quant = self.prog_quant;
+        let mut pass = self.pass;
+        upgrade_in_place(
             y_srl,
             y_raw,
             cb_srl,
             cb_raw,
             cr_srl,
             cr_raw,
-            prev,
             prog_quants,
-            self.use_reduce_extrapolate,
+            e,
             &mut coefficients,
             &mut sign,
+            &mut prog_quant,
+            &mut pass,
         );
-        let prog_quant = planes::flat_rows(prog_quants);
         let quant_idx = self.quant_idx;
         let base_quant = self.base_quant;
-        let pass = next_pass(self.pass);
         Self {
             coefficients: coefficients,
             sign: sign,
@@ -233,7 +277,7 @@ impl TileState {
             pass: pass,
             is_difference: self.is_difference,
             quality: quality,
-            use_reduce_extrapolate: self.use_reduce_extrapolate,
+            use_reduce_extrapolate: e,
         }
     }
 

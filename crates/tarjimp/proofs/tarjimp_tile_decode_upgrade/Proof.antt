@@ -19,16 +19,16 @@ returns c =
 low : (c : tie.Else1) → (rowsInDomain (c .before .before .before .before .before .before .before .before .before .before .before .args .prog-quants .now) && (rowInDomain (c .before .before .before .before .before .before .before .before .before .before .before .args .prog-quant .now) && rowInDomain (c .before .before .before .before .before .before .before .before .before .before .before .args .base-quant .now))) ≡ true
 low c = sym (c .before .in-domain .ensures) ∙ not-false _ (c .if1 .left)
 
-upgrade-components-requires : tie.Need-upgrade-components-requires
-upgrade-components-requires c κs =
-    let both = both-true _ _ (low (c .before .before)) in
-    (both-true _ _ (both .1) .0, both .0, search needs, search needs)
+upgrade-in-place-requires : tie.Need-upgrade-in-place-requires
+upgrade-in-place-requires c κs =
+    let both = both-true _ _ (low (c .before .before .before .before)) in
+    (both-true _ _ (both .1) .0, both .0)
 
 returns-2 : tie.Need-returns-2
 unfolding upgraded
 returns-2 c =
-    let done = c .before .before .before .upgrade-components .ensures in
-    (simp (low (c .before .before .before .before .before .before)), simp (low (c .before .before .before .before .before .before)) (rw (done .0, done .1, c .before .before .flat-rows .ensures, c .next-pass .ensures)))
+    let done = c .upgrade-in-place .ensures in
+    (simp (low (c .before .before .before .before .before)), simp (low (c .before .before .before .before .before)) (rw (done .0, done .1, done .2, done .3)))
 
 pub tarjimp-tile-decode-upgrade-spec : {M : Type 1} → statement M
-tarjimp-tile-decode-upgrade-spec = tie.close (tie.spec (λ c κs. search needs) returns upgrade-components-requires (λ c κs. search needs) (λ c κs. search needs) returns-2)
+tarjimp-tile-decode-upgrade-spec = tie.close (tie.spec (λ c κs. search needs) returns upgrade-in-place-requires returns-2)

@@ -7,16 +7,8 @@ use Rattle.tile.proofs.TileState.upgraded.Tie as tie
 returns : tie.Need-returns
 unfolding upgraded
 returns c =
-    let done = c .before .before .before .before .before .before .upgrade-components .ensures in
-    simp (done .0, done .1, c .before .before .before .flat-rows .ensures, c .next-pass .ensures)
+    let done = c .before .before .upgrade-in-place .ensures in
+    simp (done .0, done .1, done .2, done .3)
 
 pub upgraded-spec : {M : Type 1} → statement M
-upgraded-spec =
-    tie.close
-    (tie.spec
-    (λ c. search needs)
-    (λ c. search needs)
-    (λ c κs. search needs)
-    (λ c κs. search needs)
-    (λ c κs. search needs)
-    returns)
+upgraded-spec = tie.close (tie.spec (λ c κs. search needs) returns)
