@@ -22,6 +22,12 @@ laid at (i ∷ is) end = eqb (i .offset) at && laid (at + countOf i) is end
 abbrev right : Bool → ℕ → Bool
 right e bottom = laid 0 (layout e) 4096 && (eqb (length (layout e)) 10 && eqb (bottomOffset e) bottom)
 
+-- the counts of both tables
+counts-whole : (e : Bool) → countBefore (layout e) 10 ≡ 4096
+unfolding countBefore
+counts-whole true = refl
+counts-whole false = refl
+
 -- run over both tables
 both-right : T (right true 4015 && right false 4032)
 both-right = tt
@@ -143,7 +149,7 @@ pub tables : BandTables
 tables = record {
   ten = ten-bands;
   running = λ e b h. running-sum 0 (layout e) 4096 b (layout-laid e) (ten-more e h) ∙ omega arith;
-  whole = λ e. ap (countBefore (layout e)) (sym (ten-bands e)) ∙ (omega (arith, whole-sum 0 (layout e) 4096 (layout-laid e)));
+  whole = counts-whole;
   bottom-extrapolate = extrapolate-right .lowest;
   bottom-standard = standard-right .lowest;
   one-band = place-band;

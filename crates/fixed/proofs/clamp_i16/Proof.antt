@@ -10,7 +10,7 @@ returns : tie.Need-returns
 returns c = clamp-low _ (rw (toZ-ofZ (c .before .fits .value)) at (c .if1 .taken))
 
 returns-2 : tie.Need-returns-2
-returns-2 c = clamp-high _ (rw (toZ-ofZ (c .before .before .fits .value)) at (c .if2 .taken))
+returns-2 c = clamp-high (c .before .before .args .value) (rw (toZ-ofZ (c .before .before .fits .value)) at (c .if2 .taken))
 
 -- what both tests leave
 between : (c : tie.Else2) → Under 32768 (c .before .before .args .value)

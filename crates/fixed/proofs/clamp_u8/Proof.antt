@@ -13,7 +13,7 @@ returns : tie.Need-returns
 returns c = byte-low _ (rw (toZ-ofZ (c .before .fits .value)) at (c .if1 .taken))
 
 returns-2 : tie.Need-returns-2
-returns-2 c = byte-high _ (rw (toZ-ofZ (c .before .before .fits .value)) at (c .if2 .taken))
+returns-2 c = byte-high (c .before .before .args .value) (rw (toZ-ofZ (c .before .before .fits .value)) at (c .if2 .taken))
 
 -- what both tests leave
 between : (c : tie.Else2) → c .before .before .args .value ≡ pos (clampU8 (c .before .before .args .value))

@@ -7,6 +7,7 @@ use lib.Dec.{leb}
 use lib.ListN.{length}
 use Rattle.bands.specs.Positions.{rowInDomain}
 use borrow.Author.Needs.{needs}
+use Rattle.pixels.proofs.Sampled.{Shown, shown}
 use Rattle.pixels.proofs.reconstruct_to_rgba.Statement.{statement}
 use Rattle.pixels.proofs.reconstruct_to_rgba.Tie as tie
 
@@ -51,7 +52,10 @@ returns-5 c =
     let low = positions (c .before .before .before .before .before .before .before .before) in
     let low′ = quantizers (c .before .before .before .before .before) in
     let extrapolate : c .before .before .before .before .before .before .before .before .before .before .before .before .before .args .use-reduce-extrapolate ≡ true = not-false _ (c .before .before .before .before .if4 .left) in
-    (simp (long, low, low′, extrapolate), simp (long, low, low′, extrapolate) (c .before .before .write-pixels .ensures))
+    let a = c .before .before .before .before .before .before .before .before .before .before .before .before .before .args in
+    let written = shown (a .pixels .now) (c .before .before .write-pixels .ensures) in
+    let same : Shown (a .coefficients) (a .t3) (a .pixels .now) (c .before .before .write-pixels .last .1 .1 .0) = written in
+    (simp (long, low, low′, extrapolate), simp (long, low, low′, extrapolate) (same .is))
 
 pub reconstruct-to-rgba-spec : {M : Type 1} → statement M
 reconstruct-to-rgba-spec =

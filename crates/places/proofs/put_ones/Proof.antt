@@ -21,7 +21,8 @@ store-row-requires c κs =
 counted : (c : tie.After-count-of) → c .count-of .result ≡ length (onesOf 8 (c .before .before .before .before .before .before .before .args .m))
 counted c =
     let k = c .before .before .before .before .before .before .before in
-    c .count-of .ensures ∙ ap (λ (l : List ℕ). getD l (9 * k .args .m + 8) 0) (k .pre .0) ∙ row-count (k .args .m) (k .pre .1)
+    let last : c .count-of .result ≡ getD (k .args .rows .now) (9 * k .args .m + 8) 0 = c .count-of .ensures in
+    last ∙ ap (λ (l : List ℕ). getD l (9 * k .args .m + 8) 0) (k .pre .0) ∙ row-count (k .args .m) (k .pre .1)
 
 add-result : tie.Need-add-result
 add-result c =
