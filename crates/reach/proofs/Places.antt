@@ -183,8 +183,11 @@ rise false p q {x} {y} h g = record {
   below = s .below (g .fits .range);
 }
   where
+    stays : x .sign ≢ pos 0 → y .sign ≡ x .sign
+    stays = g .kept
+
     s : Side (x .coefficient) (y .coefficient) (g .added)
-    s = side (x .coefficient) (y .coefficient) (g .added) (g .more) (λ f. sym (g .fits .own) ∙ g .kept (λ e. f (sym (h .own) ∙ e)) ∙ h .own)
+    s = side (x .coefficient) (y .coefficient) (g .added) (g .more) (λ f. sym (g .fits .own) ∙ stays (λ e. f (sym (h .own) ∙ e)) ∙ h .own)
 rise true p q {x} {y} h g = record {
   family = floor (x .sign);
   base = level (x .coefficient);
