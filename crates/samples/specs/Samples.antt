@@ -1,19 +1,21 @@
--- Bench samples: what the definitions give, as tables. `samples::bench_samples` proves them.
+-- Bench samples: what the definitions that the promises cite give, as tables, one for each kind of call. `samples::bench_samples` proves them.
 use mathlib.Core.Path.{_≡_}
 use mathlib.Core.Bool.{Bool, true, false, cond}
-use mathlib.Core.List.{List, [], _∷_, map}
-use Prim.Native.Nat.{ℕ}
+use mathlib.Core.List.{List, [], _∷_, _++_, map}
+use Prim.Native.Nat.{ℕ, _-_, _≤_}
 use lib.IntN.{ℤ, pos, negsuc}
-use lib.ListN.{length, replicate}
-use Rattle.srl_decoder.specs.Srl.{values, start}
-use Rattle.srl_encoder.specs.Encode.{freshWriter}
-use Rattle.srl.specs.Laws.{streamFrom}
-use Rattle.upgrade_steps.specs.Steps.{Step, stepAt}
-use Rattle.progressive_decoder.specs.Upgrade.{upgradedCoefficients, upgradedSigns}
-use Rattle.progressive_encoder.specs.Encode.{srlDifferences, passFault}
+use lib.ListN.{length, replicate, take, drop}
+use Rattle.answer.specs.Refusals.{numberOf}
+use Rattle.srl_decoder.specs.Decode.{startState, decodeAnswer, decodeOut, decodedNumber, decodedCount}
+use Rattle.srl_encoder.specs.Encode.{freshWriter, encodeAnswer, encodeOut, encodedCount, encodedState}
+use Rattle.srl_encoder.specs.Finish.{finishAnswer, finishOut, finishedCount}
+use Rattle.srl_encoder.specs.declared.Encoded.{Encoded}
+use Rattle.srl_encoder.specs.declared.Finished.{Finished}
+use Rattle.progressive_decoder.specs.Upgrade.{decodePassAnswer, decodeCoefficients, decodeSigns}
+use Rattle.progressive_encoder.specs.Encode.{srlDifference, encodePassRefusal}
 use Rattle.color.specs.Color.{rgb}
 
--- ════ SRL, written: one call of `encode`, then `finish` ════
+-- ════ SRL, written: one call of `encode`, then `finish`, each with room for two bytes ════
 
 -- a sample: values at a width, and their bytes
 pub record SrlWritten : Type 0 where
@@ -33,9 +35,23 @@ srlWritten =
     ∷ record { width = 2; given = pos 3 ∷ []; bytes = 0x80 ∷ 0x00 ∷ [] }
     ∷ []
 
--- what the definitions give for it
+-- the output of each call, before it
+abbrev pub two : List ℕ
+two = 0xee ∷ 0xee ∷ []
+
+-- what `encode` answers
+abbrev pub begun : SrlWritten → Encoded
+begun s = encodeAnswer freshWriter (s .given) 2 (s .width)
+
+-- what `finish` answers then
+abbrev pub ended : SrlWritten → Finished
+ended s = finishAnswer (encodedState (begun s)) 2
+
+-- the bytes that both have counted, of what each has stored
 abbrev pub writtenAs : SrlWritten → List ℕ
-writtenAs s = streamFrom freshWriter (record { width = s .width; given = s .given } ∷ [])
+writtenAs s =
+    take (encodedCount (begun s)) (encodeOut freshWriter (s .given) two (s .width))
+    ++ take (finishedCount (ended s)) (finishOut (encodedState (begun s)) two)
 
 -- ════ SRL, read: one call of `decode` from the start ════
 
@@ -53,15 +69,23 @@ srlRead =
     ∷ record { bytes = []; width = 1; count = 5; got = pos 0 ∷ pos 0 ∷ pos 0 ∷ pos 0 ∷ pos 0 ∷ [] }
     ∷ []
 
--- what the definitions give for it
+-- an output that held sevens, just as long as it must be, after the call
 abbrev pub readAs : SrlRead → List ℤ
-readAs s = values (s .bytes) (replicate (s .count) (s .width)) start
+readAs s = decodeOut (s .bytes) startState (replicate (s .count) (pos 7)) (s .count) (s .width)
 
--- ════ a pass at one place, from one position to a lower one ════
+-- and how many values the call says that it has stored
+abbrev pub countedAs : SrlRead → ℕ
+countedAs s = decodedCount (decodeAnswer (s .bytes) startState (s .count) (s .count) (s .width))
 
--- its step, as a list of one
-abbrev pub placed : Bool → ℕ → ℕ → List Step
-placed bottom from to = stepAt (cond bottom 9 0) from to ∷ []
+-- ════ a pass over a component in the standard layout, at the first place of its first band or of the bottom ════
+
+-- a number at that place of a list as long as a component, zeros elsewhere
+abbrev pub placed : Bool → ℤ → List ℤ
+placed bottom v = replicate (cond bottom 4032 0) (pos 0) ++ (v ∷ replicate (cond bottom 63 4095) (pos 0))
+
+-- a position for that band in a row, zeros elsewhere
+abbrev pub row : Bool → ℕ → List ℕ
+row bottom p = replicate (cond bottom 9 0) 0 ++ (p ∷ replicate (cond bottom 0 9) 0)
 
 -- read, with these bytes of the raw stream and none of the other
 pub record PassRead : Type 0 where
@@ -81,13 +105,15 @@ passRead =
     ∷ record { bottom = false; from = 3; to = 1; raw = 0xc0 ∷ []; coefficient = negsuc 32767; sign = negsuc 0; got = negsuc 32767 }
     ∷ []
 
--- the coefficient that the definitions give
+-- the coefficients after the call
 abbrev pub upgradedAs : PassRead → List ℤ
-upgradedAs s = upgradedCoefficients (placed (s .bottom) (s .from) (s .to)) [] (s .raw) (s .coefficient ∷ []) (s .sign ∷ [])
+upgradedAs s =
+    decodeCoefficients [] (s .raw) (row (s .bottom) (s .from)) (row (s .bottom) (s .to)) false (placed (s .bottom) (s .coefficient)) (placed (s .bottom) (s .sign))
 
--- and the sign
+-- and the signs
 abbrev pub signedAs : PassRead → List ℤ
-signedAs s = upgradedSigns (placed (s .bottom) (s .from) (s .to)) [] (s .sign ∷ [])
+signedAs s =
+    decodeSigns [] (row (s .bottom) (s .from)) (row (s .bottom) (s .to)) false (placed (s .bottom) (s .coefficient)) (placed (s .bottom) (s .sign))
 
 -- written, at a zero sign outside the bottom: the value for the SRL stream, and the refusal or 0
 pub record PassWritten : Type 0 where
@@ -105,13 +131,14 @@ passWritten =
     ∷ record { from = 3; to = 1; coefficient = negsuc 6; over = pos 0; value = negsuc 3; refusal = 5 }
     ∷ []
 
--- the value that the definitions give
-abbrev pub valuedAs : PassWritten → List ℤ
-valuedAs s = srlDifferences (placed false (s .from) (s .to)) (s .coefficient ∷ []) (s .over ∷ []) (pos 0 ∷ [])
+-- the value
+abbrev pub valuedAs : PassWritten → ℤ
+valuedAs s = srlDifference (s .to) (s .coefficient) (s .over)
 
--- and the refusal
+-- the refusal of the call, with room for a hundred bytes in each output
 abbrev pub refusedAs : PassWritten → ℕ
-refusedAs s = passFault (placed false (s .from) (s .to)) (s .coefficient ∷ []) (s .over ∷ []) (pos 0 ∷ [])
+refusedAs s =
+    encodePassRefusal (placed false (s .coefficient)) (placed false (s .over)) (row false (s .from)) (row false (s .to)) (placed false (pos 0)) false (replicate 100 0) (replicate 100 0)
 
 -- ════ the colours of a pixel ════
 
@@ -136,10 +163,11 @@ colouredAs s = rgb (s .y) (s .cb) (s .cr)
 pub record BenchSamples : Type 0 where
   pub srl-written : map writtenAs srlWritten ≡ map (λ s. s .bytes) srlWritten
   pub srl-read : map readAs srlRead ≡ map (λ s. s .got) srlRead
+  pub srl-counts : map countedAs srlRead ≡ map (λ s. s .count) srlRead
   -- an empty stream gives zeros, as many as are asked for and at every width
-  pub srl-empty : (ws : List ℕ) → values [] ws start ≡ replicate (length ws) (pos 0)
-  pub pass-read : map upgradedAs passRead ≡ map (λ s. s .got ∷ []) passRead
-  pub pass-signs : map signedAs passRead ≡ map (λ s. s .sign ∷ []) passRead
-  pub pass-values : map valuedAs passWritten ≡ map (λ s. s .value ∷ []) passWritten
+  pub srl-empty : (out : List ℤ) (n w : ℕ) → n ≤ length out → decodeOut [] startState out n w ≡ replicate n (pos 0) ++ drop n out
+  pub pass-read : map upgradedAs passRead ≡ map (λ s. placed (s .bottom) (s .got)) passRead
+  pub pass-signs : map signedAs passRead ≡ map (λ s. placed (s .bottom) (s .sign)) passRead
+  pub pass-values : map valuedAs passWritten ≡ map (λ s. s .value) passWritten
   pub pass-refusals : map refusedAs passWritten ≡ map (λ s. s .refusal) passWritten
   pub colours : map colouredAs coloured ≡ map (λ s. s .bytes) coloured

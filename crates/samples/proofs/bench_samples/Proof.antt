@@ -1,25 +1,54 @@
 -- `samples::bench_samples` meets its contract: the definitions compute, and past the end of a stream all is 0. Assumes nothing.
-use mathlib.Core.Path.{refl}
-use mathlib.Core.List.{[]}
+use mathlib.Core.Path.{_≡_, refl, ap, _∙_}
+use mathlib.Core.Bool.{Bool, true, false, cond}
+use mathlib.Core.List.{List, [], _++_}
+use Prim.Native.Nat.{ℕ, _≤_}
 use native.Mathlib.Omega.{arith}
+use borrow.Author.Tests.{le-ltb}
+use lib.IntN.{ℤ, pos}
+use lib.ListN.{length, replicate, drop, length-replicate}
 use Rattle.fixed.specs.Fixed.{clampI16, clampU8, addScaled, subScaled, isZero, isOne}
+use Rattle.bands.specs.Bands.{spread}
 use Rattle.bits.specs.Bits.{num, numbers, zeros}
-use Rattle.srl_decoder.specs.Srl.{values}
-use Rattle.srl_decoder.proofs.Due.{values-past}
+use Rattle.bits.specs.Written.{bitsOfAll}
+use Rattle.srl_rules.specs.Rules.{widthOk, noRoom, stored}
+use Rattle.srl_decoder.specs.Srl.{values, readerAfter}
+use Rattle.srl_decoder.specs.Decode.{startState, opened, dueAmong, decodeRefusal, decodeOut}
+use Rattle.srl_decoder.proofs.Due.{due-past, values-past}
+use Rattle.srl_encoder.specs.Finish.{streamBits}
 use Rattle.upgrade_steps.specs.Steps.{srlWidths, rawWidths}
 use Rattle.progressive_decoder.specs.Upgrade.{signsAfter, coefficientsAfter}
-use Rattle.progressive_encoder.specs.Encode.{srlDifferences, valuesFault}
+use Rattle.progressive_encoder.specs.Encode.{srlDifferences, rawDifferences, valuesFault}
 use Rattle.color.specs.Color.{red, green, blue}
 use Rattle.samples.specs.Samples.{BenchSamples}
 use Rattle.samples.proofs.bench_samples.Statement.{statement}
 use Rattle.samples.proofs.bench_samples.Tie as tie
 
+-- where no nonzero value is due and there is room, nothing is refused, whatever the width is
+not-refused : (b : Bool) (n : ℕ) → n ≡ 0 → cond b n (cond false 4 n) ≡ 0
+not-refused true n e = e
+not-refused false n e = e
+
+-- past the end of a stream all is 0
+empty : (out : List ℤ) (n w : ℕ) → n ≤ length out → decodeOut [] startState out n w ≡ replicate n (pos 0) ++ drop n out
+empty out n w h =
+    let room : noRoom (length out) n ≡ 0 = ap (λ (b : Bool). cond b 7 0) (le-ltb (length out) n h) in
+    let none : decodeRefusal [] startState (length out) n w ≡ 0 =
+    ap (λ (d : Bool). cond (widthOk w) (noRoom (length out) n) (cond d 4 (noRoom (length out) n))) (due-past [] 0 8 0 n (omega arith))
+    ∙ not-refused (widthOk w) (noRoom (length out) n) room in
+    let zero : values [] (replicate n w) (opened startState) ≡ replicate n (pos 0) =
+    values-past [] 0 8 0 (replicate n w) (omega arith) ∙ ap (λ (k : ℕ). replicate k (pos 0)) (length-replicate n w) in
+    ap (λ (r : ℕ). stored r (values [] (replicate n w) (opened startState)) out) none
+    ∙ ap (λ (l : List ℤ). l ++ drop (length l) out) zero
+    ∙ ap (λ (k : ℕ). replicate n (pos 0) ++ drop k out) (length-replicate n (pos 0))
+
 samples : BenchSamples
-unfolding values num zeros numbers clampI16 clampU8 addScaled subScaled isZero isOne srlWidths rawWidths signsAfter coefficientsAfter srlDifferences valuesFault red green blue
+unfolding values readerAfter num zeros numbers clampI16 clampU8 addScaled subScaled isZero isOne spread srlWidths rawWidths signsAfter coefficientsAfter srlDifferences rawDifferences valuesFault streamBits bitsOfAll red green blue
 samples = record {
   srl-written = refl;
   srl-read = refl;
-  srl-empty = λ ws. values-past [] 0 8 0 ws (omega arith);
+  srl-counts = refl;
+  srl-empty = empty;
   pass-read = refl;
   pass-signs = refl;
   pass-values = refl;
