@@ -115,7 +115,8 @@ uint8_t tarjimp_decode_upgrade_pass(const uint8_t *srl, size_t srl_len,
  * stream and of the raw stream. Refusals: 1, 2, 5, 7.
  * 5 cannot happen where the coefficients are multiples of 2^position in curr,
  * prev_coefficients are the same without the bits below prev of their
- * magnitudes, and signs are those of prev_coefficients.
+ * magnitudes, and signs are those of prev_coefficients, outside LL3 (proved:
+ * own_cuts_sent in crates/progressive).
  */
 uint8_t tarjimp_encode_upgrade_pass(const int16_t *coefficients, size_t coefficients_len,
                                     const int16_t *prev_coefficients, size_t prev_coefficients_len,

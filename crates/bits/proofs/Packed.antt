@@ -13,7 +13,8 @@ use lib.Seq.{sets, sets-eq}
 use borrow.Author.Tests.{eqb-true, eqb-false}
 use Rattle.bits.specs.Bits.{bitOf}
 use Rattle.bits.proofs.Numbers.{Bytes, bit-le}
-use Rattle.bits.specs.Written.{whole, pack, writer, after, write, padCount, padOut, countOf, counted}
+use Rattle.bits.specs.Written.{whole, pack, writer, after}
+use Rattle.bits.specs.Inner.{write, padCount, padOut, countOf, counted}
 use Rattle.bits.specs.declared.writer.BitWriter.{BitWriter}
 use Rattle.bits.specs.declared.writer.BitCount.{BitCount}
 

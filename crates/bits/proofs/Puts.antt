@@ -11,7 +11,8 @@ use lib.ListN.{length, set, replicate, length-append, replicate-append-replicate
 use lib.Pow.{pow-pos, shr-shr, mod-pow-add, high, split}
 use borrow.Author.Tests.{eqb-false, ne-eqb}
 use Rattle.bits.specs.Bits.{odd, bitOf}
-use Rattle.bits.specs.Written.{bitsOf, writer, Sound, step, put, after, write}
+use Rattle.bits.specs.Written.{bitsOf, writer, step, after}
+use Rattle.bits.specs.Inner.{Sound, put, write}
 use Rattle.bits.specs.declared.writer.BitWriter.{BitWriter}
 use Rattle.bits.proofs.Numbers.{bit-le, odd-bit}
 

@@ -11,7 +11,7 @@ use lib.Count.{leadingZeros, leading-of-zero, leading-unique}
 use lib.Dec.{leb}
 use lib.Pow.{pow-add, shl-lt, high, low}
 use Rattle.bits.specs.Bits.{bitOf, bitAt, num, zeros}
-use Rattle.bits.specs.Words.{Top, Front}
+use Rattle.bits.specs.Inner.{Top, Front}
 use Rattle.bits.proofs.Numbers.{num-lt, num-split}
 use Rattle.bits.proofs.Ones.{zeros-min}
 

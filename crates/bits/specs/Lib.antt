@@ -1,4 +1,4 @@
--- What the contracts of `bits` cite.
+-- What the contracts of `bits` cite, and `Inner` for inner functions.
 pub mod Bits
 pub mod Written
-pub mod Words
+pub mod Inner

@@ -4,7 +4,8 @@ ghost use mathlib.Core.Bool.{false};
 ghost use Prim.Native.Nat.{_+_, _*_, _%_, _^_, _≤_, _<_};
 ghost use lib.ListN.{set, replicate};
 ghost use Rattle.bits.specs.Bits.{bitOf};
-ghost use Rattle.bits.specs.Written.{bitsOf, writer, Sound, Room, step, put, after, write, padCount, padOut, counted};
+ghost use Rattle.bits.specs.Written.{bitsOf, writer, step, after};
+ghost use Rattle.bits.specs.Inner.{Sound, Room, put, write, padCount, padOut, counted};
 
 // Where bits go: `at` whole bytes are written, and `bit_count` bits, the number `current`, wait for the next byte.
 pub struct BitWriter {

@@ -1,4 +1,4 @@
--- What private functions of `color` compute. No public contract cites it.
+-- For inner functions only: the colours in sixteen bits.
 use mathlib.Core.List.{List, _++_}
 use mathlib.Core.Path.{_≡_}
 use Prim.Native.Nat.{ℕ, _+_, _*_, _/_, _%_, _<_, _≤_}

@@ -14,7 +14,8 @@ use Rattle.upgrade_steps.specs.Steps.{Step, Source, skipped, srl, raw, source, 
 use Rattle.progressive_decoder.specs.Upgrade.{signThen, signsAfter, coefficientThen, coefficientsAfter, upgradedCoefficients, upgradedSigns, decodePassRefusal}
 use Rattle.answer.specs.Refusals.{unlessRefused, longEnough}
 use Rattle.components.specs.Components.{stepsOf, passCoefficients, passSigns}
-use Rattle.planes.specs.Planes.{component, rowOf, joined, of, withComponent}
+use Rattle.planes.specs.Planes.{component, rowOf, joined, of}
+use Rattle.planes.specs.Inner.{withComponent}
 use Rattle.components.specs.Inner.{coefficientsPast, signsPast}
 use Rattle.planes.proofs.Joined.{Long, upTo, joined-components, parts-long, here, next}
 

@@ -1,10 +1,11 @@
--- What an inner function of `components` does on flat arrays: one component after another.
+-- For an inner function only: one component after another, on flat arrays.
 use mathlib.Core.Bool.{Bool}
 use mathlib.Core.List.{List}
 use Prim.Native.Nat.{ℕ}
 use lib.IntN.{ℤ}
 use Rattle.progressive_decoder.specs.Upgrade.{upgradedCoefficients, upgradedSigns}
-use Rattle.planes.specs.Planes.{component, withComponent}
+use Rattle.planes.specs.Planes.{component}
+use Rattle.planes.specs.Inner.{withComponent}
 use Rattle.components.specs.Components.{stepsOf}
 
 -- the coefficients after a pass over component k alone, with its two streams

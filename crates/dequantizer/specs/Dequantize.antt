@@ -1,4 +1,4 @@
--- Dequantizing a component (docs/SCOPE.md, "Dequantizing"; MS-RDPRFX 3.1.8.1.5).
+-- Dequantizing a component (docs/SCOPE.md, "Dequantizing").
 use mathlib.Core.Bool.{Bool, cond}
 use mathlib.Core.List.{List, [], _∷_}
 use Prim.Native.Nat.{ℕ, _-_}

@@ -7,7 +7,8 @@ use native.Mathlib.Nat.{suc-mul}
 use native.Mathlib.Omega.{arith}
 use lib.IntN.{ℤ, pos}
 use lib.ListN.{length, getD, drop, length-append, length-map}
-use Rattle.dwt_lines.specs.Line.{edge, even, odd, half, mean, oddTail, from, line, Halves}
+use Rattle.dwt_lines.specs.Line.{edge, even, odd, half, mean, oddTail, from, line}
+use Rattle.dwt_lines.specs.Inner.{Halves}
 use Rattle.dwt_lines.proofs.Lines.{line-length}
 use Rattle.dwt_columns.specs.Columns.{rows, columns, down}
 use Rattle.dwt_columns.specs.Inner.{zipWith3, fromRows, lineRows}

@@ -9,7 +9,8 @@ use native.Mathlib.Omega.{arith}
 use lib.IntN.{ℤ}
 use lib.ListN.{length, take, drop, length-append}
 use lib.Seq.{take-take, drop-drop, take-at, drop-at, length-take-le}
-use Rattle.dwt_lines.specs.Line.{edge, even, odd, Halves}
+use Rattle.dwt_lines.specs.Line.{edge, even, odd}
+use Rattle.dwt_lines.specs.Inner.{Halves}
 use Rattle.dwt_lines.proofs.Lines.{even-edge}
 use Rattle.dwt_columns.specs.Columns.{rows}
 use Rattle.dwt_columns.specs.Inner.{zipWith3, fromRows, lineRows, pairRows, lastRows, tailRows, put}

@@ -1,5 +1,5 @@
--- What private functions of `dwt_columns` compute: all columns at once, a row of the answer of rows of the scratch, place by place.
--- No public contract cites it; proofs/Columns.antt says that it is the same as `down`.
+-- For inner functions only: all columns at once, a row of the answer of rows of the scratch, place by place. proofs/Columns.antt says that it
+-- is the same as `down`.
 use mathlib.Core.List.{List, [], _∷_, _++_, zipWith}
 use Prim.Native.Nat.{ℕ}
 use lib.IntN.{ℤ}

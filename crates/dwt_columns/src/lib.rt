@@ -4,7 +4,8 @@ ghost use mathlib.Core.Path.{_≡_};
 ghost use mathlib.Core.List.{_++_, zipWith, flatten};
 ghost use Prim.Native.Nat.{_+_, _*_, _-_, _≤_};
 ghost use lib.ListN.{length, take, drop};
-ghost use Rattle.dwt_lines.specs.Line.{edge, Halves};
+ghost use Rattle.dwt_lines.specs.Line.{edge};
+ghost use Rattle.dwt_lines.specs.Inner.{Halves};
 ghost use Rattle.dwt_columns.specs.Columns.{rows, down};
 ghost use Rattle.dwt_columns.specs.Inner.{fromRows, lineRows, pairRows, lastRows, tailRows, put};
 

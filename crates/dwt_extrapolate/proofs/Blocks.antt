@@ -8,7 +8,7 @@ use native.Mathlib.Omega.{arith}
 use lib.IntN.{ℤ}
 use lib.ListN.{length, take, drop, length-append, length-drop, drop-of-length-le}
 use lib.Seq.{drop-drop, take-at, drop-at}
-use Rattle.dwt_lines.specs.Line.{Halves}
+use Rattle.dwt_lines.specs.Inner.{Halves}
 use Rattle.dwt_extrapolate.specs.Block.{lines, lows, highs, scratch, block, blockAt}
 use Rattle.dwt_extrapolate.specs.Transform.{inner, inverse, scratched}
 use Rattle.dwt_columns.specs.Columns.{rows, down}

@@ -8,7 +8,8 @@ use native.Mathlib.Omega.{arith}
 use lib.IntN.{ℤ}
 use lib.ListN.{length, take, drop, length-append, length-drop}
 use lib.Seq.{drop-drop, take-at, drop-at, length-take-le}
-use Rattle.dwt_lines.specs.Line.{line, Halves}
+use Rattle.dwt_lines.specs.Line.{line}
+use Rattle.dwt_lines.specs.Inner.{Halves}
 use Rattle.dwt_lines.proofs.Lines.{line-length}
 use Rattle.dwt_extrapolate.specs.Block.{lines}
 use Rattle.dwt_columns.specs.Columns.{rows}

@@ -3,7 +3,7 @@ ghost use mathlib.Core.Path.{_≡_};
 ghost use mathlib.Core.List.{_++_, flatten};
 ghost use Prim.Native.Nat.{_+_, _*_, _≤_};
 ghost use lib.ListN.{length, drop};
-ghost use Rattle.dwt_lines.specs.Line.{Halves};
+ghost use Rattle.dwt_lines.specs.Inner.{Halves};
 ghost use Rattle.dwt_extrapolate.specs.Block.{lines, scratch, block};
 ghost use Rattle.dwt_extrapolate.specs.Transform.{inverseAnswer, inverseBuffer, inverseScratch};
 ghost use Rattle.dwt_extrapolate.specs.Refused.{InverseRefusals};

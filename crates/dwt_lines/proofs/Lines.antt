@@ -9,7 +9,8 @@ use lib.IntN.{ℤ, pos, negsuc, _+ℤ_}
 use lib.ListN.{length, getD, set, take, drop, length-set, length-drop, drop-of-length-le}
 use lib.Seq.{drop-cons, take-all, drop-drop, take-suc-set, sets, sets-eq}
 use Rattle.fixed.specs.Fixed.{halfTowardZero}
-use Rattle.dwt_lines.specs.Line.{edge, even, odd, half, mean, oddTail, from, line, Halves}
+use Rattle.dwt_lines.specs.Line.{edge, even, odd, half, mean, oddTail, from, line}
+use Rattle.dwt_lines.specs.Inner.{Halves}
 
 -- ════ one sample ════
 

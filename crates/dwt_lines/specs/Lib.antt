@@ -1,2 +1,3 @@
--- What the contracts of `dwt_lines` cite.
+-- What the contracts of `dwt_lines` cite, and `Inner` for inner functions.
 pub mod Line
+pub mod Inner

@@ -1,7 +1,7 @@
 -- The inverse wavelet of one line: its samples, of its low and its high half (docs/SCOPE.md, "Inverse wavelet").
 -- L and H are the places of the two halves, counted from 0.
 use mathlib.Core.List.{List, [], _∷_}
-use Prim.Native.Nat.{ℕ, _+_, _≤_}
+use Prim.Native.Nat.{_+_}
 use lib.IntN.{ℤ, pos, _+ℤ_, _-ℤ_, _*ℤ_}
 use Rattle.fixed.specs.Fixed.{wrapI16, halfTowardZero}
 
@@ -46,11 +46,3 @@ unfoldable pub line : List ℤ → List ℤ → List ℤ
 line (l ∷ ls) (h ∷ hs) = from (edge l h) h ls hs
 line [] hs = []
 line (l ∷ ls) [] = []
-
--- ════ what the functions require ════
-
--- so many low places and so many high ones make a line: 33/31, 17/16 and 9/8 do
-pub record Halves (low high : ℕ) : Type 0 where
-  pub some : 1 ≤ high
-  pub least : high ≤ low
-  pub most : low ≤ high + 2

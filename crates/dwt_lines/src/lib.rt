@@ -3,7 +3,8 @@ ghost use mathlib.Core.Path.{_≡_};
 ghost use mathlib.Core.List.{[]};
 ghost use Prim.Native.Nat.{_+_, _≤_};
 ghost use lib.ListN.{length};
-ghost use Rattle.dwt_lines.specs.Line.{edge, even, odd, half, mean, oddTail, from, line, Halves};
+ghost use Rattle.dwt_lines.specs.Line.{edge, even, odd, half, mean, oddTail, from, line};
+ghost use Rattle.dwt_lines.specs.Inner.{Halves};
 
 // ---- one sample. `fixed::t` keeps the low sixteen bits, and `/` rounds towards zero
 

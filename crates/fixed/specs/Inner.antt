@@ -1,4 +1,4 @@
--- What a private function of `fixed` computes. No public contract cites it.
+-- For an inner function only.
 use mathlib.Core.Bool.{cond}
 use Prim.Native.Nat.{ℕ, _*_, _^_}
 use lib.Dec.{leb, eqb}

@@ -1,3 +1,3 @@
--- What the contracts of `fixed` cite.
+-- What the contracts of `fixed` cite, and `Inner` for inner functions.
 pub mod Fixed
 pub mod Inner

@@ -9,7 +9,8 @@ use borrow.Rule.Slice.PartMut.{putMid, midOf}
 use lib.IntN.{ℤ}
 use lib.ListN.{length, drop}
 use Rattle.answer.specs.Refusals.{longEnough}
-use Rattle.planes.specs.Planes.{component, rowOf, joined, withComponent}
+use Rattle.planes.specs.Planes.{component, rowOf, joined}
+use Rattle.planes.specs.Inner.{withComponent}
 use Rattle.planes.proofs.Joined.{Long, upTo, joined-components, parts-long, component-joined, here, next}
 use Rattle.dequantizer.specs.Dequantize.{dequantizedAll, quantizers}
 use Rattle.dequantizer.proofs.Dequantized.{all-length}

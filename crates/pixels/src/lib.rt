@@ -4,7 +4,8 @@ ghost use mathlib.Core.Path.{_≡_};
 ghost use mathlib.Core.List.{_++_};
 ghost use Prim.Native.Nat.{_<_, _≤_};
 ghost use lib.ListN.{length, drop};
-ghost use Rattle.planes.specs.Planes.{component, joined, withComponent};
+ghost use Rattle.planes.specs.Planes.{component, joined};
+ghost use Rattle.planes.specs.Inner.{withComponent};
 ghost use Rattle.color.specs.Color.{picture};
 ghost use Rattle.pixels.specs.Pixels.{samples, samplesOf, rgba, pixelsAnswer, pixelsOut};
 

@@ -8,7 +8,7 @@ use native.Mathlib.Omega.{arith}
 use lib.Dec.{eqb}
 use lib.ListN.{length, getD, take, length-map}
 use lib.Seq.{length-take-le, take-suc}
-use Rattle.places.specs.Places.{placesOf, maskOf, onesOf}
+use Rattle.places.specs.Inner.{placesOf, maskOf, onesOf}
 
 pub map-append : (f : ℕ → ℕ) (a b : List ℕ) → map f (a ++ b) ≡ map f a ++ map f b
 map-append f [] b = refl

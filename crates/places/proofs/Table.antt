@@ -9,7 +9,7 @@ use native.Mathlib.Omega.{arith}
 use lib.Dec.{eqb}
 use lib.ListN.{length, getD, set, take, drop, replicate, length-append, length-drop, length-replicate, length-map, List·getD-map}
 use lib.Seq.{paste, paste-suc, take-paste, length-take-le, take-at, take-take, take-append-seam, take-append-add, drop-append-add, getD-take, getD-drop, getD-at}
-use Rattle.places.specs.Places.{onesOf, rowOf, rowsFrom, placeRows, Listed}
+use Rattle.places.specs.Inner.{onesOf, rowOf, rowsFrom, placeRows, Listed}
 
 -- at most k of k bits are ones
 pub ones-few : (k m : ℕ) → length (onesOf k m) ≤ k

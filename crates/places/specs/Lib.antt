@@ -1,2 +1,2 @@
--- What the contracts of `places` cite.
-pub mod Places
+-- What the contracts of `places` cite: it serves inner functions only.
+pub mod Inner

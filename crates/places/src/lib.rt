@@ -4,7 +4,7 @@ ghost use mathlib.Core.List.{map};
 ghost use Prim.Native.Nat.{_+_, _*_, _≤_, _<_};
 ghost use lib.ListN.{length, drop};
 ghost use lib.Seq.{paste};
-ghost use Rattle.places.specs.Places.{placeRows, Listed};
+ghost use Rattle.places.specs.Inner.{placeRows, Listed};
 
 // For each byte m a row of nine numbers: the places of its ones, the lowest first, zeros behind them, and last how many ones there are.
 const ROWS: [u8; 2304] = *b"\

@@ -30,9 +30,3 @@ of l k = getD l k []
 -- the first 4,096 of each of three slices: "longer is fine"
 abbrev pub taken : {A : Type 0} → List (List A) → List A
 taken l = joined (λ k. take 4096 (of l k))
-
--- ════ for inner functions ════
-
--- a list with another component k
-abbrev pub withComponent : {A : Type 0} → ℕ → List A → List A → List A
-withComponent k y l = take (k * 4096) l ++ (y ++ drop 4096 (drop (k * 4096) l))

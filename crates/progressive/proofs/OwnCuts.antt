@@ -20,7 +20,7 @@ use Rattle.srl.specs.Laws.{Legal, legal}
 use Rattle.upgrade_steps.specs.Steps.{Step, Source, skipped, srl, raw, source, sourceOf, steps, stepOf, srlWidth, srlWidths, rawWidth, rawWidths}
 use Rattle.answer.specs.Refusals.{longEnough}
 use Rattle.progressive_encoder.specs.Encode.{srlDifference, rawDifference, srlGiven, srlDifferences, rawGiven, rawDifferences, srlBytes, rawBytes, passFault, encodePassRefusal}
-use Rattle.progressive_encoder.specs.Writing.{anyTooLarge}
+use Rattle.progressive_encoder.specs.Inner.{anyTooLarge}
 use Rattle.progressive_encoder.proofs.WrittenValues.{fault-by-size}
 use Rattle.progressive.specs.Laws.{Small, small, Sent, towardZero}
 use Rattle.progressive.specs.OwnCuts.{OwnCut, OwnCuts, OwnCutsSent}

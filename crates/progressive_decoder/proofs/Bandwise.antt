@@ -13,7 +13,7 @@ use Rattle.upgrade_steps.proofs.Spans.{Lies, place-more}
 use Rattle.srl_decoder.specs.Srl.{start}
 use Rattle.srl_decoder.specs.Decode.{opened}
 use Rattle.upgrade_steps.specs.Steps.{Step}
-use Rattle.progressive_decoder.specs.Walk.{Walked, walked, walk, reached}
+use Rattle.progressive_decoder.specs.Inner.{Walked, walked, walk, reached}
 use Rattle.progressive_decoder.specs.declared.upgrade.Readers.{Readers}
 use Rattle.progressive_decoder.proofs.Walks.{parted, walk-part}
 

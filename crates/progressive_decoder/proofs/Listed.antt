@@ -13,13 +13,14 @@ use Rattle.bits.specs.Bits.{num}
 use Rattle.srl_decoder.specs.Srl.{Reader, reader, nonzero, behind, nextValue, nextReader}
 use Rattle.srl_decoder.specs.Inner.{Same}
 use Rattle.srl_decoder.proofs.Codes.{next-near}
-use Rattle.srl_rules.specs.Rules.{Width}
+use Rattle.srl_rules.specs.Inner.{Width}
 use Rattle.srl_rules.proofs.Widths.{pow-high}
-use Rattle.upgrade_steps.specs.Steps.{Step, Source, skipped, srl, raw, source, fromSrl}
+use Rattle.upgrade_steps.specs.Steps.{Step, Source, skipped, srl, raw, source}
+use Rattle.upgrade_steps.specs.Inner.{fromSrl}
 use Rattle.upgrade_steps.proofs.Sources.{source-srl, source-raw}
 use Rattle.progressive_decoder.specs.Upgrade.{srlCoefficient, srlSign, adds, rawCoefficient}
-use Rattle.places.specs.Places.{placesOf}
-use Rattle.progressive_decoder.specs.Walk.{Walked, walked, coefficientAt, signAt, readerAt, countAt, onto, walk, steppedFrom, over, srlPlaces, rawPlaces}
+use Rattle.places.specs.Inner.{placesOf}
+use Rattle.progressive_decoder.specs.Inner.{Walked, walked, coefficientAt, signAt, readerAt, countAt, onto, walk, steppedFrom, over, srlPlaces, rawPlaces}
 
 -- how far the readers have gone
 pub record Near (w : Walked) (m n : ℕ) : Type 0 where

@@ -10,11 +10,12 @@ use lib.IntN.{ℤ, pos}
 use lib.ListN.{length, getD, set, take}
 use lib.Seq.{length-take-le, take-length, take-suc-set, take-set-le, getD-take}
 use Rattle.fixed.specs.Fixed.{isZero}
-use Rattle.places.specs.Places.{placesOf, maskOf, onesOf, Listed}
+use Rattle.places.specs.Inner.{placesOf, maskOf, onesOf, Listed}
 use Rattle.places.proofs.Ones.{places-suc, places-more, mask-not, ones-both}
 use Rattle.places.proofs.Table.{listed-ones}
-use Rattle.upgrade_steps.specs.Steps.{Step, fromSrl}
-use Rattle.progressive_decoder.specs.Walk.{srlPlaces, rawPlaces, Split, Within}
+use Rattle.upgrade_steps.specs.Steps.{Step}
+use Rattle.upgrade_steps.specs.Inner.{fromSrl}
+use Rattle.progressive_decoder.specs.Inner.{srlPlaces, rawPlaces, Split, Within}
 
 -- a place stored behind the n that are in counts if it has the property
 stored : (f : ℤ → Bool) (ss : List ℤ) (i n z : ℕ) (l : List ℕ) → i < length ss → n < length l → take n l ≡ placesOf f (take i ss)

@@ -6,7 +6,7 @@ use native.Mathlib.Numerals.{add-one}
 use lib.IntN.{ℤ}
 use Rattle.fixed.specs.Fixed.{withSign}
 use Rattle.progressive_decoder.specs.Upgrade.{srlCoefficient, srlSign, rawCoefficient}
-use Rattle.progressive_decoder.specs.Walk.{signBy}
+use Rattle.progressive_decoder.specs.Inner.{signBy}
 
 -- it is added or subtracted as a raw number is
 pub moved-by : (b : Bool) (q z : ℕ) (c : ℤ) → srlCoefficient q (withSign b (z + 1)) c ≡ rawCoefficient (not b) q (z + 1) c

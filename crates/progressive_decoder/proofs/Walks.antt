@@ -10,7 +10,7 @@ use Rattle.bits.specs.Bits.{num, numbers}
 use Rattle.srl_decoder.specs.Srl.{Reader, nextValue, nextReader, values}
 use Rattle.upgrade_steps.specs.Steps.{Step, Source, skipped, srl, raw, source, srlWidth, srlWidths, rawWidth, rawWidths}
 use Rattle.progressive_decoder.specs.Upgrade.{srlCoefficient, srlSign, adds, rawCoefficient, signThen, signsAfter, coefficientThen, coefficientsAfter}
-use Rattle.progressive_decoder.specs.Walk.{Walked, walked, coefficientAt, signAt, readerAt, countAt, onto, walk, Early}
+use Rattle.progressive_decoder.specs.Inner.{Walked, walked, coefficientAt, signAt, readerAt, countAt, onto, walk, Early}
 use Rattle.progressive_decoder.specs.declared.upgrade.Readers.{Readers}
 use Rattle.upgrade_steps.proofs.Sources.{source-none}
 

@@ -1,3 +1,3 @@
--- What the contracts of `progressive_decoder` cite.
+-- What the contracts of `progressive_decoder` cite, and `Inner` for inner functions.
 pub mod Upgrade
-pub mod Walk
+pub mod Inner

@@ -5,9 +5,10 @@ ghost use Prim.Native.Nat.{_+_, _≤_, _<_};
 ghost use lib.IntN.{pos};
 ghost use lib.ListN.{length, getD};
 ghost use Rattle.fixed.specs.Fixed.{isZero};
-ghost use Rattle.places.specs.Places.{maskOf, placeRows};
-ghost use Rattle.upgrade_steps.specs.Steps.{Step, bandStep, fromSrl};
-ghost use Rattle.progressive_decoder.specs.Walk.{Split};
+ghost use Rattle.places.specs.Inner.{maskOf, placeRows};
+ghost use Rattle.upgrade_steps.specs.Steps.{Step};
+ghost use Rattle.upgrade_steps.specs.Inner.{bandStep, fromSrl};
+ghost use Rattle.progressive_decoder.specs.Inner.{Split};
 
 // 1 where the sign is 0, and 0 where it is not.
 fn zero_count(sign: &[i8], i: usize) -> usize

@@ -6,15 +6,16 @@ ghost use Prim.Native.Nat.{ℕ, _+_, _-_, _*_, _%_, _^_, _≤_, _<_};
 ghost use lib.IntN.{pos};
 ghost use lib.ListN.{length, getD, set, take, replicate};
 ghost use Rattle.bits.specs.Bits.{bitAt, zeros, bitsRead};
-ghost use Rattle.bits.specs.Words.{Top, Front};
+ghost use Rattle.bits.specs.Inner.{Top, Front};
 ghost use Rattle.srl_decoder.specs.Srl.{Reader, mostZeros, behind};
 ghost use Rattle.srl_decoder.specs.Decode.{opened};
-ghost use Rattle.srl_rules.specs.Rules.{Width};
-ghost use Rattle.places.specs.Places.{placeRows};
+ghost use Rattle.srl_rules.specs.Inner.{Width};
+ghost use Rattle.places.specs.Inner.{placeRows};
 ghost use Rattle.bands.specs.Positions.{rowInDomain};
-ghost use Rattle.upgrade_steps.specs.Steps.{steps, bandStep, srl, raw};
+ghost use Rattle.upgrade_steps.specs.Steps.{steps, srl, raw};
+ghost use Rattle.upgrade_steps.specs.Inner.{bandStep};
 ghost use Rattle.progressive_decoder.specs.Upgrade.{adds, rawCoefficient, upgradedCoefficients, upgradedSigns};
-ghost use Rattle.progressive_decoder.specs.Walk.{walked, walk, over, reached, signBy, Within, Early};
+ghost use Rattle.progressive_decoder.specs.Inner.{walked, walk, over, reached, signBy, Within, Early};
 
 // A reader for each stream: the SRL decoder's state, and the count of raw bits read.
 pub struct Readers {

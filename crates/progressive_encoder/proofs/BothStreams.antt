@@ -12,7 +12,7 @@ use Rattle.srl_rules.specs.Rules.{stored}
 use Rattle.srl_encoder.specs.Encode.{firstOf}
 use Rattle.srl_encoder.proofs.EncodedCalls.{stored-some}
 use Rattle.progressive_encoder.specs.Encode.{srlStream, rawStream, written}
-use Rattle.progressive_encoder.specs.Writing.{Lists, anyTooLarge, listsRefusal, listsAnswer, listsSrlOut, listsRawOut}
+use Rattle.progressive_encoder.specs.Inner.{Lists, anyTooLarge, listsRefusal, listsAnswer, listsSrlOut, listsRawOut}
 use Rattle.progressive_encoder.specs.declared.Written.the-variants.{Bytes, Refused}
 use Rattle.progressive_encoder.proofs.WrittenValues.{fault-by-size}
 

@@ -14,9 +14,10 @@ use Rattle.bands.specs.Positions.{rowInDomain}
 use Rattle.bands.proofs.Every.{low-position}
 use Rattle.bands.proofs.Laid.{band-within}
 use Rattle.bands.proofs.Spread.{perPlaceTo, place-none, place-count, place-all, place-whole}
-use Rattle.upgrade_steps.specs.Steps.{Step, Source, skipped, srl, raw, source, stepOf, steps, srlWidth, srlWidths, rawWidth, rawWidths, fromSrl}
+use Rattle.upgrade_steps.specs.Steps.{Step, Source, skipped, srl, raw, source, stepOf, steps, srlWidth, srlWidths, rawWidth, rawWidths}
+use Rattle.upgrade_steps.specs.Inner.{fromSrl}
 use Rattle.progressive_encoder.specs.Encode.{srlDifference, rawDifference, srlGiven, rawGiven, srlDifferences, rawDifferences}
-use Rattle.progressive_encoder.specs.Writing.{Lists, lists, passLists, placeLists, bandLists, Long, Lent}
+use Rattle.progressive_encoder.specs.Inner.{Lists, lists, passLists, placeLists, bandLists, Long, Lent}
 use Rattle.upgrade_steps.proofs.Spans.{Lies, place-more, more-length}
 use Rattle.upgrade_steps.proofs.Sources.{source-srl, source-raw, source-none}
 

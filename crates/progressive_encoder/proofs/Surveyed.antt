@@ -13,10 +13,11 @@ use Rattle.bits.specs.Written.{bitsOf, bitsOfAll}
 use Rattle.bits.proofs.Puts.{length-bitsOf}
 use Rattle.bits.proofs.Packed.{length-pack}
 use Rattle.fixed.specs.Fixed.{isZero}
-use Rattle.srl_encoder.specs.EncodeInner.{largest}
-use Rattle.upgrade_steps.specs.Steps.{Step, Source, skipped, srl, raw, sourceOf, source, fromSrl}
+use Rattle.srl_encoder.specs.Inner.{largest}
+use Rattle.upgrade_steps.specs.Steps.{Step, Source, skipped, srl, raw, sourceOf, source}
+use Rattle.upgrade_steps.specs.Inner.{fromSrl}
 use Rattle.progressive_encoder.specs.Encode.{srlDifference, rawDifference, srlGiven, rawGiven, rawStream}
-use Rattle.progressive_encoder.specs.Writing.{Lists, placeLists, bandLists, Lent, oneIf, onlyIf, magnitudes, anyTooLarge, surveyOf, Counts, Surveys, noTotal, Few}
+use Rattle.progressive_encoder.specs.Inner.{Lists, placeLists, bandLists, Lent, oneIf, onlyIf, magnitudes, anyTooLarge, surveyOf, Counts, Surveys, noTotal, Few}
 use Rattle.progressive_encoder.specs.declared.writer.Survey.{Survey}
 use Rattle.progressive_encoder.specs.declared.writer.Total.{Total}
 use Rattle.progressive_encoder.proofs.Placewise.{Placewise, given, chain, of-band, place-srl, place-raw}

@@ -12,22 +12,24 @@ use lib.IntN.{ℤ, pos, negsuc, natAbs, _-ℤ_, +ℤ-invr}
 use lib.ListN.{length, set, length-append}
 use lib.Seq.{sets}
 use Rattle.fixed.specs.Fixed.{clampI16, floorShift}
-use Rattle.bits.specs.Written.{bitsOf, bitsOfAll, after, write, counted, pack, padCount, padOut}
+use Rattle.bits.specs.Written.{bitsOf, bitsOfAll, after, pack}
+use Rattle.bits.specs.Inner.{write, counted, padCount, padOut}
 use Rattle.bits.specs.declared.writer.BitWriter.{BitWriter}
 use Rattle.bits.specs.declared.writer.BitCount.{BitCount}
 use Rattle.bits.proofs.Puts.{after-append, write-append, after-sound, after-at, wrote-sound, wrote-at, length-bitsOf}
 use Rattle.bits.proofs.Packed.{counted-none, counted-two, length-pack, sets-append, padded}
 use Rattle.srl_encoder.specs.Encode.{valueBits, valueKp, valueZeros, firstOf}
 use Rattle.srl_encoder.specs.Finish.{flush, streamBits}
-use Rattle.srl_encoder.specs.EncodeInner.{valueState, valueWrite, valueMeasure, placeOf}
+use Rattle.srl_encoder.specs.Inner.{valueState, valueWrite, valueMeasure, placeOf}
 use Rattle.srl_encoder.specs.declared.encoder.CallState.{CallState}
 use Rattle.srl_encoder.specs.declared.encoder.Measured.{Measured}
 use Rattle.srl_encoder.proofs.EncodedValues.{value-kp, value-zeros}
 use Rattle.srl_encoder.proofs.Runs.{length-flush}
 use Rattle.srl_encoder.proofs.Sizes.{value-length}
-use Rattle.upgrade_steps.specs.Steps.{Step, fromSrl}
+use Rattle.upgrade_steps.specs.Steps.{Step}
+use Rattle.upgrade_steps.specs.Inner.{fromSrl}
 use Rattle.progressive_encoder.specs.Encode.{srlDifference, rawDifference, valuesFault, srlStream, rawStream}
-use Rattle.progressive_encoder.specs.Writing.{Lists, placeLists, anyTooLarge, magnitudes, measuredOf, endCount, Measures, Measurable, freshSinks, streamAfter, streamWrite, endLength, endOut, Outputs, outputs, Stores, Writable}
+use Rattle.progressive_encoder.specs.Inner.{Lists, placeLists, anyTooLarge, magnitudes, measuredOf, endCount, Measures, Measurable, freshSinks, streamAfter, streamWrite, endLength, endOut, Outputs, outputs, Stores, Writable}
 use Rattle.progressive_encoder.specs.declared.writer.Sinks.{Sinks}
 use Rattle.progressive_encoder.proofs.Placewise.{Placewise, chain, place-srl, place-raw}
 

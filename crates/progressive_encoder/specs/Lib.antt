@@ -1,3 +1,3 @@
--- What the contracts of `progressive_encoder` cite.
+-- What the contracts of `progressive_encoder` cite, and `Inner` for inner functions.
 pub mod Encode
-pub mod Writing
+pub mod Inner

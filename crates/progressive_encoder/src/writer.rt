@@ -8,11 +8,12 @@ ghost use lib.IntN.{pos};
 ghost use lib.ListN.{length};
 ghost use lib.Seq.{sets};
 ghost use Rattle.bands.specs.Positions.{rowInDomain};
-ghost use Rattle.srl_rules.specs.Rules.{Width};
-ghost use Rattle.srl_encoder.specs.EncodeInner.{Good};
-ghost use Rattle.upgrade_steps.specs.Steps.{steps, bandStep};
+ghost use Rattle.srl_rules.specs.Inner.{Width};
+ghost use Rattle.srl_encoder.specs.Inner.{Good};
+ghost use Rattle.upgrade_steps.specs.Steps.{steps};
+ghost use Rattle.upgrade_steps.specs.Inner.{bandStep};
 ghost use Rattle.progressive_encoder.specs.Encode.{srlDifference, rawDifference, srlBytes, rawBytes, written};
-ghost use Rattle.progressive_encoder.specs.Writing.{passLists, placeLists, bandLists, Long, Lent, oneIf, onlyIf, surveyOf, Counts, Surveys, noTotal, Few, measuredOf, Measures, Measurable, sinksOf, freshSinks, outputs, Stores, Writable, endLength, endOut, listsAnswer, listsSrlOut, listsRawOut};
+ghost use Rattle.progressive_encoder.specs.Inner.{passLists, placeLists, bandLists, Long, Lent, oneIf, onlyIf, surveyOf, Counts, Surveys, noTotal, Few, measuredOf, Measures, Measurable, sinksOf, freshSinks, outputs, Stores, Writable, endLength, endOut, listsAnswer, listsSrlOut, listsRawOut};
 use crate::Written;
 
 // What a band has for the SRL stream: how many values, the sum of their magnitudes, and the largest.

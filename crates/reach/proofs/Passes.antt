@@ -20,7 +20,7 @@ use Rattle.srl.proofs.Magnitudes.{magnitudes as read-magnitudes}
 use Rattle.upgrade_steps.specs.Steps.{Step, stepOf, Source, skipped, srl, raw, source, sourceOf, srlWidth, srlWidths, rawWidth, rawWidths}
 use Rattle.progressive_decoder.specs.Upgrade.{signThen, signsAfter, coefficientThen, coefficientsAfter, srlValues, rawNumbers, upgradedSigns, upgradedCoefficients}
 use Rattle.progressive.specs.Laws.{Small, small}
-use Rattle.progressive_encoder.specs.Writing.{magnitudes}
+use Rattle.progressive_encoder.specs.Inner.{magnitudes}
 use Rattle.progressive_encoder.specs.Encode.{srlStream, rawStream}
 use Rattle.progressive.proofs.Regained.{read-values, read-numbers}
 use Rattle.bits.proofs.Holds.{pack-holds}

@@ -9,7 +9,7 @@ use Rattle.bits.proofs.Numbers.{Bytes}
 use Rattle.bits.proofs.Packed.{length-pack, bytes-none, bytes-cons, bytes-append, pack-bytes}
 use Rattle.srl_encoder.specs.Finish.{streamBits}
 use Rattle.progressive_encoder.specs.Encode.{srlStream, rawStream}
-use Rattle.progressive_encoder.specs.Writing.{magnitudes}
+use Rattle.progressive_encoder.specs.Inner.{magnitudes}
 use Rattle.progressive_encoder.proofs.WrittenValues.{surely}
 
 -- bytes for n places, at most 4,098 for each and a few more

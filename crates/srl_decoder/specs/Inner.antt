@@ -1,4 +1,4 @@
--- What the inner functions of the decoder ask and promise.
+-- For inner functions only: what those of the decoder ask and promise.
 use mathlib.Core.Path.{_≡_}
 use mathlib.Core.Bool.{Bool, false, cond}
 use mathlib.Core.List.{List}

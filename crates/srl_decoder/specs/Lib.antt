@@ -1,4 +1,4 @@
--- What the contracts of `srl_decoder` cite.
+-- What the contracts of `srl_decoder` cite, and `Inner` for inner functions.
 pub mod Srl
 pub mod Decode
 pub mod Inner

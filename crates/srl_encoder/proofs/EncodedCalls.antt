@@ -10,14 +10,15 @@ use lib.IntN.{ℤ, pos, negsuc}
 use lib.ListN.{length, drop, set, length-append}
 use lib.Seq.{sets}
 use borrow.Author.Tests.{ltb-true, leb-true}
-use Rattle.bits.specs.Written.{pack, Sound, Room, after, write, padCount, padOut, counted}
+use Rattle.bits.specs.Written.{pack, after}
+use Rattle.bits.specs.Inner.{Sound, Room, write, padCount, padOut, counted}
 use Rattle.bits.specs.declared.writer.BitWriter.{BitWriter}
 use Rattle.bits.proofs.Puts.{after-sound, after-append, write-append, Wrote, wrote-sound, wrote-at}
 use Rattle.bits.proofs.Packed.{write-whole, after-whole, count-after, counted-two, sets-start, sets-append, pad-count, pad-out}
 use Rattle.srl_rules.specs.Rules.{widthOk, noRoom, stored}
 use Rattle.srl_encoder.specs.Encode.{valueBits, valueKp, valueZeros, callBits, callKp, callZeros, sink, bitsFrom, callBytes, callAfter, valueFault, firstOf, fault, writerOk, encodeRefusal, encoded, encodeAnswer, encodeOut}
 use Rattle.srl_encoder.specs.Finish.{flush, finishBytes}
-use Rattle.srl_encoder.specs.EncodeInner.{callStart, measureStart, writerOf, valueState, valueWrite, callState, callWrite, placeOf, valueMeasure, callCount, GoodWriter}
+use Rattle.srl_encoder.specs.Inner.{callStart, measureStart, writerOf, valueState, valueWrite, callState, callWrite, placeOf, valueMeasure, callCount, GoodWriter}
 use Rattle.srl_encoder.specs.declared.SrlWriter.{SrlWriter}
 use Rattle.srl_encoder.specs.declared.Encoded.the-variants.{Bytes, Refused}
 use Rattle.srl_encoder.specs.declared.encoder.CallState.{CallState}

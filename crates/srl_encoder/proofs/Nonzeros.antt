@@ -12,7 +12,7 @@ use Rattle.bits.specs.Bits.{bitOf}
 use Rattle.bits.specs.Written.{bitsOf}
 use Rattle.bits.proofs.Puts.{length-bitsOf, bits-append, bits-join, bits-zero}
 use Rattle.srl_encoder.specs.Encode.{stop, nonzeroBits}
-use Rattle.srl_encoder.specs.EncodeInner.{stopCount, planBits, GoodPlan}
+use Rattle.srl_encoder.specs.Inner.{stopCount, planBits, GoodPlan}
 use Rattle.srl_encoder.specs.declared.encoder.RunPlan.{RunPlan}
 use Rattle.srl_encoder.proofs.Runs.{plan-word}
 

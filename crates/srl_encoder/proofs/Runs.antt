@@ -14,7 +14,7 @@ use Rattle.bits.specs.Written.{bitsOf}
 use Rattle.bits.proofs.Puts.{length-bitsOf, bits-append, bits-join, bits-zero}
 use Rattle.srl_encoder.specs.Encode.{runBits, runKp}
 use Rattle.srl_encoder.specs.Finish.{flush}
-use Rattle.srl_encoder.specs.EncodeInner.{planBits, GoodPlan}
+use Rattle.srl_encoder.specs.Inner.{planBits, GoodPlan}
 use Rattle.srl_encoder.specs.declared.encoder.RunPlan.{RunPlan}
 
 -- the bound on the steps of a run does not matter once it is above the zeros

@@ -9,9 +9,9 @@ use borrow.Author.Tests.{lt-ltb}
 use lib.Dec.{ltb}
 use lib.IntN.{ℤ, pos, negsuc, natAbs}
 use lib.ListN.{length, length-append}
-use Rattle.srl_rules.specs.Rules.{Width}
+use Rattle.srl_rules.specs.Inner.{Width}
 use Rattle.srl_encoder.specs.Encode.{nonzeroBits, runBits, valueBits, valueKp, valueZeros, callBits, callBytes, valueFault, firstOf, fault}
-use Rattle.srl_encoder.specs.EncodeInner.{largest, GoodWriter}
+use Rattle.srl_encoder.specs.Inner.{largest, GoodWriter}
 use Rattle.srl_encoder.specs.declared.SrlWriter.{SrlWriter}
 use Rattle.srl_encoder.proofs.EncodedCalls.{call-count}
 use Rattle.srl_encoder.proofs.EncodedValues.{value-kp, first-none, passes}

@@ -1,4 +1,4 @@
--- What the contracts of `srl_encoder` cite.
+-- What the contracts of `srl_encoder` cite, and `Inner` for inner functions.
 pub mod Encode
 pub mod Finish
-pub mod EncodeInner
+pub mod Inner

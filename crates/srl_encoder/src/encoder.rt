@@ -7,11 +7,12 @@ ghost use lib.Dec.{ltb};
 ghost use lib.ListN.{length};
 ghost use lib.Seq.{sets};
 ghost use Rattle.bits.specs.Bits.{bitOf};
-ghost use Rattle.bits.specs.Written.{Sound, Room, after, write};
-ghost use Rattle.srl_rules.specs.Rules.{Width};
+ghost use Rattle.bits.specs.Written.{after};
+ghost use Rattle.bits.specs.Inner.{Sound, Room, write};
+ghost use Rattle.srl_rules.specs.Inner.{Width};
 ghost use Rattle.srl_encoder.specs.Encode.{callBytes, nonzeroBits, valueZeros, writerOk, valueFault, fault};
 ghost use Rattle.srl_encoder.specs.Finish.{flush, finishBytes};
-ghost use Rattle.srl_encoder.specs.EncodeInner.{largest, planBits, GoodPlan, Planned, stopCount, callStart, callOf, writerOf, valueState, callState, valueWrite, callWrite, measureStart, valueMeasure, callCount, Good, GoodMeasure, GoodWriter};
+ghost use Rattle.srl_encoder.specs.Inner.{largest, planBits, GoodPlan, Planned, stopCount, callStart, callOf, writerOf, valueState, callState, valueWrite, callWrite, measureStart, valueMeasure, callCount, Good, GoodMeasure, GoodWriter};
 use crate::MAX_ZERO_RUN;
 use crate::SrlWriter;
 

@@ -10,14 +10,15 @@ use lib.IntN.{ℤ}
 use lib.ListN.{length, set, length-append}
 use lib.Seq.{sets}
 use borrow.Author.Tests.{lt-ltb, le-ltb, ltb-true, ltb-false}
-use Rattle.bits.specs.Written.{pack, writer, Sound, Room, after, write, padCount, padOut}
+use Rattle.bits.specs.Written.{pack, writer, after}
+use Rattle.bits.specs.Inner.{Sound, Room, write, padCount, padOut}
 use Rattle.bits.specs.declared.writer.BitWriter.{BitWriter}
 use Rattle.bits.proofs.Puts.{Wrote, then, wrote-sound, wrote-at}
 use Rattle.bits.proofs.Packed.{pack-append, sets-append, sets-start, padded}
 use Rattle.srl_rules.specs.Rules.{widthOk, noRoom, stored}
 use Rattle.srl_encoder.specs.Encode.{freshWriter, bitsFrom, callBytes, callAfter, firstOf, fault}
 use Rattle.srl_encoder.specs.Finish.{flush, finishBytes, finished}
-use Rattle.srl_encoder.specs.EncodeInner.{callStart, callState, callWrite, GoodWriter, Good}
+use Rattle.srl_encoder.specs.Inner.{callStart, callState, callWrite, GoodWriter, Good}
 use Rattle.srl_encoder.specs.declared.SrlWriter.{SrlWriter}
 use Rattle.srl_encoder.specs.declared.Finished.the-variants.{Stream, Refused}
 use Rattle.srl_encoder.specs.declared.encoder.CallState.{CallState}

@@ -7,7 +7,6 @@ use Rattle.srl_decoder.specs.declared.SrlState.{SrlState}
 use Rattle.srl_decoder.specs.declared.Decoded.{Decoded}
 use Rattle.srl_decoder.specs.declared.Decoded.the-variants as D
 use Rattle.srl_held.specs.declared.SrlDecoder.{SrlDecoder}
-use Rattle.srl_held.specs.declared.Parts.{Parts}
 use Rattle.srl_held.specs.declared.DecodedBy.{DecodedBy}
 use Rattle.srl_held.specs.declared.Outcome.{Outcome}
 use Rattle.srl_held.specs.declared.Outcome.the-variants as O
@@ -34,9 +33,3 @@ outcomeCount (O.Refused k) = 0
 -- "a call then answers as on that stream and state, and leaves the decoder at the new state"
 abbrev pub decodedBy : RefT (List ℕ) → Decoded → DecodedBy
 decodedBy src r = record { outcome = outcome r; decoder = decoderAt src (decodedState r) }
-
--- ════ for an inner function ════
-
--- the answer and the state apart
-abbrev pub parts : Decoded → Parts
-parts r = record { outcome = outcome r; state = decodedState r }

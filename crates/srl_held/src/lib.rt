@@ -6,10 +6,11 @@ ghost use Prim.Native.Nat.{_^_, _<_};
 ghost use lib.Dec.{ltb};
 ghost use lib.ListN.{length};
 ghost use lib.Seq.{sets};
-ghost use Rattle.srl_rules.specs.Rules.{Width};
+ghost use Rattle.srl_rules.specs.Inner.{Width};
 ghost use Rattle.srl_decoder.specs.Decode.{startState, decodeAnswer, decodeOut};
 ghost use Rattle.srl_encoder.specs.Encode.{fault};
-ghost use Rattle.srl_held.specs.Held.{decoderAt, parts, decodedBy};
+ghost use Rattle.srl_held.specs.Held.{decoderAt, decodedBy};
+ghost use Rattle.srl_held.specs.Inner.{parts};
 ghost use Rattle.srl_held.specs.Stream.{streamBytes, streamAnswer, streamOut};
 
 // The decoder of a stream: the stream, and where it stands.

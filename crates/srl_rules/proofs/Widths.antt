@@ -5,7 +5,8 @@ use Prim.Native.Nat.{ℕ, _^_, _≤_}
 use lib.Dec.{leb}
 use lib.Pow.{pow-mono}
 use borrow.Author.Tests.{leb-true}
-use Rattle.srl_rules.specs.Rules.{widthOk, Width}
+use Rattle.srl_rules.specs.Rules.{widthOk}
+use Rattle.srl_rules.specs.Inner.{Width}
 
 -- both of two tests
 pub both : (a b : Bool) → (a && b) ≡ true → (a ≡ true) × (b ≡ true)

@@ -1,2 +1,3 @@
--- What the contracts of both SRL coders cite.
+-- What the contracts of both SRL coders cite, and `Inner` for inner functions.
 pub mod Rules
+pub mod Inner

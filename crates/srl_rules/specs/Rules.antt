@@ -1,7 +1,7 @@
 -- What the calls of both SRL coders share: the widths that a nonzero value can have, and what an output holds after a call (docs/SCOPE.md, "SRL", "Refusals").
 use mathlib.Core.Bool.{Bool, cond, _&&_}
 use mathlib.Core.List.{List, _++_}
-use Prim.Native.Nat.{ℕ, zero, suc, _≤_}
+use Prim.Native.Nat.{ℕ, zero, suc}
 use lib.Dec.{ltb, leb}
 use lib.ListN.{length, drop}
 
@@ -21,9 +21,3 @@ noRoom room n = cond (ltb room n) 7 0
 abbrev pub stored : {A : Type 0} → ℕ → List A → List A → List A
 stored zero xs out = xs ++ drop (length xs) out
 stored (suc k) xs out = out
-
--- ════ what inner functions ask ════
-
--- a width that a nonzero value can have
-abbrev pub Width : ℕ → Type 0
-Width w = (1 ≤ w) × (w ≤ 15)

@@ -2,7 +2,8 @@
 // These are parts of the coders, not of the port's interface.
 ghost use mathlib.Core.Path.{_≡_};
 ghost use Prim.Native.Nat.{_+_, _-_, _/_, _^_, min};
-ghost use Rattle.srl_rules.specs.Rules.{widthOk, Width};
+ghost use Rattle.srl_rules.specs.Rules.{widthOk};
+ghost use Rattle.srl_rules.specs.Inner.{Width};
 
 // kp at the start of a stream.
 pub const INITIAL_KP: u8 = 8;

@@ -5,7 +5,8 @@ use Prim.Native.Nat.{ℕ, zero, suc, _≤_}
 use native.Mathlib.Omega.{arith}
 use lib.IntN.{ℤ}
 use Rattle.fixed.specs.Fixed.{isZero}
-use Rattle.upgrade_steps.specs.Steps.{Step, skipped, srl, raw, sourceOf, source, fromSrl}
+use Rattle.upgrade_steps.specs.Steps.{Step, skipped, srl, raw, sourceOf, source}
+use Rattle.upgrade_steps.specs.Inner.{fromSrl}
 
 -- in a band that is not skipped
 

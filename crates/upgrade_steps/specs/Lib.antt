@@ -1,2 +1,3 @@
--- What the contracts of the reader and of the writer of a pass cite.
+-- What the contracts of the reader and of the writer of a pass cite, and `Inner` for inner functions.
 pub mod Steps
+pub mod Inner

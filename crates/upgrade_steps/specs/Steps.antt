@@ -1,6 +1,6 @@
 -- The steps of an upgrade pass over one component, and where each place's value comes from (docs/SCOPE.md, "Upgrade pass"): what the reader and the
 -- writer of a pass share. A pass is a list of steps, one for each place. Everything below holds for every list of steps.
-use mathlib.Core.Bool.{Bool, true, false, cond}
+use mathlib.Core.Bool.{Bool, true, false}
 use mathlib.Core.List.{List, [], _∷_}
 use Prim.Native.Nat.{ℕ, zero, suc, _-_}
 use lib.Dec.{eqb}
@@ -8,7 +8,6 @@ use lib.IntN.{ℤ}
 use lib.ListN.{getD}
 use Rattle.fixed.specs.Fixed.{isZero}
 use Rattle.bands.specs.Bands.{perPlace}
-use Rattle.upgrade_steps.specs.declared.BandStep.{BandStep}
 
 -- ════ the steps of a pass ════
 
@@ -73,13 +72,3 @@ unfoldable pub rawWidths : List Step → List ℤ → List ℕ
 rawWidths [] ss = []
 rawWidths (t ∷ ts) [] = []
 rawWidths (t ∷ ts) (s ∷ ss) = rawWidth (source t s) (t .width) (rawWidths ts ss)
-
--- ════ for inner functions ════
-
--- what the code has for the step of a band
-abbrev pub bandStep : BandStep → Step
-bandStep t = record { bottom = t .bottom; width = t .width; position = t .position }
-
--- a place of a band that is not skipped has an SRL value
-abbrev pub fromSrl : Step → ℤ → Bool
-fromSrl t s = cond (t .bottom) false (isZero s)

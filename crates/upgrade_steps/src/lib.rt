@@ -3,7 +3,8 @@
 
 ghost use mathlib.Core.Path.{_≡_};
 ghost use Prim.Native.Nat.{_-_};
-ghost use Rattle.upgrade_steps.specs.Steps.{stepAt, bandStep, fromSrl};
+ghost use Rattle.upgrade_steps.specs.Steps.{stepAt};
+ghost use Rattle.upgrade_steps.specs.Inner.{bandStep, fromSrl};
 
 pub mod positions;
 pub mod span;

@@ -5,7 +5,7 @@ use Prim.Native.Nat.{ℕ, _+_, _*_, _≤_}
 use native.Mathlib.Omega.{arith}
 use lib.ListN.{length, getD, drop}
 use lib.Seq.{paste}
-use Rattle.places.specs.Places.{onesOf}
+use Rattle.places.specs.Inner.{onesOf}
 use Rattle.places.proofs.Table.{ones-few, rows-length, row-count, row-stored}
 use borrow.Author.Needs.{needs}
 use Rattle.places.proofs.put_ones.Statement.{statement}

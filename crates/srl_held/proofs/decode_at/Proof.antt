@@ -1,7 +1,7 @@
 -- `srl_held::decode_at` meets its contract: the answer is that of `srl_decoder::decode`, taken apart. Assumes nothing.
 use mathlib.Core.Path.{sym, ap, _∙_}
 use borrow.Author.Needs.{needs}
-use Rattle.srl_held.specs.Held.{parts}
+use Rattle.srl_held.specs.Inner.{parts}
 use Rattle.srl_held.proofs.decode_at.Statement.{statement}
 use Rattle.srl_held.proofs.decode_at.Tie as tie
 

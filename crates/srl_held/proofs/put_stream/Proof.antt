@@ -6,7 +6,7 @@ use lib.ListN.{length, set}
 use lib.Seq.{sets}
 use borrow.Author.Needs.{needs}
 use Rattle.srl_encoder.specs.Encode.{freshWriter}
-use Rattle.srl_encoder.specs.EncodeInner.{callStart, callState}
+use Rattle.srl_encoder.specs.Inner.{callStart, callState}
 use Rattle.srl_encoder.proofs.EncodedCalls.{call-sink}
 use Rattle.srl_held.specs.Stream.{streamBytes}
 use Rattle.srl_held.proofs.WholeStreams.{fresh-good, flush-room, pad-room, stream-length, stream-out}

@@ -8,7 +8,7 @@ use borrow.Author.Tests.{ltb-false}
 use borrow.Author.Needs.{needs}
 use Rattle.srl_encoder.specs.Encode.{freshWriter, callBytes, callAfter}
 use Rattle.srl_encoder.specs.Finish.{finishBytes}
-use Rattle.srl_encoder.specs.EncodeInner.{callStart, callState, writerOf}
+use Rattle.srl_encoder.specs.Inner.{callStart, callState, writerOf}
 use Rattle.srl_encoder.proofs.EncodedCalls.{call-sink}
 use Rattle.srl_held.proofs.WholeStreams.{fresh-good, last-good, values-exceed, end-exceeds}
 use Rattle.srl_held.proofs.stream_exceeds.Statement.{statement}

@@ -3,7 +3,7 @@ use mathlib.Core.Path.{ap, subst}
 use Prim.Native.Nat.{_-_, _%_}
 use native.Mathlib.Omega.{arith}
 use Rattle.bits.specs.Bits.{bitsRead}
-use Rattle.bits.specs.Words.{Top}
+use Rattle.bits.specs.Inner.{Top}
 use Rattle.bits.specs.declared.reader.BitReader.{BitReader}
 use Rattle.bits.proofs.Places.{read-place}
 use borrow.Author.Needs.{needs}

@@ -3,7 +3,7 @@ use mathlib.Core.Path.{_≡_, ap, _∙_}
 use Prim.Native.Nat.{ℕ, _+_, _-_}
 use native.Mathlib.Omega.{arith}
 use Rattle.bits.specs.Bits.{zeros, bitsRead}
-use Rattle.bits.specs.Words.{Top}
+use Rattle.bits.specs.Inner.{Top}
 use Rattle.bits.specs.declared.reader.BitReader.{BitReader}
 use Rattle.bits.proofs.Ones.{zeros-min}
 use Rattle.bits.proofs.Tops.{top-skip, top-zeros}

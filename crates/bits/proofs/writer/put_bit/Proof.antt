@@ -8,7 +8,7 @@ use lib.Pow.{pow-mono}
 use borrow.Author.Needs.{needs}
 use borrow.Author.Tests.{eq-eqb, ne-eqb}
 use Rattle.bits.specs.declared.writer.BitWriter.{BitWriter}
-use Rattle.bits.specs.Written.{Sound}
+use Rattle.bits.specs.Inner.{Sound}
 use Rattle.bits.proofs.Numbers.{bit-le}
 use Rattle.bits.proofs.writer.put_bit.Statement.{statement}
 use Rattle.bits.proofs.writer.put_bit.Tie as tie

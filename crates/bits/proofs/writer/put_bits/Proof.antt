@@ -3,7 +3,8 @@ use mathlib.Core.Path.{ap, _∙_}
 use Prim.Native.Nat.{_+_, _-_}
 use native.Mathlib.Omega.{arith}
 use borrow.Author.Needs.{needs}
-use Rattle.bits.specs.Written.{bitsOf, writer, write}
+use Rattle.bits.specs.Written.{bitsOf, writer}
+use Rattle.bits.specs.Inner.{write}
 use Rattle.bits.proofs.Puts.{renamed, behind, byte-then}
 use Rattle.bits.proofs.writer.put_bits.Statement.{statement}
 use Rattle.bits.proofs.writer.put_bits.Tie as tie

@@ -4,7 +4,8 @@ use mathlib.Core.Bool.{false}
 use Prim.Native.Nat.{_+_, _-_, _*_, _^_, _<_}
 use native.Mathlib.Omega.{arith}
 use lib.ListN.{length, replicate, length-set}
-use Rattle.bits.specs.Written.{writer, write}
+use Rattle.bits.specs.Written.{writer}
+use Rattle.bits.specs.Inner.{write}
 use Rattle.bits.proofs.Puts.{zero-byte}
 use Rattle.bits.proofs.writer.put_zero_bytes.Statement.{statement}
 use Rattle.bits.proofs.writer.put_zero_bytes.Tie as tie

@@ -4,8 +4,8 @@ use mathlib.Core.Bool.{Bool, true, false, cond}
 use Prim.Native.Nat.{ℕ, _+_, _-_, _≤_}
 use native.Mathlib.Omega.{arith}
 use lib.ListN.{length}
-use Rattle.upgrade_steps.specs.Steps.{bandStep}
-use Rattle.progressive_decoder.specs.Walk.{Split}
+use Rattle.upgrade_steps.specs.Inner.{bandStep}
+use Rattle.progressive_decoder.specs.Inner.{Split}
 use Rattle.progressive_decoder.proofs.Places.{split-none}
 use borrow.Author.Needs.{needs}
 use Rattle.progressive_decoder.proofs.split.split.Statement.{statement}

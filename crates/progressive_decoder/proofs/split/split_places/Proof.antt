@@ -3,8 +3,8 @@ use mathlib.Core.Path.{_≡_, refl, _∙_, subst}
 use Prim.Native.Nat.{ℕ, _+_, _-_, _≤_}
 use native.Mathlib.Omega.{arith}
 use lib.ListN.{length, set, length-set}
-use Rattle.upgrade_steps.specs.Steps.{bandStep}
-use Rattle.progressive_decoder.specs.Walk.{Split}
+use Rattle.upgrade_steps.specs.Inner.{bandStep}
+use Rattle.progressive_decoder.specs.Inner.{Split}
 use Rattle.progressive_decoder.proofs.Places.{split-next}
 use borrow.Author.Needs.{needs}
 use Rattle.progressive_decoder.proofs.split.split_places.Statement.{statement}

@@ -2,7 +2,7 @@
 use Prim.Native.Nat.{_*_}
 use lib.ListN.{length}
 use Rattle.srl_decoder.specs.Decode.{opened}
-use Rattle.upgrade_steps.specs.Steps.{bandStep}
+use Rattle.upgrade_steps.specs.Inner.{bandStep}
 use Rattle.progressive_decoder.proofs.Walks.{walk-skipped, early-on}
 use borrow.Author.Needs.{needs}
 use Rattle.progressive_decoder.proofs.upgrade.one_band.Statement.{statement}

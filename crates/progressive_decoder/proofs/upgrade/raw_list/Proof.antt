@@ -10,14 +10,15 @@ use mir.Val.{toZ, ofZ}
 use mir.ValLaws.{toZ-ofZ}
 use Rattle.fixed.proofs.Machine.{got}
 use Rattle.bits.specs.Bits.{num}
-use Rattle.bits.specs.Words.{Top}
+use Rattle.bits.specs.Inner.{Top}
 use Rattle.bits.proofs.Numbers.{num-lt, num-none}
 use Rattle.bits.proofs.Tops.{top-take, top-skip}
 use Rattle.srl_decoder.specs.Srl.{Reader}
 use Rattle.srl_rules.proofs.Widths.{pow-high}
-use Rattle.upgrade_steps.specs.Steps.{bandStep, raw}
+use Rattle.upgrade_steps.specs.Steps.{raw}
+use Rattle.upgrade_steps.specs.Inner.{bandStep}
 use Rattle.progressive_decoder.specs.Upgrade.{adds, rawCoefficient}
-use Rattle.progressive_decoder.specs.Walk.{walked, over}
+use Rattle.progressive_decoder.specs.Inner.{walked, over}
 use Rattle.progressive_decoder.proofs.Listed.{turn-raw, turn-end}
 use borrow.Author.Needs.{needs}
 use Rattle.progressive_decoder.proofs.upgrade.raw_list.Statement.{statement}

@@ -1,6 +1,6 @@
 -- `progressive_decoder::upgrade::sign_by` meets its contract. Assumes nothing.
 use mathlib.Core.Path.{sym, ap}
-use Rattle.progressive_decoder.specs.Walk.{signBy}
+use Rattle.progressive_decoder.specs.Inner.{signBy}
 use Rattle.progressive_decoder.proofs.upgrade.sign_by.Statement.{statement}
 use Rattle.progressive_decoder.proofs.upgrade.sign_by.Tie as tie
 

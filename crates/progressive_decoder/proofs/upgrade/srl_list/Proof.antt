@@ -13,9 +13,10 @@ use Rattle.bits.proofs.Tops.{front-skip}
 use Rattle.srl_decoder.specs.Srl.{reader, mostZeros, nonzero}
 use Rattle.srl_decoder.specs.Inner.{Brought}
 use Rattle.srl_decoder.proofs.Chains.{zeros-brought}
-use Rattle.upgrade_steps.specs.Steps.{bandStep, srl}
+use Rattle.upgrade_steps.specs.Steps.{srl}
+use Rattle.upgrade_steps.specs.Inner.{bandStep}
 use Rattle.progressive_decoder.specs.Upgrade.{srlCoefficient, srlSign, rawCoefficient}
-use Rattle.progressive_decoder.specs.Walk.{walked, over, signBy}
+use Rattle.progressive_decoder.specs.Inner.{walked, over, signBy}
 use Rattle.progressive_decoder.proofs.Steps.{moved-by, sign-by}
 use Rattle.progressive_decoder.proofs.Listed.{left, turn-start, turn-codes, turn-value, turn-end}
 use borrow.Author.Needs.{needs}

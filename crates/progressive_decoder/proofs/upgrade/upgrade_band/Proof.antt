@@ -6,8 +6,9 @@ use Prim.Native.Nat.{ℕ, _+_, _-_, _*_, _≤_, _<_}
 use native.Mathlib.Omega.{arith}
 use lib.ListN.{length, getD, take, replicate}
 use Rattle.srl_decoder.specs.Decode.{opened}
-use Rattle.upgrade_steps.specs.Steps.{bandStep, fromSrl, srl, raw}
-use Rattle.progressive_decoder.specs.Walk.{Walked, walked, walk, over, reached, srlPlaces, rawPlaces}
+use Rattle.upgrade_steps.specs.Steps.{srl, raw}
+use Rattle.upgrade_steps.specs.Inner.{bandStep, fromSrl}
+use Rattle.progressive_decoder.specs.Inner.{Walked, walked, walk, over, reached, srlPlaces, rawPlaces}
 use Rattle.progressive_decoder.proofs.Listed.{Near, walk-listed, walk-near}
 use Rattle.progressive_decoder.proofs.Places.{split-whole, list-within}
 use borrow.Author.Needs.{needs}

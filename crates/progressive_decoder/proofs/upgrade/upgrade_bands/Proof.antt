@@ -11,8 +11,9 @@ use Rattle.bands.proofs.Spread.{spreadTo, perPlaceTo, place-count, place-all, p
 use Rattle.srl_decoder.specs.Srl.{start}
 use Rattle.srl_decoder.specs.Decode.{opened}
 use Rattle.srl_decoder.specs.declared.SrlState.{SrlState}
-use Rattle.upgrade_steps.specs.Steps.{Step, stepOf, steps, bandStep}
-use Rattle.progressive_decoder.specs.Walk.{Walked, walk, reached, Early}
+use Rattle.upgrade_steps.specs.Steps.{Step, stepOf, steps}
+use Rattle.upgrade_steps.specs.Inner.{bandStep}
+use Rattle.progressive_decoder.specs.Inner.{Walked, walk, reached, Early}
 use Rattle.upgrade_steps.proofs.Spans.{Lies, part-length, more-length}
 use Rattle.progressive_decoder.proofs.Bandwise.{band-turn}
 use Rattle.progressive_decoder.proofs.Walks.{walk-coefficients, walk-signs}

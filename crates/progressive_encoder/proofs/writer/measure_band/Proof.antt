@@ -8,8 +8,8 @@ use mir.Val.{toZ, ofZ}
 use mir.Syntax.{w8, w16}
 use mir.ValLaws.{toZ-ofZ}
 use Rattle.srl_encoder.specs.declared.encoder.Measured.{Measured}
-use Rattle.upgrade_steps.specs.Steps.{bandStep}
-use Rattle.progressive_encoder.specs.Writing.{placeLists, bandLists, measuredOf, Measures, Measurable}
+use Rattle.upgrade_steps.specs.Inner.{bandStep}
+use Rattle.progressive_encoder.specs.Inner.{placeLists, bandLists, measuredOf, Measures, Measurable}
 use Rattle.progressive_encoder.proofs.Placewise.{band-none, place-next}
 use Rattle.progressive_encoder.proofs.WrittenValues.{measures-placewise}
 use borrow.Author.Needs.{needs}

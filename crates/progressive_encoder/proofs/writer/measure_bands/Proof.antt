@@ -1,8 +1,8 @@
 -- `progressive_encoder::writer::measure_bands` meets its contract: after b bands their places are measured. Assumes nothing.
 use Prim.Native.Nat.{_-_, _≤_}
 use native.Mathlib.Omega.{arith}
-use Rattle.upgrade_steps.specs.Steps.{bandStep}
-use Rattle.progressive_encoder.specs.Writing.{measuredOf, Measures, Measurable}
+use Rattle.upgrade_steps.specs.Inner.{bandStep}
+use Rattle.progressive_encoder.specs.Inner.{measuredOf, Measures, Measurable}
 use Rattle.progressive_encoder.proofs.Placewise.{Next, lent, narrow, Reached, reached-none, bound-before, reached-next, reached-all}
 use Rattle.progressive_encoder.proofs.WrittenValues.{measures-placewise}
 use borrow.Author.Needs.{needs}

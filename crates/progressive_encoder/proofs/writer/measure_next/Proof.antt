@@ -1,6 +1,6 @@
 -- `progressive_encoder::writer::measure_next` meets its contract: a skipped band has nothing to measure. Assumes nothing.
-use Rattle.upgrade_steps.specs.Steps.{bandStep}
-use Rattle.progressive_encoder.specs.Writing.{Measures}
+use Rattle.upgrade_steps.specs.Inner.{bandStep}
+use Rattle.progressive_encoder.specs.Inner.{Measures}
 use Rattle.progressive_encoder.proofs.Placewise.{band-skip}
 use Rattle.progressive_encoder.proofs.WrittenValues.{measures-placewise, measurable-on}
 use borrow.Author.Needs.{needs}

@@ -9,10 +9,10 @@ use mir.Syntax.{w8, w16}
 use mir.ValLaws.{toZ-ofZ}
 use Rattle.fixed.proofs.Machine.{got}
 use Rattle.srl_encoder.specs.declared.encoder.Measured.{Measured}
-use Rattle.srl_encoder.specs.EncodeInner.{valueMeasure}
+use Rattle.srl_encoder.specs.Inner.{valueMeasure}
 use Rattle.progressive_encoder.specs.Encode.{srlDifference}
-use Rattle.upgrade_steps.specs.Steps.{bandStep, fromSrl}
-use Rattle.progressive_encoder.specs.Writing.{placeLists, Measures, Measurable}
+use Rattle.upgrade_steps.specs.Inner.{bandStep, fromSrl}
+use Rattle.progressive_encoder.specs.Inner.{placeLists, Measures, Measurable}
 use Rattle.progressive_encoder.proofs.WrittenValues.{measures-srl, measures-raw, measured-zero, measurable-value, measurable-on}
 use borrow.Author.Needs.{needs}
 use Rattle.progressive_encoder.proofs.writer.measure_place.Statement.{statement}

@@ -6,7 +6,7 @@ use lib.ListN.{length}
 use Rattle.srl_encoder.proofs.Runs.{length-flush}
 use Rattle.upgrade_steps.specs.Steps.{steps, srlWidths}
 use Rattle.progressive_encoder.specs.Encode.{srlDifferences}
-use Rattle.progressive_encoder.specs.Writing.{passLists}
+use Rattle.progressive_encoder.specs.Inner.{passLists}
 use Rattle.progressive_encoder.proofs.WrittenValues.{stream-none, stream-length}
 use borrow.Author.Needs.{needs}
 use Rattle.progressive_encoder.proofs.writer.srl_length.Statement.{statement}

@@ -8,8 +8,8 @@ use mir.Syntax.{w8, w16}
 use mir.ValLaws.{toZ-ofZ}
 use Rattle.fixed.proofs.Machine.{got}
 use Rattle.progressive_encoder.specs.Encode.{srlDifference}
-use Rattle.upgrade_steps.specs.Steps.{bandStep, fromSrl}
-use Rattle.progressive_encoder.specs.Writing.{bandLists, oneIf, onlyIf, surveyOf, Counts}
+use Rattle.upgrade_steps.specs.Inner.{bandStep, fromSrl}
+use Rattle.progressive_encoder.specs.Inner.{bandLists, oneIf, onlyIf, surveyOf, Counts}
 use Rattle.progressive_encoder.proofs.Placewise.{band-none, place-next}
 use Rattle.progressive_encoder.proofs.Surveyed.{counts-placewise, place-counts, one-le, only-le}
 use Rattle.progressive_encoder.proofs.WrittenValues.{difference-small}

@@ -1,8 +1,8 @@
 -- `progressive_encoder::writer::survey_bands` meets its contract: after b bands their places are surveyed. Assumes nothing.
 use Prim.Native.Nat.{_-_, _≤_}
 use native.Mathlib.Omega.{arith}
-use Rattle.upgrade_steps.specs.Steps.{bandStep}
-use Rattle.progressive_encoder.specs.Writing.{Surveys, noTotal, Few}
+use Rattle.upgrade_steps.specs.Inner.{bandStep}
+use Rattle.progressive_encoder.specs.Inner.{Surveys, noTotal, Few}
 use Rattle.progressive_encoder.proofs.Placewise.{Next, lent, narrow, Reached, reached-none, bound-before, reached-next, reached-all}
 use Rattle.progressive_encoder.proofs.Surveyed.{surveys-placewise}
 use borrow.Author.Needs.{needs}

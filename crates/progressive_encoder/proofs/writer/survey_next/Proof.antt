@@ -4,8 +4,8 @@ use mathlib.Core.Bool.{_||_}
 use Prim.Native.Nat.{_-_, _*_, _≤_}
 use native.Mathlib.Nat.{mul-le-mul-left}
 use native.Mathlib.Omega.{arith}
-use Rattle.upgrade_steps.specs.Steps.{bandStep}
-use Rattle.progressive_encoder.specs.Writing.{Surveys}
+use Rattle.upgrade_steps.specs.Inner.{bandStep}
+use Rattle.progressive_encoder.specs.Inner.{Surveys}
 use Rattle.progressive_encoder.proofs.Placewise.{band-skip}
 use Rattle.progressive_encoder.proofs.Surveyed.{surveys-placewise, band-surveys, band-few, few-on}
 use borrow.Author.Needs.{needs}

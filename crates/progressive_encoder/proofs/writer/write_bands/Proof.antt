@@ -2,9 +2,9 @@
 use mathlib.Core.Path.{_≡_, refl, _∙_}
 use Prim.Native.Nat.{ℕ, _-_, _≤_}
 use native.Mathlib.Omega.{arith}
-use Rattle.upgrade_steps.specs.Steps.{bandStep}
+use Rattle.upgrade_steps.specs.Inner.{bandStep}
 use lib.ListN.{length}
-use Rattle.progressive_encoder.specs.Writing.{freshSinks, Outputs, outputs, Stores, Writable}
+use Rattle.progressive_encoder.specs.Inner.{freshSinks, Outputs, outputs, Stores, Writable}
 use Rattle.progressive_encoder.proofs.Placewise.{Next, lent, narrow, low-step, Reached, reached-none, bound-before, reached-next, reached-all}
 use Rattle.progressive_encoder.proofs.WrittenValues.{stores-placewise}
 use borrow.Author.Needs.{needs}

@@ -1,6 +1,6 @@
 -- `progressive_encoder::writer::write_next` meets its contract: a skipped band has nothing to store. Assumes nothing.
-use Rattle.upgrade_steps.specs.Steps.{bandStep}
-use Rattle.progressive_encoder.specs.Writing.{outputs, Stores}
+use Rattle.upgrade_steps.specs.Inner.{bandStep}
+use Rattle.progressive_encoder.specs.Inner.{outputs, Stores}
 use Rattle.progressive_encoder.proofs.Placewise.{band-skip}
 use Rattle.progressive_encoder.proofs.WrittenValues.{stores-placewise, writable-on}
 use borrow.Author.Needs.{needs}

@@ -8,7 +8,7 @@ use lib.ListN.{length}
 use borrow.Author.Tests.{lt-ltb, le-ltb, ltb-false}
 use Rattle.upgrade_steps.specs.Steps.{steps}
 use Rattle.progressive_encoder.specs.Encode.{srlStream, rawStream}
-use Rattle.progressive_encoder.specs.Writing.{Lists, passLists, anyTooLarge}
+use Rattle.progressive_encoder.specs.Inner.{Lists, passLists, anyTooLarge}
 use Rattle.progressive_encoder.proofs.BothStreams.{refusal-is, refused, accepted}
 use Rattle.progressive_encoder.proofs.Surveyed.{survey-bad, survey-bytes}
 use borrow.Author.Needs.{needs}

@@ -8,13 +8,14 @@ use lib.IntN.{ℤ, pos}
 use borrow.Author.Tests.{not-true, not-false}
 use mir.Syntax.{w8, w16}
 use mir.ValLaws.{toZ-ofZ}
-use Rattle.bits.specs.Written.{bitsOf, after, write}
+use Rattle.bits.specs.Written.{bitsOf, after}
+use Rattle.bits.specs.Inner.{write}
 use Rattle.fixed.proofs.Machine.{got}
-use Rattle.srl_encoder.specs.EncodeInner.{valueState, valueWrite}
+use Rattle.srl_encoder.specs.Inner.{valueState, valueWrite}
 use Rattle.srl_encoder.specs.declared.encoder.CallState.{CallState}
 use Rattle.progressive_encoder.specs.Encode.{srlDifference, rawDifference}
-use Rattle.upgrade_steps.specs.Steps.{bandStep, fromSrl}
-use Rattle.progressive_encoder.specs.Writing.{placeLists, outputs, Stores, Writable}
+use Rattle.upgrade_steps.specs.Inner.{bandStep, fromSrl}
+use Rattle.progressive_encoder.specs.Inner.{placeLists, outputs, Stores, Writable}
 use Rattle.progressive_encoder.proofs.WrittenValues.{stores-srl, stores-raw, writable-value, writable-number}
 use borrow.Author.Needs.{needs}
 use Rattle.progressive_encoder.proofs.writer.write_place.Statement.{statement}

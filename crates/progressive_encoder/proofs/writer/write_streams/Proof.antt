@@ -5,7 +5,7 @@ use native.Mathlib.Omega.{arith}
 use Rattle.bands.proofs.Spread.{place-whole}
 use Rattle.progressive_encoder.specs.declared.Written.the-variants.{Bytes}
 use Rattle.upgrade_steps.specs.Steps.{steps, stepOf}
-use Rattle.progressive_encoder.specs.Writing.{passLists, endLength, endOut}
+use Rattle.progressive_encoder.specs.Inner.{passLists, endLength, endOut}
 use Rattle.progressive_encoder.proofs.Placewise.{same-length}
 use Rattle.progressive_encoder.proofs.WrittenValues.{stream-end, raw-end}
 use borrow.Author.Needs.{needs}

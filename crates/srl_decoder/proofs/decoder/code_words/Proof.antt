@@ -7,7 +7,7 @@ use native.Mathlib.Nat.{mod-lt}
 use native.Mathlib.Omega.{arith}
 use lib.Pow.{pow-pos, pow-mono, shr-lt}
 use Rattle.bits.specs.Bits.{num}
-use Rattle.bits.specs.Words.{Top}
+use Rattle.bits.specs.Inner.{Top}
 use Rattle.bits.proofs.Tops.{top-skip, top-take, top-one}
 use Rattle.srl_decoder.specs.Srl.{reader}
 use Rattle.srl_decoder.specs.Inner.{Same}

@@ -3,7 +3,7 @@ use mathlib.Core.Path.{_≡_, sym, _∙_}
 use mathlib.Core.Bool.{true, false}
 use Prim.Native.Nat.{_+_, _-_, _/_}
 use native.Mathlib.Omega.{arith}
-use Rattle.bits.specs.Words.{Top}
+use Rattle.bits.specs.Inner.{Top}
 use Rattle.bits.proofs.Tops.{top-skip, top-take, first-zero, first-one}
 use Rattle.srl_decoder.specs.Srl.{reader}
 use Rattle.srl_decoder.proofs.Codes.{code-zero, code-one}

@@ -3,7 +3,7 @@ use mathlib.Core.Path.{sym, ap, _∙_}
 use native.Mathlib.Omega.{arith}
 use lib.Dec.{ltb}
 use borrow.Author.Tests.{le-ltb}
-use Rattle.srl_encoder.specs.EncodeInner.{callCount}
+use Rattle.srl_encoder.specs.Inner.{callCount}
 use Rattle.srl_encoder.proofs.EncodedCalls.{call-count}
 use Rattle.srl_encoder.proofs.Sizes.{surely}
 use borrow.Author.Needs.{needs}

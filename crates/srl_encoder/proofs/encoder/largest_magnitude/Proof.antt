@@ -9,7 +9,7 @@ use lib.IntN.{pos, natAbs}
 use mir.Syntax.{w16}
 use mir.ValLaws.{toZ-ofZ}
 use borrow.Author.Needs.{needs}
-use Rattle.srl_encoder.specs.EncodeInner.{largest}
+use Rattle.srl_encoder.specs.Inner.{largest}
 use Rattle.srl_encoder.proofs.encoder.largest_magnitude.Statement.{statement}
 use Rattle.srl_encoder.proofs.encoder.largest_magnitude.Tie as tie
 

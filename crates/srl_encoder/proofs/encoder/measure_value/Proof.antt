@@ -9,9 +9,9 @@ use Rattle.fixed.specs.Fixed.{isNegative}
 use mir.Syntax.{w16}
 use mir.ValLaws.{toZ-ofZ}
 use Rattle.srl_encoder.specs.Encode.{runBits, nonzeroBits, valueBits, valueKp, valueZeros}
-use Rattle.bits.specs.Written.{counted}
+use Rattle.bits.specs.Inner.{counted}
 use Rattle.bits.proofs.Packed.{counted-none}
-use Rattle.srl_encoder.specs.EncodeInner.{placeOf, valueMeasure}
+use Rattle.srl_encoder.specs.Inner.{placeOf, valueMeasure}
 use Rattle.srl_encoder.proofs.EncodedValues.{zero-value, nonzero-value}
 use Rattle.srl_encoder.proofs.Nonzeros.{nonzero-le}
 use Rattle.srl_encoder.proofs.Runs.{length-plan}

@@ -4,7 +4,7 @@ use native.Mathlib.Omega.{arith}
 use borrow.Author.Needs.{needs}
 use Rattle.bits.proofs.Puts.{then, renamed, wrote-sound, wrote-at}
 use Rattle.srl_encoder.specs.Encode.{nonzeroBits}
-use Rattle.srl_encoder.specs.EncodeInner.{planBits}
+use Rattle.srl_encoder.specs.Inner.{planBits}
 use Rattle.srl_encoder.proofs.Nonzeros.{stop-le, both-word}
 use Rattle.srl_encoder.proofs.Runs.{length-plan}
 use Rattle.srl_encoder.proofs.encoder.put_both.Statement.{statement}

@@ -2,7 +2,8 @@
 use mathlib.Core.Path.{ap, _∙_}
 use native.Mathlib.Omega.{arith}
 use borrow.Author.Needs.{needs}
-use Rattle.bits.specs.Written.{after, write}
+use Rattle.bits.specs.Written.{after}
+use Rattle.bits.specs.Inner.{write}
 use Rattle.bits.proofs.Puts.{Wrote}
 use Rattle.srl_encoder.specs.Encode.{sink}
 use Rattle.srl_encoder.specs.Finish.{flush}

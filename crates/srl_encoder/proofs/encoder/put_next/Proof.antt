@@ -8,7 +8,7 @@ use mir.Syntax.{w16}
 use mir.ValLaws.{toZ-ofZ}
 use borrow.Author.Needs.{needs}
 use Rattle.srl_encoder.specs.declared.encoder.CallState.{CallState}
-use Rattle.srl_encoder.specs.EncodeInner.{callOf, valueState, valueWrite}
+use Rattle.srl_encoder.specs.Inner.{callOf, valueState, valueWrite}
 use Rattle.srl_encoder.proofs.EncodedValues.{zero-value}
 use Rattle.srl_encoder.proofs.encoder.put_next.Statement.{statement}
 use Rattle.srl_encoder.proofs.encoder.put_next.Tie as tie

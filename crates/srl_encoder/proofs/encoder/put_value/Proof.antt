@@ -10,7 +10,7 @@ use borrow.Author.Needs.{needs}
 use Rattle.fixed.specs.Fixed.{isNegative}
 use Rattle.bits.proofs.Puts.{renamed}
 use Rattle.srl_encoder.specs.Encode.{runBits, nonzeroBits, valueBits, valueKp, valueZeros}
-use Rattle.srl_encoder.specs.EncodeInner.{planBits, valueState, valueWrite}
+use Rattle.srl_encoder.specs.Inner.{planBits, valueState, valueWrite}
 use Rattle.srl_encoder.proofs.EncodedValues.{zero-value, nonzero-value}
 use Rattle.srl_encoder.proofs.encoder.put_value.Statement.{statement}
 use Rattle.srl_encoder.proofs.encoder.put_value.Tie as tie

@@ -14,7 +14,7 @@ use mir.ValLaws.{toZ-ofZ}
 use borrow.Author.Needs.{needs}
 use Rattle.bits.proofs.Puts.{after-sound, after-at}
 use Rattle.srl_encoder.specs.Encode.{valueBits, callBits}
-use Rattle.srl_encoder.specs.EncodeInner.{callOf, valueState, valueWrite, callState, callWrite, Good}
+use Rattle.srl_encoder.specs.Inner.{callOf, valueState, valueWrite, callState, callWrite, Good}
 use Rattle.srl_encoder.proofs.EncodedCalls.{call-step, write-step}
 use Rattle.srl_encoder.proofs.EncodedValues.{value-kp, value-zeros}
 use Rattle.srl_encoder.proofs.encoder.put_values.Statement.{statement}

@@ -11,7 +11,7 @@ use mir.Syntax.{w16}
 use mir.ValLaws.{toZ-ofZ}
 use borrow.Author.Needs.{needs}
 use borrow.Author.Tests.{lt-ltb, le-ltb}
-use Rattle.srl_encoder.specs.EncodeInner.{valueMeasure, callCount, GoodMeasure}
+use Rattle.srl_encoder.specs.Inner.{valueMeasure, callCount, GoodMeasure}
 use Rattle.srl_encoder.proofs.EncodedCalls.{count-step, count-none, count-mono}
 use Rattle.srl_encoder.proofs.EncodedValues.{value-kp, value-zeros}
 use Rattle.srl_encoder.proofs.encoder.too_many.Statement.{statement}

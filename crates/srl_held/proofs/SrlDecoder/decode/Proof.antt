@@ -49,7 +49,8 @@ use Rattle.srl_decoder.specs.Decode.{decodeAnswer, decodeOut}
 use Rattle.srl_decoder.specs.declared.SrlState.{SrlState}
 use Rattle.srl_decoder.proofs.SrlState as S
 use Rattle.srl_decoder.proofs.SrlState.Laws as S′
-use Rattle.srl_held.specs.Held.{decoderAt, parts}
+use Rattle.srl_held.specs.Held.{decoderAt}
+use Rattle.srl_held.specs.Inner.{parts}
 use Rattle.srl_held.specs.declared.SrlDecoder.{SrlDecoder}
 use Rattle.srl_held.specs.declared.Parts.{Parts}
 use Rattle.srl_held.specs.declared.DecodedBy.{DecodedBy}

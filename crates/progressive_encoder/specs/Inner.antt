@@ -1,4 +1,4 @@
--- What the inner functions of the writer ask and promise. A pass is surveyed, measured and stored by three walks over its places. Each walk's
+-- For inner functions only: what those of the writer ask and promise. A pass is surveyed, measured and stored by three walks over its places. Each walk's
 -- promise is a relation of what stands before some places and what stands after them, whatever comes behind them; so places in a row are
 -- relations in a row (proofs/Placewise.antt).
 use mathlib.Core.Path.{_≡_}
@@ -8,13 +8,14 @@ use Prim.Native.Nat.{ℕ, zero, suc, _+_, _-_, _*_, _^_, _≤_, max}
 use lib.Dec.{ltb}
 use lib.IntN.{ℤ, natAbs}
 use lib.ListN.{length, drop, set, replicate}
-use Rattle.bits.specs.Written.{bitsOfAll, Sound, writer, after, write, padCount, padOut, counted}
+use Rattle.bits.specs.Written.{bitsOfAll, writer, after}
+use Rattle.bits.specs.Inner.{Sound, write, padCount, padOut, counted}
 use Rattle.bits.specs.declared.writer.BitWriter.{BitWriter}
 use Rattle.bits.specs.declared.writer.BitCount.{BitCount}
 use Rattle.srl_rules.specs.Rules.{stored}
 use Rattle.srl_encoder.specs.Encode.{firstOf}
 use Rattle.srl_encoder.specs.Finish.{flush, streamBits}
-use Rattle.srl_encoder.specs.EncodeInner.{largest, placeOf, Good, GoodMeasure}
+use Rattle.srl_encoder.specs.Inner.{largest, placeOf, Good, GoodMeasure}
 use Rattle.srl_encoder.specs.declared.encoder.CallState.{CallState}
 use Rattle.srl_encoder.specs.declared.encoder.Measured.{Measured}
 use Rattle.upgrade_steps.specs.Steps.{Step, srlWidths, rawWidths}

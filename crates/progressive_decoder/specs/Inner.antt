@@ -1,4 +1,4 @@
--- For the inner functions of the reader: a pass as one walk over the places, with both streams' readers. It gives what `Upgrade` says
+-- For inner functions only: a pass as one walk over the places, with both streams' readers. It gives what `Upgrade` says
 -- (proofs/Walks.antt), where all SRL values are read before the first raw bit: the two streams do not touch each other.
 use mathlib.Core.Path.{_≡_}
 use mathlib.Core.Bool.{Bool, true, false, not}
@@ -6,11 +6,12 @@ use mathlib.Core.List.{List, [], _∷_}
 use Prim.Native.Nat.{ℕ, _+_, _-_, _≤_, _<_}
 use lib.IntN.{ℤ, pos, negsuc}
 use lib.ListN.{getD, set, take}
-use Rattle.places.specs.Places.{placesOf}
+use Rattle.places.specs.Inner.{placesOf}
 use Rattle.bits.specs.Bits.{num, bitsRead}
 use Rattle.srl_decoder.specs.Srl.{Reader, nextValue, nextReader}
 use Rattle.srl_decoder.specs.Decode.{opened}
-use Rattle.upgrade_steps.specs.Steps.{Step, Source, skipped, srl, raw, source, fromSrl}
+use Rattle.upgrade_steps.specs.Steps.{Step, Source, skipped, srl, raw, source}
+use Rattle.upgrade_steps.specs.Inner.{fromSrl}
 use Rattle.progressive_decoder.specs.Upgrade.{srlCoefficient, srlSign, adds, rawCoefficient}
 use Rattle.progressive_decoder.specs.declared.upgrade.Readers.{Readers}
 

@@ -1,4 +1,4 @@
--- What the inner functions of the encoder ask and promise.
+-- For inner functions only: what those of the encoder ask and promise.
 use mathlib.Core.Path.{_≡_}
 use mathlib.Core.Bool.{Bool, true, false, cond}
 use mathlib.Core.List.{List, [], _∷_, _++_}
@@ -6,7 +6,8 @@ use Prim.Native.Nat.{ℕ, suc, _-_, _/_, _^_, _≤_, _<_, max}
 use lib.Dec.{ltb}
 use lib.IntN.{ℤ, natAbs}
 use lib.ListN.{length, replicate}
-use Rattle.bits.specs.Written.{bitsOf, writer, Sound, after, write, counted}
+use Rattle.bits.specs.Written.{bitsOf, writer, after}
+use Rattle.bits.specs.Inner.{Sound, write, counted}
 use Rattle.bits.specs.declared.writer.BitCount.{BitCount}
 use Rattle.srl_encoder.specs.Encode.{runBits, runKp, valueBits, valueKp, valueZeros, callBits, callKp, callZeros, sink}
 use Rattle.srl_encoder.specs.declared.SrlWriter.{SrlWriter}

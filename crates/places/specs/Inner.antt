@@ -1,4 +1,4 @@
--- Lists of places, for inner functions: the places of elements that have a property, and the same from a byte whose ones say which have it.
+-- For inner functions only: lists of places. The places of elements that have a property, and the same from a byte whose ones say which have it.
 use mathlib.Core.Path.{_≡_}
 use mathlib.Core.Bool.{Bool, cond}
 use mathlib.Core.List.{List, [], _∷_, _++_, map}

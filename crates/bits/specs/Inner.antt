@@ -1,0 +1,55 @@
+-- For inner functions only: what a word of 64 bits holds of a stream, and what a writer keeps, stores and counts.
+use mathlib.Core.Path.{_≡_}
+use mathlib.Core.List.{List, [], _∷_}
+use Prim.Native.Nat.{ℕ, _-_, _*_, _^_, _≤_, _+_, _/_, _%_, _<_}
+use Rattle.bits.specs.Bits.{num, bitOf}
+use mathlib.Core.Bool.{Bool, cond}
+use lib.Dec.{eqb}
+use lib.ListN.{set}
+use Rattle.bits.specs.declared.writer.BitWriter.{BitWriter}
+use Rattle.bits.specs.declared.writer.BitCount.{BitCount}
+use Rattle.bits.specs.Written.{step}
+
+-- the top v bits of the word a are the v bits from bit n of the stream on, and its other bits are 0
+pub record Top (v a : ℕ) (s : List ℕ) (n : ℕ) : Type 0 where
+  pub fits : v ≤ 64
+  pub is : a ≡ num s n v * 2 ^ (64 - v)
+
+-- the word a begins with the v bits from bit n of the stream on; it may hold more
+pub record Front (v a : ℕ) (s : List ℕ) (n : ℕ) : Type 0 where
+  pub all : ℕ
+  pub enough : v ≤ all
+  pub top : Top all a s n
+
+-- what a writer keeps: fewer than 8 bits, as a number
+abbrev pub Sound : BitWriter → Type 0
+Sound k = (k .«bit_count» ≤ 7) × (k .current < 2 ^ k .«bit_count»)
+
+-- n more bytes can be counted
+abbrev pub Room : BitWriter → ℕ → Type 0
+Room k n = k .at + n < 2 ^ 64
+
+-- the output after it: a byte more where it is the eighth
+abbrev pub put : List ℕ → BitWriter → Bool → List ℕ
+put out k b = cond (eqb (k .«bit_count») 7) (set out (k .at) (k .current * 2 + bitOf b)) out
+
+-- the output after them
+abbrev pub write : List ℕ → BitWriter → List Bool → List ℕ
+write out k [] = out
+write out k (b ∷ bs) = write (put out k b) (step k b) bs
+
+-- the unfinished bits padded with zeros: how many bytes there are then
+abbrev pub padCount : BitWriter → ℕ
+padCount k = cond (eqb (k .«bit_count») 0) (k .at) (k .at + 1)
+
+-- the output then
+abbrev pub padOut : List ℕ → BitWriter → List ℕ
+padOut out k = cond (eqb (k .«bit_count») 0) out (set out (k .at) (k .current * 2 ^ (8 - k .«bit_count»)))
+
+-- a writer's place
+abbrev pub countOf : BitWriter → BitCount
+countOf k = record { at = k .at; «bit_count» = k .«bit_count» }
+
+-- the place after n bits
+abbrev pub counted : BitCount → ℕ → BitCount
+counted p n = record { at = p .at + (p .«bit_count» + n) / 8; «bit_count» = (p .«bit_count» + n) % 8 }
