@@ -88,8 +88,8 @@ fn not_loaded(refusal: u8) -> Loaded
     }
 }
 
-// A pass over the fields of a tile that it changes, where they lie, but for the quality, which is handed in whole. What the fields have is in
-// the domain.
+// A pass over the fields of a tile that it changes, where they lie; the caller stores the quality. A part of the tile's call and of the C
+// function: both have seen that no position is above 15.
 pub fn upgrade_in_place(
     y_srl: &[u8],
     y_raw: &[u8],
