@@ -1,11 +1,17 @@
 -- `tarjimp::tarjimp_tile_decode_upgrade` meets its contract: that of `TileState::decode_upgrade`, where the parts of the tile lie. Assumes nothing.
-use mathlib.Core.Bool.{true, false, _&&_}
-use mathlib.Core.Path.{_≡_, sym, _∙_}
+use mathlib.Core.Bool.{Bool, true, false, _&&_}
+use mathlib.Core.List.{List}
+use mathlib.Core.Path.{_≡_, refl, sym, _∙_}
+use Prim.Native.Nat.{ℕ}
+use lib.IntN.{ℤ}
 use borrow.Author.Tests.{not-true, not-false}
 use borrow.Author.Needs.{needs}
 use Rattle.bands.specs.Positions.{rowInDomain, rowsInDomain}
 use Rattle.bands.proofs.Every.{both-true}
-use Rattle.tile.specs.Tile.{upgraded}
+use Rattle.planes.specs.Planes.{joined, of}
+use Rattle.components.specs.Components.{passCoefficients, passSigns}
+use Rattle.tile.specs.Tile.{nextPass, upgraded}
+use Rattle.tarjimp.specs.Calls.{tileOf}
 use Rattle.tarjimp.proofs.tarjimp_tile_decode_upgrade.Statement.{statement}
 use Rattle.tarjimp.proofs.tarjimp_tile_decode_upgrade.Tie as tie
 
@@ -24,11 +30,15 @@ upgrade-in-place-requires c κs =
     let both = both-true _ _ (low (c .before .before .before .before)) in
     (both-true _ _ (both .1) .0, both .0)
 
-returns-2 : tie.Need-returns-2
+-- a tile is upgraded if each of its parts is
+stored : {cs ss : List ℤ} {ps : List ℕ} {n : ℕ} (cs₀ ss₀ : List ℤ) (ps₀ quants : List ℕ) (e : Bool) (n₀ q₀ q : ℕ) (srlData rawData rows : List (List ℕ)) → cs ≡ passCoefficients e ps₀ rows srlData rawData cs₀ ss₀ → ss ≡ passSigns e ps₀ rows srlData ss₀ → ps ≡ joined (of rows) → n ≡ nextPass n₀ → tileOf cs ss ps quants e n q ≡ upgraded (tileOf cs₀ ss₀ ps₀ quants e n₀ q₀) srlData rawData rows q
 unfolding upgraded
+stored cs₀ ss₀ ps₀ quants e n₀ q₀ q srlData rawData rows cs ss ps n = rw (cs, ss, ps, n) refl
+
+returns-2 : tie.Need-returns-2
 returns-2 c =
     let done = c .upgrade-in-place .ensures in
-    (simp (low (c .before .before .before .before .before)), simp (low (c .before .before .before .before .before)) (rw (done .0, done .1, done .2, done .3)))
+    (simp (low (c .before .before .before .before .before)), simp (low (c .before .before .before .before .before)) (stored _ _ _ _ _ _ _ _ _ _ _ (done .0) (done .1) (done .2) (done .3)))
 
 pub tarjimp-tile-decode-upgrade-spec : {M : Type 1} → statement M
 tarjimp-tile-decode-upgrade-spec = tie.close (tie.spec (λ c κs. search needs) returns upgrade-in-place-requires returns-2)

@@ -1,7 +1,7 @@
 -- `srl_decoder::decoder::decode_nonzero` meets its contract: the zeros behind the sign bit, at most 2^w - 2. Assumes nothing.
 use mathlib.Core.Path.{_≡_, sym, ap, _∙_}
 use mathlib.Core.Bool.{cond}
-use Prim.Native.Nat.{_+_, _-_, _<_}
+use Prim.Native.Nat.{_+_, _-_, _^_, _<_}
 use native.Mathlib.Omega.{arith}
 use lib.Dec.{ltb}
 use Rattle.bits.specs.Bits.{zeros, bitsRead}
@@ -15,7 +15,9 @@ use Rattle.srl_decoder.proofs.decoder.decode_nonzero.Tie as tie
 
 -- the most zeros that there can be
 most : (c : tie.After-max-magnitude) → c .max-magnitude .result - 1 ≡ mostZeros (c .before .before .args .num-bits)
-most c = omega (arith, c .max-magnitude .ensures)
+most c =
+    let largest : c .max-magnitude .result ≡ 2 ^ c .before .before .args .num-bits - 1 = c .max-magnitude .ensures in
+    omega (arith, largest)
 
 found : (c : tie.After-zeros-behind-first)
     → c .zeros-behind-first .result ≡ zeros (c .before .before .before .args .src .now) (bitsRead (c .before .before .before .args .reader) + 1) (mostZeros (c .before .before .before .args .num-bits))

@@ -5,13 +5,14 @@ use Prim.Native.Nat.{_-_, _^_, _≤_, _<_}
 use native.Mathlib.Omega.{arith}
 use borrow.Author.Needs.{needs}
 use borrow.Author.Tests.{lt-ltb, le-ltb}
+use Rattle.srl_rules.proofs.Widths.{pow-low}
 use Rattle.srl_encoder.proofs.encoder.stop_count.Statement.{statement}
 use Rattle.srl_encoder.proofs.encoder.stop_count.Tie as tie
 
 returns : tie.Need-returns
 returns c =
     let a = c .before .before .args in
-    let j : a .m < 2 ^ a .num-bits - 1 = omega (arith, c .if1 .taken, c .before .max-magnitude .ensures) in
+    let j : a .m < 2 ^ a .num-bits - 1 = omega (arith, c .if1 .taken, c .before .max-magnitude .ensures, pow-low (a .num-bits) (c .before .before .pre)) in
     sym (ap (λ b. cond b 1 0) (lt-ltb _ _ j))
 
 returns-2 : tie.Need-returns-2
