@@ -2,11 +2,11 @@
 use mathlib.Core.Path.{_≡_}
 use mathlib.Core.Bool.{Bool, true, false, cond}
 use mathlib.Core.List.{List, [], _∷_, _++_, map}
-use Prim.Native.Nat.{ℕ, _-_, _≤_}
+use Prim.Native.Nat.{ℕ, _≤_}
 use lib.IntN.{ℤ, pos, negsuc}
 use lib.ListN.{length, replicate, take, drop}
 use Rattle.answer.specs.Refusals.{numberOf}
-use Rattle.srl_decoder.specs.Decode.{startState, decodeAnswer, decodeOut, decodedNumber, decodedCount}
+use Rattle.srl_decoder.specs.Decode.{startState, decodeAnswer, decodeOut, decodedCount}
 use Rattle.srl_encoder.specs.Encode.{freshWriter, encodeAnswer, encodeOut, encodedCount, encodedState}
 use Rattle.srl_encoder.specs.Finish.{finishAnswer, finishOut, finishedCount}
 use Rattle.srl_encoder.specs.declared.Encoded.{Encoded}
@@ -105,7 +105,12 @@ passRead =
     ∷ record { bottom = false; from = 3; to = 1; raw = 0xc0 ∷ []; coefficient = negsuc 32767; sign = negsuc 0; got = negsuc 32767 }
     ∷ []
 
--- the coefficients after the call
+-- the number of the call's answer
+abbrev pub answeredAs : PassRead → ℕ
+answeredAs s =
+    numberOf (decodePassAnswer (row (s .bottom) (s .from)) (row (s .bottom) (s .to)) (placed (s .bottom) (s .coefficient)) (placed (s .bottom) (s .sign)))
+
+-- the coefficients after it
 abbrev pub upgradedAs : PassRead → List ℤ
 upgradedAs s =
     decodeCoefficients [] (s .raw) (row (s .bottom) (s .from)) (row (s .bottom) (s .to)) false (placed (s .bottom) (s .coefficient)) (placed (s .bottom) (s .sign))
@@ -166,6 +171,7 @@ pub record BenchSamples : Type 0 where
   pub srl-counts : map countedAs srlRead ≡ map (λ s. s .count) srlRead
   -- an empty stream gives zeros, as many as are asked for and at every width
   pub srl-empty : (out : List ℤ) (n w : ℕ) → n ≤ length out → decodeOut [] startState out n w ≡ replicate n (pos 0) ++ drop n out
+  pub pass-answers : map answeredAs passRead ≡ map (λ s. 0) passRead
   pub pass-read : map upgradedAs passRead ≡ map (λ s. placed (s .bottom) (s .got)) passRead
   pub pass-signs : map signedAs passRead ≡ map (λ s. placed (s .bottom) (s .sign)) passRead
   pub pass-values : map valuedAs passWritten ≡ map (λ s. s .value) passWritten

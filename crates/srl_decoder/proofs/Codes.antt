@@ -14,7 +14,7 @@ use Rattle.bits.specs.Bits.{bitAt, num, zeros, zerosLength, placeOf}
 use Rattle.bits.specs.declared.reader.BitReader.{BitReader}
 use Rattle.bits.proofs.Numbers.{num-lt}
 use Rattle.bits.proofs.Ones.{zeros-le}
-use Rattle.srl_decoder.specs.Srl.{Reader, reader, mostZeros, nonzero, behind, codeWord, ready, value, past, readied, nextReader}
+use Rattle.srl_decoder.specs.Srl.{Reader, reader, mostZeros, nonzero, behind, codeWord, ready, past, readied, nextReader}
 use Rattle.srl_rules.specs.Inner.{Width}
 use Rattle.srl_decoder.specs.Inner.{shut}
 use Rattle.srl_decoder.specs.declared.SrlState.{SrlState}

@@ -11,9 +11,7 @@ use Rattle.srl_encoder.specs.Encode.{encodeAnswer, encodeOut, encodedNumber, en
 use Rattle.srl_encoder.specs.Finish.{finishAnswer, finishOut, finishedNumber, finishedCount}
 use Rattle.srl_encoder.specs.declared.Encoded.{Encoded}
 use Rattle.srl_encoder.specs.declared.Encoded.the-variants as E
-use Rattle.tile.specs.Tile.{decodeUpgrade}
 use Rattle.tile.specs.declared.TileState.{TileState}
-use Rattle.tile.specs.declared.Upgraded.{Upgraded}
 use Rattle.tarjimp.specs.States.{readerFits, readerOf, readerNumbers, writerFits, writerOf, writerNumbers}
 
 -- ════ `tarjimp_srl_decode`: s is the state's five numbers ════

@@ -13,7 +13,7 @@ use Rattle.bits.specs.Bits.{num, numbers, zeros}
 use Rattle.bits.specs.Written.{bitsOfAll}
 use Rattle.srl_rules.specs.Rules.{widthOk, noRoom, stored}
 use Rattle.srl_decoder.specs.Srl.{values, readerAfter}
-use Rattle.srl_decoder.specs.Decode.{startState, opened, dueAmong, decodeRefusal, decodeOut}
+use Rattle.srl_decoder.specs.Decode.{startState, opened, decodeRefusal, decodeOut}
 use Rattle.srl_decoder.proofs.Due.{due-past, values-past}
 use Rattle.srl_encoder.specs.Finish.{streamBits}
 use Rattle.upgrade_steps.specs.Steps.{srlWidths, rawWidths}
@@ -49,6 +49,7 @@ samples = record {
   srl-read = refl;
   srl-counts = refl;
   srl-empty = empty;
+  pass-answers = refl;
   pass-read = refl;
   pass-signs = refl;
   pass-values = refl;
