@@ -1,4 +1,5 @@
 -- Dequantizing a component (docs/SCOPE.md, "Dequantizing").
+use mathlib.Core.Path.{_≡_}
 use mathlib.Core.Bool.{Bool, cond}
 use mathlib.Core.List.{List, [], _∷_}
 use Prim.Native.Nat.{ℕ, _-_}
@@ -9,7 +10,7 @@ use Rattle.fixed.specs.Fixed.{roundShift, shiftLeftClamp}
 use Rattle.bands.specs.Bands.{perPlace}
 use Rattle.bands.specs.Positions.{rowInDomain}
 use Rattle.answer.specs.declared.Answer.{Answer}
-use Rattle.answer.specs.Refusals.{answered, unlessRefused, longEnough}
+use Rattle.answer.specs.Refusals.{sliceTooShort, outOfDomain, unless, firstOf, longEnough, answered, unlessRefused}
 
 -- "a quantizer q above 6 shifts left q - 6 places and clamps; below 6 it adds 2^(5-q) and shifts right 6 - q places with floor; 6 leaves the value"
 abbrev pub dequantized : ℕ → ℤ → ℤ
@@ -25,14 +26,21 @@ dequantizedAll (q ∷ qs) (c ∷ cs) = dequantized q c ∷ dequantizedAll qs cs
 abbrev pub quantizers : Bool → List ℕ → List ℕ
 quantizers e quant = perPlace e (λ b. getD quant b 0)
 
--- "order: .. 1, 2": 0 is none
-abbrev pub dequantizeRefusal : List ℕ → List ℤ → ℕ
-dequantizeRefusal quant cs = cond (longEnough cs) (cond (rowInDomain quant) 0 2) 1
+-- ════ `dequantize_component_ccq` ════
 
--- what `dequantize_component_ccq` answers, and what it leaves in the slice
+-- "order: .. 1, 2"
+abbrev pub dequantizeRefusal : List ℕ → List ℤ → ℕ
+dequantizeRefusal quant cs = firstOf (unless (longEnough cs) sliceTooShort) (unless (rowInDomain quant) outOfDomain)
+
+-- the answer
 abbrev pub dequantizeAnswer : List ℕ → List ℤ → Answer
 dequantizeAnswer quant cs = answered (dequantizeRefusal quant cs)
 
 -- the coefficients then
 abbrev pub dequantizeOut : Bool → List ℕ → List ℤ → List ℤ
 dequantizeOut e quant cs = unlessRefused (dequantizeRefusal quant cs) (dequantizedAll (quantizers e quant) cs) cs
+
+-- what the call fixes: its answer, and the slice
+pub record Dequantizes (e : Bool) (quant : List ℕ) (cs : List ℤ) (r : Answer) (exit : List ℤ) : Type 0 where
+  pub answer : r ≡ dequantizeAnswer quant cs
+  pub coefficients : exit ≡ dequantizeOut e quant cs

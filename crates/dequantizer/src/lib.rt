@@ -2,7 +2,7 @@
 ghost use mathlib.Core.Path.{_≡_};
 ghost use Prim.Native.Nat.{_≤_};
 ghost use lib.ListN.{length, replicate};
-ghost use Rattle.dequantizer.specs.Dequantize.{dequantized, dequantizedAll, quantizers, dequantizeAnswer, dequantizeOut};
+ghost use Rattle.dequantizer.specs.Dequantize.{dequantized, dequantizedAll, quantizers, Dequantizes};
 
 // A coefficient with the quantizer q.
 fn dequantize_value(c: i16, q: u8) -> i16
@@ -50,13 +50,13 @@ pub fn dequantize_component_ccq(
     quant: [u8; 10],
     use_reduce_extrapolate: bool,
 ) -> answer::Answer
-    ensures { λ r. ⌜ (r ≡ dequantizeAnswer quant (now (coefficients .entry))) × (now (coefficients .exit) ≡ dequantizeOut «use_reduce_extrapolate» quant (now (coefficients .entry))) ⌝ }
+    ensures { λ r. ⌜ Dequantizes «use_reduce_extrapolate» quant (now (coefficients .entry)) r (now (coefficients .exit)) ⌝ }
 {
     if coefficients.len() < 4096 {
-        return answer::Answer::Refused(1);
+        return answer::Answer::Refused(answer::SLICE_TOO_SHORT);
     }
     if !bands::row_in_domain(quant) {
-        return answer::Answer::Refused(2);
+        return answer::Answer::Refused(answer::OUT_OF_DOMAIN);
     }
     dequantize_bands(coefficients, quant, use_reduce_extrapolate);
     answer::Answer::Accepted

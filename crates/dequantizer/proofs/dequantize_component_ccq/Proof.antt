@@ -13,7 +13,7 @@ use Rattle.dequantizer.proofs.dequantize_component_ccq.Tie as tie
 returns : tie.Need-returns
 returns c =
     let short = lt-leb 4096 (length (c .before .args .coefficients .now)) (c .if1 .taken) in
-    (simp short, simp short)
+    record { answer = simp short; coefficients = simp short }
 
 -- past the first test there are coefficients enough
 enough : (c : tie.Else1) → longEnough (c .before .args .coefficients .now) ≡ true
@@ -22,13 +22,14 @@ enough c = le-leb 4096 (length (c .before .args .coefficients .now)) (omega (ari
 returns-2 : tie.Need-returns-2
 returns-2 c =
     let high : rowInDomain (c .before .before .before .args .quant) ≡ false = sym (c .before .row-in-domain .ensures) ∙ not-true _ (c .if2 .taken) in
-    (simp (enough (c .before .before), high), simp (enough (c .before .before), high))
+    let long = enough (c .before .before) in
+    record { answer = simp (long, high); coefficients = simp (long, high) }
 
 returns-3 : tie.Need-returns-3
 returns-3 c =
     let low : rowInDomain (c .before .before .before .before .before .before .args .quant) ≡ true = sym (c .before .before .before .before .row-in-domain .ensures) ∙ not-false _ (c .before .before .before .if2 .left) in
     let long = enough (c .before .before .before .before .before) in
-    (simp (long, low), simp (long, low) (c .before .dequantize-bands .ensures))
+    record { answer = simp (long, low); coefficients = simp (long, low) (c .before .dequantize-bands .ensures) }
 
 pub dequantize-component-ccq-spec : {M : Type 1} → statement M
 dequantize-component-ccq-spec = tie.close (tie.spec returns (λ c κs. search needs) returns-2 (λ c κs. search needs) (λ c. search needs) returns-3)
