@@ -1,6 +1,7 @@
 -- An upgrade pass over one component, read (docs/SCOPE.md, "Upgrade pass"; MS-RDPEGFX 3.3.8.2.1.2): the coefficients and signs after it.
 -- A pass is a list of steps, one for each place (`Steps` of `upgrade_steps`). Everything below holds for every list of steps; what a slice has past them stays.
-use mathlib.Core.Bool.{Bool, true, false, cond, _&&_, _||_}
+use mathlib.Core.Path.{_≡_}
+use mathlib.Core.Bool.{Bool, true, false, _&&_, _||_}
 use mathlib.Core.List.{List, [], _∷_}
 use Prim.Native.Nat.{ℕ, zero, suc}
 use lib.IntN.{ℤ, pos, negsuc}
@@ -9,7 +10,7 @@ use Rattle.bands.specs.Positions.{rowInDomain}
 use Rattle.bits.specs.Bits.{numbers}
 use Rattle.srl_decoder.specs.Srl.{start, values}
 use Rattle.upgrade_steps.specs.Steps.{Step, Source, skipped, srl, raw, source, steps, srlWidths, rawWidths}
-use Rattle.answer.specs.Refusals.{answered, unlessRefused, longEnough}
+use Rattle.answer.specs.Refusals.{sliceTooShort, outOfDomain, unless, firstOf, longEnough, answered, unlessRefused}
 use Rattle.answer.specs.declared.Answer.{Answer}
 
 -- ════ what a value does at its place ════
@@ -84,14 +85,12 @@ abbrev pub upgradedCoefficients : List Step → List ℕ → List ℕ → List �
 upgradedCoefficients ts srlData rawData cs ss =
     coefficientsAfter ts cs ss (srlValues ts srlData ss) (rawNumbers ts rawData ss)
 
--- ════ refusals: 0 is none ════
+-- ════ `decode_upgrade_pass` ════
 
--- "order: .. 1, 2": 2 is "a position or quantizer above 15"
+-- "order: .. 1, 2"
 abbrev pub decodePassRefusal : List ℕ → List ℕ → List ℤ → List ℤ → ℕ
 decodePassRefusal prev curr cs ss =
-    cond (longEnough cs && longEnough ss) (cond (rowInDomain prev && rowInDomain curr) 0 2) 1
-
--- ════ what `decode_upgrade_pass` answers, and what it leaves in the two slices ════
+    firstOf (unless (longEnough cs && longEnough ss) sliceTooShort) (unless (rowInDomain prev && rowInDomain curr) outOfDomain)
 
 -- the answer: "stream bytes never cause [a refusal]", so they are not among its arguments
 abbrev pub decodePassAnswer : List ℕ → List ℕ → List ℤ → List ℤ → Answer
@@ -106,3 +105,9 @@ decodeCoefficients srlData rawData prev curr e cs ss =
 abbrev pub decodeSigns : List ℕ → List ℕ → List ℕ → Bool → List ℤ → List ℤ → List ℤ
 decodeSigns srlData prev curr e cs ss =
     unlessRefused (decodePassRefusal prev curr cs ss) (upgradedSigns (steps e prev curr) srlData ss) ss
+
+-- what the call fixes: its answer, and both slices
+pub record DecodesPass (srlData rawData prev curr : List ℕ) (e : Bool) (cs ss : List ℤ) (r : Answer) (cs′ ss′ : List ℤ) : Type 0 where
+  pub answer : r ≡ decodePassAnswer prev curr cs ss
+  pub coefficients : cs′ ≡ decodeCoefficients srlData rawData prev curr e cs ss
+  pub sign : ss′ ≡ decodeSigns srlData prev curr e cs ss

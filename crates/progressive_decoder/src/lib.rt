@@ -2,8 +2,7 @@
 // Positions go in by value, a row of ten in band order; coefficients, signs and streams are slices that the caller lends.
 // A refusal has a number (docs/SCOPE.md, "Refusals") and alters nothing.
 
-ghost use mathlib.Core.Path.{_≡_};
-ghost use Rattle.progressive_decoder.specs.Upgrade.{decodePassAnswer, decodeCoefficients, decodeSigns};
+ghost use Rattle.progressive_decoder.specs.Upgrade.{DecodesPass};
 
 mod split;
 mod upgrade;
@@ -20,16 +19,17 @@ pub fn decode_upgrade_pass(
     coefficients: &mut [i16],
     sign: &mut [i8],
 ) -> Answer
-    ensures { λ r. ⌜ (r ≡ decodePassAnswer prev curr (now (coefficients .entry)) (now (sign .entry))) × (now (coefficients .exit) ≡ decodeCoefficients (now («srl_data» .entry)) (now («raw_data» .entry)) prev curr «use_reduce_extrapolate» (now (coefficients .entry)) (now (sign .entry))) × (now (sign .exit) ≡ decodeSigns (now («srl_data» .entry)) prev curr «use_reduce_extrapolate» (now (coefficients .entry)) (now (sign .entry))) ⌝ }
+    ensures { λ r. ⌜ DecodesPass (now («srl_data» .entry)) (now («raw_data» .entry)) prev curr «use_reduce_extrapolate»
+        (now (coefficients .entry)) (now (sign .entry)) r (now (coefficients .exit)) (now (sign .exit)) ⌝ }
 {
     if coefficients.len() < 4096 {
-        return Answer::Refused(1);
+        return Answer::Refused(answer::SLICE_TOO_SHORT);
     }
     if sign.len() < 4096 {
-        return Answer::Refused(1);
+        return Answer::Refused(answer::SLICE_TOO_SHORT);
     }
     if !upgrade_steps::positions::rows_ok(prev, curr) {
-        return Answer::Refused(2);
+        return Answer::Refused(answer::OUT_OF_DOMAIN);
     }
     upgrade::upgrade_bands(
         srl_data,

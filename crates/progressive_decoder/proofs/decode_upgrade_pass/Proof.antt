@@ -14,7 +14,7 @@ use Rattle.progressive_decoder.proofs.decode_upgrade_pass.Tie as tie
 returns : tie.Need-returns
 returns c =
     let short = lt-leb 4096 (length (c .before .before .before .args .coefficients .now)) (c .if1 .taken) in
-    (simp short, simp short, simp short)
+    record { answer = simp short; coefficients = simp short; sign = simp short }
 
 -- past the first test there are coefficients enough
 coefficients : (c : tie.Else1) → longEnough (c .before .before .before .args .coefficients .now) ≡ true
@@ -24,7 +24,7 @@ returns-2 : tie.Need-returns-2
 returns-2 c =
     let long = coefficients (c .before) in
     let short = lt-leb 4096 (length (c .before .before .before .before .args .sign .now)) (c .if2 .taken) in
-    (simp (long, short), simp (long, short), simp (long, short))
+    record { answer = simp (long, short); coefficients = simp (long, short); sign = simp (long, short) }
 
 -- past the second there are signs enough
 signs : (c : tie.Else2) → longEnough (c .before .before .before .before .args .sign .now) ≡ true
@@ -36,7 +36,7 @@ returns-3 c =
     let long = coefficients (c .before .before .before) in
     let long′ = signs (c .before .before) in
     let high : (rowInDomain (a .prev) && rowInDomain (a .curr)) ≡ false = sym (c .before .rows-ok .ensures) ∙ not-true _ (c .if3 .taken) in
-    (simp (long, long′, high), simp (long, long′, high), simp (long, long′, high))
+    record { answer = simp (long, long′, high); coefficients = simp (long, long′, high); sign = simp (long, long′, high) }
 
 -- past the third the positions are in the domain
 low : (c : tie.Else3) → (rowInDomain (c .before .before .before .before .before .before .args .prev) && rowInDomain (c .before .before .before .before .before .before .args .curr)) ≡ true
@@ -51,7 +51,7 @@ returns-4 c =
     let long′ = signs (c .before .before .before .before .before .before .before) in
     let right = low (c .before .before .before .before .before) in
     let e = c .before .before .upgrade-bands .ensures in
-    (simp (long, long′, right), simp (long, long′, right) (e .0), simp (long, long′, right) (e .1))
+    record { answer = simp (long, long′, right); coefficients = simp (long, long′, right) (e .0); sign = simp (long, long′, right) (e .1) }
 
 pub decode-upgrade-pass-spec : {M : Type 1} → statement M
 decode-upgrade-pass-spec = tie.close (tie.spec returns returns-2 (λ c κs. search needs) returns-3 upgrade-bands-requires (λ c. search needs) (λ c. search needs) returns-4)
