@@ -13,14 +13,14 @@ use Rattle.upgrade_steps.proofs.Spans.{Lies, place-more}
 use Rattle.srl_decoder.specs.Srl.{start}
 use Rattle.srl_decoder.specs.Decode.{opened}
 use Rattle.upgrade_steps.specs.Steps.{Step}
-use Rattle.progressive_decoder.specs.Inner.{Walked, walked, walk, reached}
+use Rattle.progressive_decoder.specs.Inner.{Walked, walked, walk, walkedBy}
 use Rattle.progressive_decoder.specs.declared.upgrade.Readers.{Readers}
 use Rattle.progressive_decoder.proofs.Walks.{parted, walk-part}
 
 module _ (s d : List ℕ) (e : Bool) (f : ℕ → Step) (b from to : ℕ) (p : Lies e b from to) where
   -- a band's part is walked by itself and put back
   pub band-turn : (cs ss cs′ ss′ : List ℤ) (r : Readers) (w : Walked) → 4096 ≤ length cs → 4096 ≤ length ss
-      → walk s d (perPlaceTo e f b) cs ss start 0 ≡ reached cs′ ss′ r
+      → walk s d (perPlaceTo e f b) cs ss start 0 ≡ walkedBy cs′ ss′ r
       → walk s d (replicate (to - from) (f b)) (midOf from (to - from) cs′) (midOf from (to - from) ss′) (opened (r .srl)) (r .raw) ≡ w
       → walk s d (perPlaceTo e f (b + 1)) cs ss start 0 ≡ walked (putMid from (to - from) cs′ (w .coefficients)) (putMid from (to - from) ss′ (w .sign)) (w .srl) (w .raw)
   band-turn cs ss cs′ ss′ r w h k before now =

@@ -7,10 +7,10 @@ use borrow.Rule.Slice.PartMut.{putMid, midOf}
 use lib.IntN.{ℤ}
 use lib.ListN.{length, replicate}
 use Rattle.bits.specs.Bits.{num, numbers}
-use Rattle.srl_decoder.specs.Srl.{Reader, nextValue, nextReader, values}
+use Rattle.srl_decoder.specs.Srl.{Reader, nextValue, nextReader, values, readerAfter}
 use Rattle.upgrade_steps.specs.Steps.{Step, Source, skipped, srl, raw, source, srlWidth, srlWidths, rawWidth, rawWidths}
 use Rattle.progressive_decoder.specs.Upgrade.{srlCoefficient, srlSign, adds, rawCoefficient, signThen, signsAfter, coefficientThen, coefficientsAfter}
-use Rattle.progressive_decoder.specs.Inner.{Walked, walked, coefficientAt, signAt, readerAt, countAt, onto, walk, Early}
+use Rattle.progressive_decoder.specs.Inner.{Walked, walked, coefficientAt, signAt, readerAt, countAt, onto, walk, countAfter, Early}
 use Rattle.progressive_decoder.specs.declared.upgrade.Readers.{Readers}
 use Rattle.upgrade_steps.proofs.Sources.{source-none}
 
@@ -88,6 +88,41 @@ module _ (s d : List ℕ) where
   walk-coefficients (t ∷ ts) (c ∷ cs) [] r n = refl
   walk-coefficients (t ∷ ts) (c ∷ cs) (x ∷ ss) r n =
       coefficient-is (source t x) t c x r n (srlWidths ts ss) (rawWidths ts ss) (coefficientsAfter ts cs ss) (λ r n. walk s d ts cs ss r n .coefficients) (walk-coefficients ts cs ss)
+
+  -- ════ where the readers end ════
+
+  -- the SRL reader
+  reader-is : (o : Source) (t : Step) (ws : List ℕ) (r : Reader) → readerAfter s ws (readerAt s d t o r) ≡ readerAfter s (srlWidth o (t .width) ws) r
+  unfolding readerAfter
+  reader-is skipped t ws r = refl
+  reader-is srl t ws r = refl
+  reader-is raw t ws r = refl
+
+  -- the SRL reader stands behind the last value
+  pub walk-reader : (ts : List Step) (cs ss : List ℤ) (r : Reader) (n : ℕ) → length ts ≤ length cs → walk s d ts cs ss r n .srl ≡ readerAfter s (srlWidths ts ss) r
+  unfolding walk srlWidths readerAfter
+  walk-reader [] cs ss r n h = refl
+  walk-reader (t ∷ ts) [] ss r n h = absurd (omega arith)
+  walk-reader (t ∷ ts) (c ∷ cs) [] r n h = refl
+  walk-reader (t ∷ ts) (c ∷ cs) (x ∷ ss) r n h =
+      let o = source t x in
+      walk-reader ts cs ss (readerAt s d t o r) (countAt s d t o n) (omega arith) ∙ reader-is o t (srlWidths ts ss) r
+
+  count-is : (o : Source) (t : Step) (ws : List ℕ) (n : ℕ) → countAfter ws (countAt s d t o n) ≡ countAfter (rawWidth o (t .width) ws) n
+  unfolding countAfter
+  count-is skipped t ws n = refl
+  count-is srl t ws n = refl
+  count-is raw t ws n = refl
+
+  -- the raw bits that were read are those of all numbers
+  pub walk-count : (ts : List Step) (cs ss : List ℤ) (r : Reader) (n : ℕ) → length ts ≤ length cs → walk s d ts cs ss r n .raw ≡ countAfter (rawWidths ts ss) n
+  unfolding walk rawWidths countAfter
+  walk-count [] cs ss r n h = refl
+  walk-count (t ∷ ts) [] ss r n h = absurd (omega arith)
+  walk-count (t ∷ ts) (c ∷ cs) [] r n h = refl
+  walk-count (t ∷ ts) (c ∷ cs) (x ∷ ss) r n h =
+      let o = source t x in
+      walk-count ts cs ss (readerAt s d t o r) (countAt s d t o n) (omega arith) ∙ count-is o t (rawWidths ts ss) n
 
 -- a band that is skipped leaves the readers where they are
 pub early-on : (r : Readers) (m k : ℕ) → Early r m → Early r (m + k)

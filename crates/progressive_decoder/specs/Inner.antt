@@ -3,16 +3,16 @@
 use mathlib.Core.Path.{_≡_}
 use mathlib.Core.Bool.{Bool, true, false, not}
 use mathlib.Core.List.{List, [], _∷_}
-use Prim.Native.Nat.{ℕ, _+_, _-_, _≤_, _<_}
+use Prim.Native.Nat.{ℕ, _+_, _-_, _*_, _≤_, _<_}
 use lib.IntN.{ℤ, pos, negsuc}
-use lib.ListN.{getD, set, take}
+use lib.ListN.{length, getD, set, take, replicate}
 use Rattle.places.specs.Inner.{placesOf}
 use Rattle.bits.specs.Bits.{num, bitsRead}
-use Rattle.srl_decoder.specs.Srl.{Reader, nextValue, nextReader}
+use Rattle.srl_decoder.specs.Srl.{Reader, start, nextValue, nextReader, readerAfter}
 use Rattle.srl_decoder.specs.Decode.{opened}
-use Rattle.upgrade_steps.specs.Steps.{Step, Source, skipped, srl, raw, source}
+use Rattle.upgrade_steps.specs.Steps.{Step, Source, skipped, srl, raw, source, srlWidths, rawWidths}
 use Rattle.upgrade_steps.specs.Inner.{fromSrl}
-use Rattle.progressive_decoder.specs.Upgrade.{srlCoefficient, srlSign, adds, rawCoefficient}
+use Rattle.progressive_decoder.specs.Upgrade.{srlCoefficient, srlSign, adds, rawCoefficient, upgradedCoefficients, upgradedSigns}
 use Rattle.progressive_decoder.specs.declared.upgrade.Readers.{Readers}
 
 -- the coefficients and signs, and both readers: the SRL reader and the count of raw bits read
@@ -109,8 +109,8 @@ signBy true = negsuc 0
 signBy false = pos 1
 
 -- the slices and the readers of the code, as a walk gives them
-abbrev pub reached : List ℤ → List ℤ → Readers → Walked
-reached cs ss r = walked cs ss (opened (r .srl)) (r .raw)
+abbrev pub walkedBy : List ℤ → List ℤ → Readers → Walked
+walkedBy cs ss r = walked cs ss (opened (r .srl)) (r .raw)
 
 -- the readers can go on, with at most m bits read of each stream
 pub record Early (r : Readers) (m : ℕ) : Type 0 where
@@ -118,3 +118,27 @@ pub record Early (r : Readers) (m : ℕ) : Type 0 where
   pub kp : r .srl .kp ≤ 80
   pub srl-read : bitsRead (r .srl .reader) ≤ m
   pub raw-read : r .raw ≤ m
+
+-- a band's places have had their step, all of them the same; the readers have gone on by at most 40,000 bits a place
+abbrev pub BandWalked : List ℕ → List ℕ → Step → List ℤ → List ℤ → Readers → List ℤ → List ℤ → Readers → Type 0
+BandWalked srlData rawData t cs ss from cs′ ss′ r =
+    (walk srlData rawData (replicate (length cs) t) cs ss (opened (from .srl)) (from .raw) ≡ walkedBy cs′ ss′ r)
+    × ((m : ℕ) → Early from m → Early r (m + 40000 * length cs))
+
+-- ════ where the readers end ════
+
+-- the count of raw bits read, once numbers of these widths have been read
+unfoldable pub countAfter : List ℕ → ℕ → ℕ
+countAfter [] n = n
+countAfter (w ∷ ws) n = countAfter ws (n + w)
+
+-- the readers stand behind the last value and the last raw bits of a pass
+pub record Ended (ts : List Step) (srlData : List ℕ) (ss : List ℤ) (r : Readers) : Type 0 where
+  pub srl : opened (r .srl) ≡ readerAfter srlData (srlWidths ts ss) start
+  pub raw : r .raw ≡ countAfter (rawWidths ts ss) 0
+
+-- what a pass over all places fixes
+pub record Upgrades (ts : List Step) (srlData rawData : List ℕ) (cs ss cs′ ss′ : List ℤ) (r : Readers) : Type 0 where
+  pub coefficients : cs′ ≡ upgradedCoefficients ts srlData rawData cs ss
+  pub sign : ss′ ≡ upgradedSigns ts srlData ss
+  pub ends : Ended ts srlData ss r

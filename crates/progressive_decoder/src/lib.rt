@@ -5,7 +5,7 @@
 ghost use Rattle.progressive_decoder.specs.Upgrade.{DecodesPass};
 
 mod split;
-mod upgrade;
+pub mod upgrade;
 
 pub use answer::Answer;
 

@@ -42,7 +42,13 @@ fn split_places(
     zeros: &mut [u16],
     others: &mut [u16],
 ) -> usize
-    requires { ⌜ Split (bandStep t) (now sign) from count (now zeros) (now others) × (from ≤ to) × (to ≤ length (now sign)) × (length (now sign) ≤ 1024) × (length (now sign) ≤ length (now zeros)) × (length (now sign) ≤ length (now others)) ⌝ }
+    requires { ⌜
+        Split (bandStep t) (now sign) from count (now zeros) (now others)
+        × (from ≤ to)
+        × (to ≤ length (now sign))
+        × (length (now sign) ≤ 1024)
+        × (length (now sign) ≤ length (now zeros))
+        × (length (now sign) ≤ length (now others)) ⌝ }
     ensures { λ r. ⌜ Split (bandStep t) (now (sign .entry)) to r (now (zeros .exit)) (now (others .exit)) ⌝ }
 {
     let mut n = count;
@@ -85,8 +91,16 @@ fn split_eight(
     others: &mut [u16],
     rows: &[u8; 2304],
 ) -> usize
-    requires { ⌜ (n ≤ i) × (i + 8 ≤ length (now sign)) × (length (now sign) ≤ 1024) × (length (now sign) ≤ length (now zeros)) × (length (now sign) ≤ length (now others)) × (now rows ≡ placeRows) ⌝ }
-    ensures { λ r. ⌜ ((t : Step) → t .bottom ≡ false → Split t (now (sign .entry)) i n (now (zeros .entry)) (now (others .entry)) → Split t (now (sign .entry)) (i + 8) r (now (zeros .exit)) (now (others .exit))) ⌝ }
+    requires { ⌜
+        (n ≤ i)
+        × (i + 8 ≤ length (now sign))
+        × (length (now sign) ≤ 1024)
+        × (length (now sign) ≤ length (now zeros))
+        × (length (now sign) ≤ length (now others))
+        × (now rows ≡ placeRows) ⌝ }
+    ensures { λ r. ⌜ ((t : Step) → t .bottom ≡ false
+        → Split t (now (sign .entry)) i n (now (zeros .entry)) (now (others .entry))
+        → Split t (now (sign .entry)) (i + 8) r (now (zeros .exit)) (now (others .exit))) ⌝ }
 {
     let m = eight_mask(sign, i);
     places::put_ones(rows, 255 - m, i as u16, others, i - n);
@@ -111,7 +125,11 @@ pub fn split(
     others: &mut [u16],
     rows: &[u8; 2304],
 ) -> usize
-    requires { ⌜ (length (now sign) ≤ 1024) × (length (now sign) ≤ length (now zeros)) × (length (now sign) ≤ length (now others)) × (now rows ≡ placeRows) ⌝ }
+    requires { ⌜
+        (length (now sign) ≤ 1024)
+        × (length (now sign) ≤ length (now zeros))
+        × (length (now sign) ≤ length (now others))
+        × (now rows ≡ placeRows) ⌝ }
     ensures { λ r. ⌜ Split (bandStep t) (now (sign .entry)) (length (now (sign .entry))) r (now (zeros .exit)) (now (others .exit)) ⌝ }
 {
     let len = sign.len();

@@ -14,8 +14,8 @@ ghost use Rattle.places.specs.Inner.{placeRows};
 ghost use Rattle.bands.specs.Positions.{rowInDomain};
 ghost use Rattle.upgrade_steps.specs.Steps.{steps, srl, raw};
 ghost use Rattle.upgrade_steps.specs.Inner.{bandStep};
-ghost use Rattle.progressive_decoder.specs.Upgrade.{adds, rawCoefficient, upgradedCoefficients, upgradedSigns};
-ghost use Rattle.progressive_decoder.specs.Inner.{walked, walk, over, reached, signBy, Within, Early};
+ghost use Rattle.progressive_decoder.specs.Upgrade.{adds, rawCoefficient};
+ghost use Rattle.progressive_decoder.specs.Inner.{walked, over, signBy, Within, Early, BandWalked, Upgrades};
 
 // A reader for each stream: the SRL decoder's state, and the count of raw bits read.
 pub struct Readers {
@@ -89,8 +89,16 @@ fn raw_list(
     coefficients: &mut [i16],
     sign: &[i8],
 ) -> usize
-    requires { ⌜ Width (t .width) × (from ≤ 2 ^ 60) × (n ≤ 1024) × (n ≤ length (now list)) × Within (now list) n (length (now coefficients)) × (length (now sign) ≡ length (now coefficients)) ⌝ }
-    ensures { λ r. ⌜ ((s : List ℕ) (q : Reader) → over raw s (now («raw_data» .entry)) (bandStep t) (take n (now (list .entry))) (walked (now (coefficients .entry)) (now (sign .entry)) q from) ≡ walked (now (coefficients .exit)) (now (sign .entry)) q r) ⌝ }
+    requires { ⌜
+        Width (t .width)
+        × (from ≤ 2 ^ 60)
+        × (n ≤ 1024)
+        × (n ≤ length (now list))
+        × Within (now list) n (length (now coefficients))
+        × (length (now sign) ≡ length (now coefficients)) ⌝ }
+    ensures { λ r. ⌜ ((s : List ℕ) (q : Reader)
+        → over raw s (now («raw_data» .entry)) (bandStep t) (take n (now (list .entry))) (walked (now (coefficients .entry)) (now (sign .entry)) q from)
+        ≡ walked (now (coefficients .exit)) (now (sign .entry)) q r) ⌝ }
 {
     let width = t.width;
     let mut at = from;
@@ -119,8 +127,16 @@ fn value_behind(
     taken: usize,
     width: u8,
 ) -> srl_decoder::decoder::NonzeroRead
-    requires { ⌜ Width width × (taken ≤ 40) × (at ≤ 2 ^ 45) × Front (57 - taken) ((a * 2 ^ taken) % 2 ^ 64) (now «srl_data») at ⌝ }
-    ensures { λ r. ⌜ (r .negative ≡ bitAt (now («srl_data» .entry)) at) × (r .magnitude ≡ zeros (now («srl_data» .entry)) (at + 1) (mostZeros width) + 1) × (at + r .taken ≡ behind (now («srl_data» .entry)) at width) × (r .taken ≤ 32769) ⌝ }
+    requires { ⌜
+        Width width
+        × (taken ≤ 40)
+        × (at ≤ 2 ^ 45)
+        × Front (57 - taken) ((a * 2 ^ taken) % 2 ^ 64) (now «srl_data») at ⌝ }
+    ensures { λ r. ⌜
+        (r .negative ≡ bitAt (now («srl_data» .entry)) at)
+        × (r .magnitude ≡ zeros (now («srl_data» .entry)) (at + 1) (mostZeros width) + 1)
+        × (at + r .taken ≡ behind (now («srl_data» .entry)) at width)
+        × (r .taken ≤ 32769) ⌝ }
 {
     let rest = bits::reader::behind(a, taken as u32);
     let place = bits::reader::place(at);
@@ -136,7 +152,10 @@ fn put_value(
     position: u8,
 )
     requires { ⌜ (i < length (now coefficients)) × (i < length (now sign)) ⌝ }
-    ensures { λ _. ⌜ (now (coefficients .exit) ≡ set (now (coefficients .entry)) i (rawCoefficient (not (v .negative)) position (v .magnitude) (getD (now (coefficients .entry)) i (pos 0)))) × (now (sign .exit) ≡ set (now (sign .entry)) i (signBy (v .negative))) ⌝ }
+    ensures { λ _. ⌜
+        (now (coefficients .exit) ≡ set (now (coefficients .entry)) i
+        (rawCoefficient (not (v .negative)) position (v .magnitude) (getD (now (coefficients .entry)) i (pos 0))))
+        × (now (sign .exit) ≡ set (now (sign .entry)) i (signBy (v .negative))) ⌝ }
 {
     let c = coefficients[i];
     coefficients[i] = moved(c, v.magnitude, position, !v.negative);
@@ -154,8 +173,20 @@ fn srl_list(
     coefficients: &mut [i16],
     sign: &mut [i8],
 ) -> srl_decoder::SrlState
-    requires { ⌜ Width (t .width) × (from .reader .«bit_idx» ≤ 7) × (from .kp ≤ 80) × (bitsRead (from .reader) ≤ 2 ^ 41) × (n ≤ 1024) × (n ≤ length (now list)) × Within (now list) n (length (now coefficients)) × (length (now sign) ≡ length (now coefficients)) ⌝ }
-    ensures { λ r. ⌜ ((d : List ℕ) (m : ℕ) → over srl (now («srl_data» .entry)) d (bandStep t) (take n (now (list .entry))) (walked (now (coefficients .entry)) (now (sign .entry)) (opened from) m) ≡ walked (now (coefficients .exit)) (now (sign .exit)) (opened r) m) × (r .reader .«bit_idx» ≤ 7) ⌝ }
+    requires { ⌜
+        Width (t .width)
+        × (from .reader .«bit_idx» ≤ 7)
+        × (from .kp ≤ 80)
+        × (bitsRead (from .reader) ≤ 2 ^ 41)
+        × (n ≤ 1024)
+        × (n ≤ length (now list))
+        × Within (now list) n (length (now coefficients))
+        × (length (now sign) ≡ length (now coefficients)) ⌝ }
+    ensures { λ r. ⌜
+        ((d : List ℕ) (m : ℕ)
+        → over srl (now («srl_data» .entry)) d (bandStep t) (take n (now (list .entry))) (walked (now (coefficients .entry)) (now (sign .entry)) (opened from) m)
+        ≡ walked (now (coefficients .exit)) (now (sign .exit)) (opened r) m)
+        × (r .reader .«bit_idx» ≤ 7) ⌝ }
 {
     let mut at = bits::reader::count_of(from.reader);
     let mut kp = from.kp;
@@ -198,8 +229,16 @@ fn upgrade_band(
     others: &mut [u16],
     rows: &[u8; 2304],
 ) -> Readers
-    requires { ⌜ Width (t .width) × Early from (2 ^ 40) × (length (now sign) ≡ length (now coefficients)) × (length (now coefficients) ≤ 1024) × (1024 ≤ length (now zeros)) × (1024 ≤ length (now others)) × (now rows ≡ placeRows) ⌝ }
-    ensures { λ r. ⌜ (walk (now («srl_data» .entry)) (now («raw_data» .entry)) (replicate (length (now (coefficients .entry))) (bandStep t)) (now (coefficients .entry)) (now (sign .entry)) (opened (from .srl)) (from .raw) ≡ reached (now (coefficients .exit)) (now (sign .exit)) r) × ((m : ℕ) → Early from m → Early r (m + 40000 * length (now (coefficients .entry)))) ⌝ }
+    requires { ⌜
+        Width (t .width)
+        × Early from (2 ^ 40)
+        × (length (now sign) ≡ length (now coefficients))
+        × (length (now coefficients) ≤ 1024)
+        × (1024 ≤ length (now zeros))
+        × (1024 ≤ length (now others))
+        × (now rows ≡ placeRows) ⌝ }
+    ensures { λ r. ⌜ BandWalked (now («srl_data» .entry)) (now («raw_data» .entry)) (bandStep t)
+        (now (coefficients .entry)) (now (sign .entry)) from (now (coefficients .exit)) (now (sign .exit)) r ⌝ }
 {
     let state = from.srl;
     let n = crate::split::split(t, sign, zeros, others, rows);
@@ -228,8 +267,16 @@ fn one_band(
     others: &mut [u16],
     rows: &[u8; 2304],
 ) -> Readers
-    requires { ⌜ (t .width ≤ 15) × Early from (2 ^ 40) × (length (now sign) ≡ length (now coefficients)) × (length (now coefficients) ≤ 1024) × (1024 ≤ length (now zeros)) × (1024 ≤ length (now others)) × (now rows ≡ placeRows) ⌝ }
-    ensures { λ r. ⌜ (walk (now («srl_data» .entry)) (now («raw_data» .entry)) (replicate (length (now (coefficients .entry))) (bandStep t)) (now (coefficients .entry)) (now (sign .entry)) (opened (from .srl)) (from .raw) ≡ reached (now (coefficients .exit)) (now (sign .exit)) r) × ((m : ℕ) → Early from m → Early r (m + 40000 * length (now (coefficients .entry)))) ⌝ }
+    requires { ⌜
+        (t .width ≤ 15)
+        × Early from (2 ^ 40)
+        × (length (now sign) ≡ length (now coefficients))
+        × (length (now coefficients) ≤ 1024)
+        × (1024 ≤ length (now zeros))
+        × (1024 ≤ length (now others))
+        × (now rows ≡ placeRows) ⌝ }
+    ensures { λ r. ⌜ BandWalked (now («srl_data» .entry)) (now («raw_data» .entry)) (bandStep t)
+        (now (coefficients .entry)) (now (sign .entry)) from (now (coefficients .exit)) (now (sign .exit)) r ⌝ }
 {
     if t.width == 0 {
         return from;
@@ -249,7 +296,8 @@ fn one_band(
 
 // ---- all bands
 
-// The ten bands, with both readers at the start of their streams.
+// The ten bands, with both readers at the start of their streams; where the readers end. A part of `decode_upgrade_pass` and of a tile's pass,
+// which have seen that no position is above 15.
 pub fn upgrade_bands(
     srl_data: &[u8],
     raw_data: &[u8],
@@ -258,9 +306,10 @@ pub fn upgrade_bands(
     use_reduce_extrapolate: bool,
     coefficients: &mut [i16],
     sign: &mut [i8],
-)
+) -> Readers
     requires { ⌜ (rowInDomain prev ≡ true) × (4096 ≤ length (now coefficients)) × (4096 ≤ length (now sign)) ⌝ }
-    ensures { λ _. ⌜ (now (coefficients .exit) ≡ upgradedCoefficients (steps «use_reduce_extrapolate» prev curr) (now («srl_data» .entry)) (now («raw_data» .entry)) (now (coefficients .entry)) (now (sign .entry))) × (now (sign .exit) ≡ upgradedSigns (steps «use_reduce_extrapolate» prev curr) (now («srl_data» .entry)) (now (sign .entry))) ⌝ }
+    ensures { λ r. ⌜ Upgrades (steps «use_reduce_extrapolate» prev curr) (now («srl_data» .entry)) (now («raw_data» .entry))
+        (now (coefficients .entry)) (now (sign .entry)) (now (coefficients .exit)) (now (sign .exit)) r ⌝ }
 {
     let rows = places::place_rows();
     let mut zeros: [u16; 1024] = [0; 1024];
@@ -288,4 +337,5 @@ pub fn upgrade_bands(
         );
         b += 1;
     }
+    readers
 }

@@ -51,7 +51,7 @@ returns-4 c =
     let long′ = signs (c .before .before .before .before .before .before .before) in
     let right = low (c .before .before .before .before .before) in
     let e = c .before .before .upgrade-bands .ensures in
-    record { answer = simp (long, long′, right); coefficients = simp (long, long′, right) (e .0); sign = simp (long, long′, right) (e .1) }
+    record { answer = simp (long, long′, right); coefficients = simp (long, long′, right) (e .coefficients); sign = simp (long, long′, right) (e .sign) }
 
 pub decode-upgrade-pass-spec : {M : Type 1} → statement M
 decode-upgrade-pass-spec = tie.close (tie.spec returns returns-2 (λ c κs. search needs) returns-3 upgrade-bands-requires (λ c. search needs) (λ c. search needs) returns-4)

@@ -8,7 +8,7 @@ use lib.ListN.{length, getD, take, replicate}
 use Rattle.srl_decoder.specs.Decode.{opened}
 use Rattle.upgrade_steps.specs.Steps.{srl, raw}
 use Rattle.upgrade_steps.specs.Inner.{bandStep, fromSrl}
-use Rattle.progressive_decoder.specs.Inner.{Walked, walked, walk, over, reached, srlPlaces, rawPlaces}
+use Rattle.progressive_decoder.specs.Inner.{Walked, walked, walk, over, walkedBy, srlPlaces, rawPlaces}
 use Rattle.progressive_decoder.proofs.Listed.{Near, walk-listed, walk-near}
 use Rattle.progressive_decoder.proofs.Places.{split-whole, list-within}
 use borrow.Author.Needs.{needs}
@@ -70,7 +70,7 @@ returns c =
     let first = c .before .before .before .before .before .before .before .raw-list in
     let last = c .before .before .srl-list in
     let l = listed (c .before .before .before .before .before .before .before .before .before .before .before .before .before .before .before) in
-    let done : walk s d (replicate (length cs) t) cs ss r n ≡ reached (last .last .1 .1 .1 .1 .1 .0) (last .last .1 .1 .1 .1 .1 .1 .0) (record { srl = last .result; raw = first .result }) =
+    let done : walk s d (replicate (length cs) t) cs ss r n ≡ walkedBy (last .last .1 .1 .1 .1 .1 .0) (last .last .1 .1 .1 .1 .1 .1 .0) (record { srl = last .result; raw = first .result }) =
     walk-listed s d t cs ss r n (k .pre .0 .0) (k .pre .2)
     ∙ sym (ap₂ (λ (is os : List ℕ). over srl s d t is (over raw s d t os (walked cs ss r n))) (l .0) (l .1))
     ∙ ap (over srl s d t _) (first .ensures s r)

@@ -13,10 +13,10 @@ use Rattle.srl_decoder.specs.Decode.{opened}
 use Rattle.srl_decoder.specs.declared.SrlState.{SrlState}
 use Rattle.upgrade_steps.specs.Steps.{Step, stepOf, steps}
 use Rattle.upgrade_steps.specs.Inner.{bandStep}
-use Rattle.progressive_decoder.specs.Inner.{Walked, walk, reached, Early}
+use Rattle.progressive_decoder.specs.Inner.{Walked, walk, walkedBy, Early}
 use Rattle.upgrade_steps.proofs.Spans.{Lies, part-length, more-length}
 use Rattle.progressive_decoder.proofs.Bandwise.{band-turn}
-use Rattle.progressive_decoder.proofs.Walks.{walk-coefficients, walk-signs}
+use Rattle.progressive_decoder.proofs.Walks.{walk-coefficients, walk-signs, walk-reader, walk-count}
 use borrow.Author.Needs.{needs}
 use Rattle.progressive_decoder.proofs.upgrade.upgrade_bands.Statement.{statement}
 use Rattle.progressive_decoder.proofs.upgrade.upgrade_bands.Tie as tie
@@ -24,7 +24,7 @@ use Rattle.progressive_decoder.proofs.upgrade.upgrade_bands.Tie as tie
 abbrev Inv-loop : tie.InvT-loop
 Inv-loop srl-data raw-data use-reduce-extrapolate coefficients₀ sign₀ prev curr rows zeros₀ others₀ readers₀ b₀ coefficients sign zeros others readers b =
     (b ≤ 10) × (length prev ≡ 10) × (length coefficients ≡ length coefficients₀) × (length sign ≡ length sign₀)
-    × (walk srl-data raw-data (perPlaceTo use-reduce-extrapolate (stepOf prev curr) b) coefficients₀ sign₀ start 0 ≡ reached coefficients sign readers)
+    × (walk srl-data raw-data (perPlaceTo use-reduce-extrapolate (stepOf prev curr) b) coefficients₀ sign₀ start 0 ≡ walkedBy coefficients sign readers)
     × Early readers (40000 * length (perPlaceTo use-reduce-extrapolate (stepOf prev curr) b)) × (length zeros ≡ 1024) × (length others ≡ 1024)
 
 abbrev μ-loop : tie.MeasureT-loop
@@ -40,7 +40,7 @@ loop-holds c =
       search needs,
       refl,
       refl,
-      sym (ap (λ (st : SrlState). reached (a .coefficients .now) (a .sign .now) (record { srl = st; raw = 0 })) e),
+      sym (ap (λ (st : SrlState). walkedBy (a .coefficients .now) (a .sign .now) (record { srl = st; raw = 0 })) e),
       record {
         place = omega (arith, ap (λ (st : SrlState). st .reader .«bit_idx») e);
         kp = omega (arith, ap (λ (st : SrlState). st .kp) e);
@@ -97,7 +97,7 @@ loop-again c =
       c .before .before .before .coefficients .given .1 ∙ l .inv .2,
       c .before .before .sign .given .1 ∙ l .inv .3,
       band-turn (a .srl-data .now) (a .raw-data .now) e f (l .b) (s .from) (s .to) at (a .coefficients .now) (a .sign .now) (l .coefficients) (l .sign) (l .readers)
-          (reached (u .last .1 .1 .1 .1 .0) (u .last .1 .1 .1 .1 .1 .0) (u .result)) (p .1) (p .2) (l .inv .4)
+          (walkedBy (u .last .1 .1 .1 .1 .0) (u .last .1 .1 .1 .1 .1 .0) (u .result)) (p .1) (p .2) (l .inv .4)
           (ap₂ (λ k t. walk (a .srl-data .now) (a .raw-data .now) (replicate k t) (midOf (s .from) (s .to - s .from) (l .coefficients)) (midOf (s .from) (s .to - s .from) (l .sign)) (opened (l .readers .srl)) (l .readers .raw)) (sym m) (sym (step (c .before .before .before .before .before .before .before .before .before .before .before)))
           ∙ u .ensures .0),
       subst (Early (u .result)) {x = 40000 * length (perPlaceTo e f (l .b)) + 40000 * length (midOf (s .from) (s .to - s .from) (l .coefficients))} {y = 40000 * length (perPlaceTo e f (l .b + 1))} (omega (arith, m, more-length e f (l .b) (s .from) (s .to) at))
@@ -114,11 +114,17 @@ returns c =
     let f = stepOf (a .t3) (a .t4) in
     let ts = steps e (a .t3) (a .t4) in
     let ten : l .b ≡ 10 = omega arith in
-    let done : walk (a .srl-data .now) (a .raw-data .now) ts (a .coefficients .now) (a .sign .now) start 0 ≡ reached (l .coefficients) (l .sign) (l .readers) =
-    ap (λ t. walk (a .srl-data .now) (a .raw-data .now) t (a .coefficients .now) (a .sign .now) start 0) (sym (ap (perPlaceTo e f) ten ∙ place-all e f)) ∙ l .inv .4 in (
-      sym (ap (λ (w : Walked). w .coefficients) done) ∙ walk-coefficients (a .srl-data .now) (a .raw-data .now) ts (a .coefficients .now) (a .sign .now) start 0,
-      sym (ap (λ (w : Walked). w .sign) done) ∙ walk-signs (a .srl-data .now) (a .raw-data .now) ts (a .coefficients .now) (a .sign .now) start 0 (omega (arith, place-whole e f, c .before .before .before .before .before .before .pre .1)),
-    )
+    let done : walk (a .srl-data .now) (a .raw-data .now) ts (a .coefficients .now) (a .sign .now) start 0 ≡ walkedBy (l .coefficients) (l .sign) (l .readers) =
+    ap (λ t. walk (a .srl-data .now) (a .raw-data .now) t (a .coefficients .now) (a .sign .now) start 0) (sym (ap (perPlaceTo e f) ten ∙ place-all e f)) ∙ l .inv .4 in
+    let enough : length ts ≤ length (a .coefficients .now) = omega (arith, place-whole e f, c .before .before .before .before .before .before .pre .1) in
+    record {
+      coefficients = sym (ap (λ (w : Walked). w .coefficients) done) ∙ walk-coefficients (a .srl-data .now) (a .raw-data .now) ts (a .coefficients .now) (a .sign .now) start 0;
+      sign = sym (ap (λ (w : Walked). w .sign) done) ∙ walk-signs (a .srl-data .now) (a .raw-data .now) ts (a .coefficients .now) (a .sign .now) start 0 enough;
+      ends = record {
+        srl = sym (ap (λ (w : Walked). w .srl) done) ∙ walk-reader (a .srl-data .now) (a .raw-data .now) ts (a .coefficients .now) (a .sign .now) start 0 enough;
+        raw = sym (ap (λ (w : Walked). w .raw) done) ∙ walk-count (a .srl-data .now) (a .raw-data .now) ts (a .coefficients .now) (a .sign .now) start 0 enough;
+      };
+    }
 
 pub upgrade-bands-spec : {M : Type 1} → statement M
 upgrade-bands-spec = tie.close (tie.spec Inv-loop μ-loop (λ c κs. search needs) (λ c κs. search needs) loop-holds (λ c. search needs) (λ c. search needs) (λ c κs. search needs) (λ c κs. search needs) (λ c. search needs) (λ c. search needs) (λ c. search needs) (λ c. search needs) (λ c. search needs) (λ c. search needs) (λ c. search needs) (λ c. search needs) (λ c. search needs) one-band-requires (λ c. search needs) (λ c. search needs) loop-again (λ c. search needs) (λ c. search needs) returns)
