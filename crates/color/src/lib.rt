@@ -126,7 +126,8 @@ fn joined(low: [u16; 64], high: [u16; 64]) -> [u32; 64]
 // 64 pixels from `at` on, each in one number.
 fn words(y: &[i16], cb: &[i16], cr: &[i16], at: usize) -> [u32; 64]
     requires { ⌜ (at + 64 ≤ length (now y)) × (length (now cb) ≡ length (now y)) × (length (now cr) ≡ length (now y)) ⌝ }
-    ensures { λ r. ⌜ ((k : ℕ) → k < 64 → getD r k 0 ≡ redGreen (now (y .entry)) (now (cb .entry)) (now (cr .entry)) (at + k) + 65536 * blueFull (now (y .entry)) (now (cb .entry)) (at + k)) ⌝ }
+    ensures { λ r. ⌜ ((k : ℕ) → k < 64 → getD r k 0
+        ≡ redGreen (now (y .entry)) (now (cb .entry)) (now (cr .entry)) (at + k) + 65536 * blueFull (now (y .entry)) (now (cb .entry)) (at + k)) ⌝ }
 {
     let mut low: [u16; 64] = [0; 64];
     let mut high: [u16; 64] = [0; 64];
@@ -180,7 +181,8 @@ fn write_one(y: &[i16], cb: &[i16], cr: &[i16], pixels: &mut [u8], at: usize)
 // The pixels of three components, four bytes each, where `pixels` begins.
 pub fn write_rgba(y: &[i16], cb: &[i16], cr: &[i16], pixels: &mut [u8])
     requires { ⌜ (length (now cb) ≡ length (now y)) × (length (now cr) ≡ length (now y)) × (4 * length (now y) ≤ length (now pixels)) ⌝ }
-    ensures { λ _. ⌜ now (pixels .exit) ≡ picture (now (y .entry)) (now (cb .entry)) (now (cr .entry)) ++ drop (4 * length (now (y .entry))) (now (pixels .entry)) ⌝ }
+    ensures { λ _. ⌜ now (pixels .exit)
+        ≡ picture (now (y .entry)) (now (cb .entry)) (now (cr .entry)) ++ drop (4 * length (now (y .entry))) (now (pixels .entry)) ⌝ }
 {
     let mut at: usize = 0;
     while at + 64 <= y.len() {

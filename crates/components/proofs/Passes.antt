@@ -1,22 +1,21 @@
 -- A pass over three components in flat arrays: it keeps lengths, each component is upgraded where it lies, and all three one after another.
-use mathlib.Core.Path.{_≡_, refl, sym, ap, ap₂, _∙_}
-use mathlib.Core.Bool.{Bool, true}
+use mathlib.Core.Path.{_≡_, refl, sym, ap, ap₂, _∙_, subst}
+use mathlib.Core.Bool.{Bool}
 use mathlib.Core.List.{List, [], _∷_}
-use Prim.Native.Nat.{ℕ, suc, _*_, _<_}
+use Prim.Native.Nat.{ℕ, suc, _*_, _≤_, _<_}
 use native.Mathlib.Omega.{arith}
-use borrow.Author.Tests.{le-leb}
 use borrow.Rule.Slice.PartMut.{putMid, midOf}
 use lib.IntN.{ℤ}
 use lib.ListN.{length}
-use Rattle.bands.specs.Positions.{inDomain, rowInDomain}
-use Rattle.bands.proofs.Every.{part-passes}
 use Rattle.upgrade_steps.specs.Steps.{Step, Source, skipped, srl, raw, source, steps}
-use Rattle.progressive_decoder.specs.Upgrade.{signThen, signsAfter, coefficientThen, coefficientsAfter, upgradedCoefficients, upgradedSigns, decodePassRefusal}
-use Rattle.answer.specs.Refusals.{unlessRefused, longEnough}
+use Rattle.progressive_decoder.specs.Upgrade.{signThen, signsAfter, coefficientThen, coefficientsAfter, upgradedCoefficients, upgradedSigns}
+use Rattle.progressive_decoder.specs.Inner.{Ended}
+use Rattle.progressive_decoder.specs.declared.upgrade.Readers.{Readers}
 use Rattle.components.specs.Components.{stepsOf, passCoefficients, passSigns}
 use Rattle.planes.specs.Planes.{component, rowOf, joined, of}
 use Rattle.planes.specs.Inner.{withComponent}
-use Rattle.components.specs.Inner.{coefficientsPast, signsPast}
+use Rattle.components.specs.Inner.{coefficientsPast, signsPast, ComponentPassed, ComponentsPassed}
+use Rattle.components.specs.declared.Ends.{Ends}
 use Rattle.planes.proofs.Joined.{Long, upTo, joined-components, parts-long, here, next}
 
 -- ════ lengths ════
@@ -50,26 +49,25 @@ signs-long (t ∷ ts) (s ∷ ss) vs = sign-longer (source t s) s vs (signsAfter 
 
 -- ════ one component, where it lies ════
 
--- it is not refused
-accepted : (prev curr : List ℕ) (c s : List ℤ) → rowInDomain prev ≡ true → rowInDomain curr ≡ true → length c ≡ 4096 → length s ≡ 4096 → decodePassRefusal prev curr c s ≡ 0
-accepted prev curr c s p q h j =
-    let long : longEnough c ≡ true = le-leb 4096 (length c) (omega arith) in
-    let long′ : longEnough s ≡ true = le-leb 4096 (length s) (omega arith) in
-    simp (long, long′, p, q)
-
-module _ (e : Bool) (positions : List ℕ) (rows : List (List ℕ)) (k n : ℕ) (cs ss : List ℤ) (low : rowInDomain positions ≡ true) (low′ : rowInDomain (of rows k) ≡ true)
-    (third : k < 3) (longC : length cs ≡ 12288) (longS : length ss ≡ 12288) (whole : n ≡ 4096) where
+module _ (e : Bool) (positions : List ℕ) (rows : List (List ℕ)) (k n : ℕ) (cs ss : List ℤ) (whole : n ≡ 4096) where
   -- what a function of the steps and of both parts gives goes where one of them lies; n is the length of a part as the code has it
-  pub put : (prev : List ℕ) → prev ≡ rowOf k positions → (f : List Step → List ℤ → List ℤ → List ℤ) (l old y : List ℤ)
-      → y ≡ unlessRefused (decodePassRefusal prev (of rows k) (midOf (k * 4096) n cs) (midOf (k * 4096) n ss)) (f (steps e prev (of rows k)) (midOf (k * 4096) n cs) (midOf (k * 4096) n ss)) old
+  pub component-put : (prev : List ℕ) → prev ≡ rowOf k positions → (f : List Step → List ℤ → List ℤ → List ℤ) (l y : List ℤ)
+      → y ≡ f (steps e prev (of rows k)) (midOf (k * 4096) n cs) (midOf (k * 4096) n ss)
       → putMid (k * 4096) n l y ≡ withComponent k (f (stepsOf e positions rows k) (component k cs) (component k ss)) l
-  put prev row f l old y d =
-      let c = component k cs in
-      let s = component k ss in
+  component-put prev row f l y d =
       ap (putMid (k * 4096) n l) d
-      ∙ ap₂ (λ (n : ℕ) (prev : List ℕ). putMid (k * 4096) n l (unlessRefused (decodePassRefusal prev (of rows k) (midOf (k * 4096) n cs) (midOf (k * 4096) n ss)) (f (steps e prev (of rows k)) (midOf (k * 4096) n cs) (midOf (k * 4096) n ss)) old)) whole row
-      ∙ ap (λ (r : ℕ). withComponent k (unlessRefused r (f (stepsOf e positions rows k) c s) old) l)
-      (accepted (rowOf k positions) (of rows k) c s (part-passes inDomain 10 (k * 10) positions low) low′ (parts-long 4096 cs longC k third) (parts-long 4096 ss longS k third))
+      ∙ ap₂ (λ (n : ℕ) (prev : List ℕ). putMid (k * 4096) n l (f (steps e prev (of rows k)) (midOf (k * 4096) n cs) (midOf (k * 4096) n ss))) whole row
+
+  -- the part is long enough
+  pub component-long : (l : List ℤ) → length l ≡ 12288 → k < 3 → 4096 ≤ length (midOf (k * 4096) n l)
+  component-long l long h = omega (arith, ap (λ (n : ℕ). length (midOf (k * 4096) n l)) whole, parts-long 4096 l long k h)
+
+  -- where the readers of a part end, as of the component
+  pub component-ends : (prev : List ℕ) → prev ≡ rowOf k positions → (srlData : List ℕ) (r : Readers)
+      → Ended (steps e prev (of rows k)) srlData (midOf (k * 4096) n ss) r → Ended (stepsOf e positions rows k) srlData (component k ss) r
+  component-ends prev row srlData r d =
+      subst (λ (n : ℕ). Ended (stepsOf e positions rows k) srlData (midOf (k * 4096) n ss) r) whole
+      (subst (λ (prev : List ℕ). Ended (steps e prev (of rows k)) srlData (midOf (k * 4096) n ss) r) row d)
 
 -- ════ all three ════
 
@@ -92,21 +90,37 @@ module _ (e : Bool) (positions : List ℕ) (rows srlData rawData : List (List �
   Reached k c s = (c ≡ joined (upTo k coefficientsOf (λ j. component j cs))) × (s ≡ joined (upTo k signsOf (λ j. component j ss)))
 
   -- component k is done, from one pair of lists to another
-  abbrev Past : ℕ → List ℤ → List ℤ → List ℤ → List ℤ → Type 0
-  Past k c s c′ s′ = (c′ ≡ coefficientsPast k e positions rows (of srlData k) (of rawData k) c s) × (s′ ≡ signsPast k e positions rows (of srlData k) s)
+  abbrev Past : ℕ → List ℤ → List ℤ → List ℤ → List ℤ → Readers → Type 0
+  Past k c s c′ s′ r = ComponentPassed k e positions rows (of srlData k) (of rawData k) c s c′ s′ r
 
-  one-more : (k : ℕ) → k < 3 → {c s c′ s′ : List ℤ} → Reached k c s → Past k c s c′ s′ → Reached (suc k) c′ s′
+  -- where component k lies nothing has changed, once those before it are done
+  here-sign : (k : ℕ) → k < 3 → {c s : List ℤ} → Reached k c s → component k s ≡ component k ss
+  here-sign k h {c} {s} r = here 4096 signsOf (λ j. component j ss) long-signs (parts-long 4096 ss longS) k h s (r .1)
+
+  one-more : (k : ℕ) → k < 3 → {c s c′ s′ : List ℤ} {q : Readers} → Reached k c s → Past k c s c′ s′ q → Reached (suc k) c′ s′
   unfolding coefficientsPast signsPast
   one-more k h {c} {s} r d =
       let hereC : component k c ≡ component k cs = here 4096 coefficientsOf (λ j. component j cs) long-coefficients (parts-long 4096 cs longC) k h c (r .0) in
-      let hereS : component k s ≡ component k ss = here 4096 signsOf (λ j. component j ss) long-signs (parts-long 4096 ss longS) k h s (r .1) in (
-        d .0 ∙ next 4096 coefficientsOf (λ j. component j cs) long-coefficients (parts-long 4096 cs longC) k h c _ (r .0) (ap₂ (upgradedCoefficients (stepsOf e positions rows k) (of srlData k) (of rawData k)) hereC hereS),
-        d .1 ∙ next 4096 signsOf (λ j. component j ss) long-signs (parts-long 4096 ss longS) k h s _ (r .1) (ap (upgradedSigns (stepsOf e positions rows k) (of srlData k)) hereS),
+      let hereS = here-sign k h r in (
+        d .coefficients ∙ next 4096 coefficientsOf (λ j. component j cs) long-coefficients (parts-long 4096 cs longC) k h c _ (r .0) (ap₂ (upgradedCoefficients (stepsOf e positions rows k) (of srlData k) (of rawData k)) hereC hereS),
+        d .sign ∙ next 4096 signsOf (λ j. component j ss) long-signs (parts-long 4096 ss longS) k h s _ (r .1) (ap (upgradedSigns (stepsOf e positions rows k) (of srlData k)) hereS),
       )
 
-  pub passed : {c₁ s₁ c₂ s₂ c₃ s₃ : List ℤ} → Past 0 cs ss c₁ s₁ → Past 1 c₁ s₁ c₂ s₂ → Past 2 c₂ s₂ c₃ s₃
-      → (c₃ ≡ passCoefficients e positions rows srlData rawData cs ss) × (s₃ ≡ passSigns e positions rows srlData ss)
+  -- where the readers of component k end, by the signs of the whole array at the start
+  ended : (k : ℕ) → k < 3 → {c s c′ s′ : List ℤ} {q : Readers} → Reached k c s → Past k c s c′ s′ q → Ended (stepsOf e positions rows k) (of srlData k) (component k ss) q
+  ended k h {q = q} r d = subst (λ (l : List ℤ). Ended (stepsOf e positions rows k) (of srlData k) l q) (here-sign k h r) (d .ends)
+
+  -- three components one after another are the pass
+  pub passed : {c₁ s₁ c₂ s₂ c₃ s₃ : List ℤ} (r : Ends) → Past 0 cs ss c₁ s₁ (r .y) → Past 1 c₁ s₁ c₂ s₂ (r .cb) → Past 2 c₂ s₂ c₃ s₃ (r .cr)
+      → ComponentsPassed e positions rows srlData rawData cs ss c₃ s₃ r
   unfolding passCoefficients passSigns
-  passed y cb cr =
+  passed r y cb cr =
       let none : Reached 0 cs ss = (sym (joined-components cs longC), sym (joined-components ss longS)) in
-      one-more 2 (omega arith) (one-more 1 (omega arith) (one-more 0 (omega arith) none y) cb) cr
+      let first = one-more 0 (omega arith) none y in
+      let second = one-more 1 (omega arith) first cb in
+      let all = one-more 2 (omega arith) second cr in
+      record {
+        coefficients = all .0;
+        sign = all .1;
+        ends = record { y = ended 0 (omega arith) none y; cb = ended 1 (omega arith) first cb; cr = ended 2 (omega arith) second cr };
+      }

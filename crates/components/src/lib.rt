@@ -4,12 +4,19 @@ ghost use mathlib.Core.Path.{_≡_};
 ghost use mathlib.Core.Bool.{true};
 ghost use Prim.Native.Nat.{_<_};
 ghost use lib.ListN.{length};
-ghost use Rattle.bands.specs.Positions.{rowInDomain, rowsInDomain};
+ghost use Rattle.bands.specs.Positions.{rowInDomain};
 ghost use Rattle.planes.specs.Planes.{three};
-ghost use Rattle.components.specs.Components.{passCoefficients, passSigns};
-ghost use Rattle.components.specs.Inner.{coefficientsPast, signsPast};
+ghost use Rattle.components.specs.Inner.{ComponentPassed, ComponentsPassed};
+use progressive_decoder::upgrade::Readers;
 
-// One component of the flat arrays, by its number.
+// Where the readers of each component ended.
+pub struct Ends {
+    pub y: Readers,
+    pub cb: Readers,
+    pub cr: Readers,
+}
+
+// One component of the flat arrays, by its number; where its readers end. The tile has seen that no position is above 15.
 fn upgrade_component(
     k: usize,
     srl_data: &[u8],
@@ -19,15 +26,16 @@ fn upgrade_component(
     use_reduce_extrapolate: bool,
     coefficients: &mut [i16],
     sign: &mut [i8],
-)
-    requires { ⌜ (k < 3) × (rowInDomain positions ≡ true) × (rowsInDomain rows ≡ true) × (length (now coefficients) ≡ 12288) × (length (now sign) ≡ 12288) ⌝ }
-    ensures { λ _. ⌜ (now (coefficients .exit) ≡ coefficientsPast k «use_reduce_extrapolate» positions rows (now («srl_data» .entry)) (now («raw_data» .entry)) (now (coefficients .entry)) (now (sign .entry))) × (now (sign .exit) ≡ signsPast k «use_reduce_extrapolate» positions rows (now («srl_data» .entry)) (now (sign .entry))) ⌝ }
+) -> Readers
+    requires { ⌜ (k < 3) × (rowInDomain positions ≡ true) × (length (now coefficients) ≡ 12288) × (length (now sign) ≡ 12288) ⌝ }
+    ensures { λ r. ⌜ ComponentPassed k «use_reduce_extrapolate» positions rows (now («srl_data» .entry)) (now («raw_data» .entry))
+        (now (coefficients .entry)) (now (sign .entry)) (now (coefficients .exit)) (now (sign .exit)) r ⌝ }
 {
     let prev = planes::row_at(positions, k * 10);
     let curr = rows[k];
     let at = k * 4096;
     let end = at + 4096;
-    progressive_decoder::decode_upgrade_pass(
+    progressive_decoder::upgrade::upgrade_bands(
         srl_data,
         raw_data,
         prev,
@@ -35,10 +43,10 @@ fn upgrade_component(
         use_reduce_extrapolate,
         &mut coefficients[at..end],
         &mut sign[at..end],
-    );
+    )
 }
 
-// All three.
+// All three; where their readers end.
 pub fn upgrade_components(
     y_srl: &[u8],
     y_raw: &[u8],
@@ -51,12 +59,16 @@ pub fn upgrade_components(
     use_reduce_extrapolate: bool,
     coefficients: &mut [i16],
     sign: &mut [i8],
-)
-    requires { ⌜ (rowInDomain positions ≡ true) × (rowsInDomain rows ≡ true) × (length (now coefficients) ≡ 12288) × (length (now sign) ≡ 12288) ⌝ }
-    ensures { λ _. ⌜ (now (coefficients .exit) ≡ passCoefficients «use_reduce_extrapolate» positions rows (three (now («y_srl» .entry)) (now («cb_srl» .entry)) (now («cr_srl» .entry))) (three (now («y_raw» .entry)) (now («cb_raw» .entry)) (now («cr_raw» .entry))) (now (coefficients .entry)) (now (sign .entry))) × (now (sign .exit) ≡ passSigns «use_reduce_extrapolate» positions rows (three (now («y_srl» .entry)) (now («cb_srl» .entry)) (now («cr_srl» .entry))) (now (sign .entry))) ⌝ }
+) -> Ends
+    requires { ⌜ (rowInDomain positions ≡ true) × (length (now coefficients) ≡ 12288) × (length (now sign) ≡ 12288) ⌝ }
+    ensures { λ r. ⌜ ComponentsPassed «use_reduce_extrapolate» positions rows
+        (three (now («y_srl» .entry)) (now («cb_srl» .entry)) (now («cr_srl» .entry)))
+        (three (now («y_raw» .entry)) (now («cb_raw» .entry)) (now («cr_raw» .entry)))
+        (now (coefficients .entry)) (now (sign .entry)) (now (coefficients .exit)) (now (sign .exit)) r ⌝ }
 {
     let e = use_reduce_extrapolate;
-    upgrade_component(0, y_srl, y_raw, positions, rows, e, coefficients, sign);
-    upgrade_component(1, cb_srl, cb_raw, positions, rows, e, coefficients, sign);
-    upgrade_component(2, cr_srl, cr_raw, positions, rows, e, coefficients, sign);
+    let y = upgrade_component(0, y_srl, y_raw, positions, rows, e, coefficients, sign);
+    let cb = upgrade_component(1, cb_srl, cb_raw, positions, rows, e, coefficients, sign);
+    let cr = upgrade_component(2, cr_srl, cr_raw, positions, rows, e, coefficients, sign);
+    Ends { y, cb, cr }
 }

@@ -13,7 +13,7 @@ use Rattle.dwt_lines.specs.Line.{edge, even, odd}
 use Rattle.dwt_lines.specs.Inner.{Halves}
 use Rattle.dwt_lines.proofs.Lines.{even-edge}
 use Rattle.dwt_columns.specs.Columns.{rows}
-use Rattle.dwt_columns.specs.Inner.{zipWith3, fromRows, lineRows, pairRows, lastRows, tailRows, put}
+use Rattle.dwt_columns.specs.Inner.{zipWith3, fromRows, lineRows, pairRows, lastRows, tailRows, putPart}
 use Rattle.dwt_columns.proofs.Products.{scale}
 use Rattle.dwt_columns.proofs.Put.{part-length, drop-more, put-kept}
 use Rattle.dwt_columns.proofs.Places.{zip3-length}
@@ -23,17 +23,17 @@ use Rattle.dwt_columns.proofs.Places.{zip3-length}
 module _ (low f g d u : List ℤ) (w l h k i a b e j n : ℕ) (ea : a ≡ w) (eb : b ≡ w) (ee : e ≡ w) (ej : j ≡ n) (nw : w ≤ n) (nl : l + w ≤ length low) where
   -- a pair of rows
   pub pair-put : u ≡ pairRows (take a (drop l low)) (take b (drop h f)) (take e (drop k g)) (take (length (take a (drop l low))) (take j (drop i d)))
-      → put i j d u ≡ put i n d (pairRows (take w (drop l low)) (take w (drop h f)) (take w (drop k g)) (take w (drop i d)))
+      → putPart i j d u ≡ putPart i n d (pairRows (take w (drop l low)) (take w (drop h f)) (take w (drop k g)) (take w (drop i d)))
   pair-put q = rw (q, ej, ea, eb, ee, part-length low w l nl, take-take w n (drop i d) nw)
 
   -- the last three rows
   pub last-put : u ≡ lastRows (take a (drop l low)) (take b (drop h f)) (take e (drop k g)) (take (length (take a (drop l low))) (take j (drop i d)))
-      → put i j d u ≡ put i n d (lastRows (take w (drop l low)) (take w (drop h f)) (take w (drop k g)) (take w (drop i d)))
+      → putPart i j d u ≡ putPart i n d (lastRows (take w (drop l low)) (take w (drop h f)) (take w (drop k g)) (take w (drop i d)))
   last-put q = rw (q, ej, ea, eb, ee, part-length low w l nl, take-take w n (drop i d) nw)
 
 -- the last row
 pub tail-put : (f d u : List ℤ) (w h i b j n : ℕ) → b ≡ w → j ≡ n → w ≤ n → h + w ≤ length f → u ≡ tailRows (take b (drop h f)) (take (length (take b (drop h f))) (take j (drop i d)))
-    → put i j d u ≡ put i n d (tailRows (take w (drop h f)) (take w (drop i d)))
+    → putPart i j d u ≡ putPart i n d (tailRows (take w (drop h f)) (take w (drop i d)))
 tail-put f d u w h i b j n eb ej nw nh q = rw (q, ej, eb, part-length f w h nh, take-take w n (drop i d) nw)
 
 -- ════ a turn ════
@@ -54,7 +54,7 @@ pair-length L H K x w eL eH eK ex =
 
 -- d is the buffer before a call, with the even row at i, and D the buffer after it
 module _ (low high d : List ℤ) (w l h i : ℕ) (nl : l + w ≤ length low) (nh : h + w ≤ length high) (D : List ℤ) (nd : i + 3 * w ≤ length d) (n2 : h + w + w ≤ length high)
-    (e : D ≡ put i (3 * w) d (pairRows (take w (drop l low)) (take w (drop h high)) (take w (drop (h + w) high)) (take w (drop i d)))) where
+    (e : D ≡ putPart i (3 * w) d (pairRows (take w (drop l low)) (take w (drop h high)) (take w (drop (h + w) high)) (take w (drop i d)))) where
   -- the rows after it are as they were
   pub cols-kept : (d₀ : List ℤ) → drop (i + w) d ≡ drop (i + w) d₀ → drop (i + 2 * w + w) D ≡ drop (i + 2 * w + w) d₀
   cols-kept d₀ g =
@@ -109,17 +109,17 @@ module _ (low high d : List ℤ) (w l h i : ℕ) (Y D d₀ hs : List ℤ) (r z n
   rest k en ew = drop-drop k i d ∙ ap (λ (z : ℕ). drop z d) en ∙ drop-more d d₀ (i + w) n ew ed
 
   -- no low row is left
-  pub cols-none : r ≡ 0 → i + 2 * w ≡ n → D ≡ put i (2 * w) d (tailRows (take w (drop h high)) (take w (drop i d))) → D ≡ Y ++ drop n d₀
+  pub cols-none : r ≡ 0 → i + 2 * w ≡ n → D ≡ putPart i (2 * w) d (tailRows (take w (drop h high)) (take w (drop i d))) → D ≡ Y ++ drop n d₀
   unfolding tailRows fromRows flatten rows
   cols-none er en e = rw (e, rest (2 * w) en (omega arith), p, er) (simp (append-assoc, append-nil))
 
   -- one is left
-  pub cols-one : r ≡ 1 → i + 3 * w ≡ n → D ≡ put i (3 * w) d (pairRows (take w (drop l low)) (take w (drop h high)) (take w (drop h high)) (take w (drop i d))) → D ≡ Y ++ drop n d₀
+  pub cols-one : r ≡ 1 → i + 3 * w ≡ n → D ≡ putPart i (3 * w) d (pairRows (take w (drop l low)) (take w (drop h high)) (take w (drop h high)) (take w (drop i d))) → D ≡ Y ++ drop n d₀
   unfolding pairRows fromRows flatten rows
   cols-one er en e = rw (e, rest (3 * w) en (omega arith), even-same (take w (drop l low)) (take w (drop h high)), p, er, ez) (simp (append-assoc, append-nil))
 
   -- two are left
-  pub cols-two : r ≡ 2 → i + 4 * w ≡ n → D ≡ put i (4 * w) d (lastRows (take w (drop l low)) (take w (drop h high)) (take w (drop (l + w) low)) (take w (drop i d))) → D ≡ Y ++ drop n d₀
+  pub cols-two : r ≡ 2 → i + 4 * w ≡ n → D ≡ putPart i (4 * w) d (lastRows (take w (drop l low)) (take w (drop h high)) (take w (drop (l + w) low)) (take w (drop i d))) → D ≡ Y ++ drop n d₀
   unfolding lastRows fromRows flatten rows
   cols-two er en e = rw (e, rest (4 * w) en (omega arith), p, er, ez, ← drop-drop w l low) (simp (append-assoc, append-nil))
 
@@ -127,7 +127,7 @@ module _ (low high d : List ℤ) (w l h i : ℕ) (Y D d₀ hs : List ℤ) (r z n
 
 -- the first row, put where the buffer begins, and all rows after it
 pub cols-whole : (low high d u D : List ℤ) (w p q a b k : ℕ) → Halves p q → (p + q) * w ≤ length d → a ≡ w → b ≡ w → k ≡ w → length u ≡ k → u ≡ zipWith edge (take a low) (take b high)
-    → D ≡ flatten (fromRows (take w (put 0 k d u)) (take w high) (rows w (p - 1) (drop w low)) (rows w (q - 1) (drop w high))) ++ drop ((p + q) * w) (put 0 k d u)
+    → D ≡ flatten (fromRows (take w (putPart 0 k d u)) (take w high) (rows w (p - 1) (drop w low)) (rows w (q - 1) (drop w high))) ++ drop ((p + q) * w) (putPart 0 k d u)
     → D ≡ flatten (lineRows (rows w p low) (rows w q high)) ++ drop ((p + q) * w) d
 unfolding lineRows rows
 cols-whole low high d u D w zero q a b k hv n ea eb ek eu e f = absurd (omega arith)
@@ -136,7 +136,7 @@ cols-whole low high d u D w (suc p) (suc q) a b k hv n ea eb ek eu e f =
     let np : suc p - 1 ≡ p = omega arith in
     let nq : suc q - 1 ≡ q = omega arith in
     let nw : w ≤ (suc p + suc q) * w = omega (arith, scale (suc p + suc q) (p + suc q) 1 w (omega arith)) in
-    let x : take w (put 0 k d u) ≡ zipWith edge (take w low) (take w high) = take-at u (drop k d) w (eu ∙ ek) ∙ e ∙ rw (ea, eb) in
-    let kept : drop ((suc p + suc q) * w) (put 0 k d u) ≡ drop ((suc p + suc q) * w) d =
-    drop-more (put 0 k d u) d w ((suc p + suc q) * w) nw (drop-at u (drop k d) w (eu ∙ ek) ∙ ap (λ (z : ℕ). drop z d) ek) in
+    let x : take w (putPart 0 k d u) ≡ zipWith edge (take w low) (take w high) = take-at u (drop k d) w (eu ∙ ek) ∙ e ∙ rw (ea, eb) in
+    let kept : drop ((suc p + suc q) * w) (putPart 0 k d u) ≡ drop ((suc p + suc q) * w) d =
+    drop-more (putPart 0 k d u) d w ((suc p + suc q) * w) nw (drop-at u (drop k d) w (eu ∙ ek) ∙ ap (λ (z : ℕ). drop z d) ek) in
     f ∙ rw (x, kept, np, nq)

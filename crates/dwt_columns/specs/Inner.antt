@@ -39,5 +39,5 @@ unfoldable pub tailRows : List ℤ → List ℤ → List ℤ
 tailRows h x = x ++ zipWith oddTail x h
 
 -- d, with u in the place of the k places from i on
-abbrev pub put : ℕ → ℕ → List ℤ → List ℤ → List ℤ
-put i k d u = take i d ++ (u ++ drop k (drop i d))
+abbrev pub putPart : ℕ → ℕ → List ℤ → List ℤ → List ℤ
+putPart i k d u = take i d ++ (u ++ drop k (drop i d))

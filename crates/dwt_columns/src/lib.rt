@@ -7,7 +7,7 @@ ghost use lib.ListN.{length, take, drop};
 ghost use Rattle.dwt_lines.specs.Line.{edge};
 ghost use Rattle.dwt_lines.specs.Inner.{Halves};
 ghost use Rattle.dwt_columns.specs.Columns.{rows, down};
-ghost use Rattle.dwt_columns.specs.Inner.{fromRows, lineRows, pairRows, lastRows, tailRows, put};
+ghost use Rattle.dwt_columns.specs.Inner.{fromRows, lineRows, pairRows, lastRows, tailRows, putPart};
 
 // The first row of all columns.
 fn edge_row(l: &[i16], h: &[i16], d: &mut [i16])
@@ -79,7 +79,9 @@ fn pair_at(
     d: usize,
 )
     requires { ⌜ (l + w ≤ length (now low)) × (h + w ≤ length (now high)) × (k + w ≤ length (now high)) × (d + 3 * w ≤ length (now dst)) ⌝ }
-    ensures { λ _. ⌜ now (dst .exit) ≡ put d (3 * w) (now (dst .entry)) (pairRows (take w (drop l (now (low .entry)))) (take w (drop h (now (high .entry)))) (take w (drop k (now (high .entry)))) (take w (drop d (now (dst .entry))))) ⌝ }
+    ensures { λ _. ⌜ now (dst .exit) ≡ putPart d (3 * w) (now (dst .entry))
+        (pairRows (take w (drop l (now (low .entry)))) (take w (drop h (now (high .entry))))
+        (take w (drop k (now (high .entry)))) (take w (drop d (now (dst .entry))))) ⌝ }
 {
     pair_rows(
         &low[l..l + w],
@@ -101,7 +103,9 @@ fn last_at(
     d: usize,
 )
     requires { ⌜ (l + w ≤ length (now low)) × (h + w ≤ length (now high)) × (m + w ≤ length (now low)) × (d + 4 * w ≤ length (now dst)) ⌝ }
-    ensures { λ _. ⌜ now (dst .exit) ≡ put d (4 * w) (now (dst .entry)) (lastRows (take w (drop l (now (low .entry)))) (take w (drop h (now (high .entry)))) (take w (drop m (now (low .entry)))) (take w (drop d (now (dst .entry))))) ⌝ }
+    ensures { λ _. ⌜ now (dst .exit) ≡ putPart d (4 * w) (now (dst .entry))
+        (lastRows (take w (drop l (now (low .entry)))) (take w (drop h (now (high .entry))))
+        (take w (drop m (now (low .entry)))) (take w (drop d (now (dst .entry))))) ⌝ }
 {
     last_rows(
         &low[l..l + w],
@@ -114,7 +118,8 @@ fn last_at(
 // The last row after the even row at d, of the high row at h.
 fn tail_at(high: &[i16], dst: &mut [i16], w: usize, h: usize, d: usize)
     requires { ⌜ (h + w ≤ length (now high)) × (d + 2 * w ≤ length (now dst)) ⌝ }
-    ensures { λ _. ⌜ now (dst .exit) ≡ put d (2 * w) (now (dst .entry)) (tailRows (take w (drop h (now (high .entry)))) (take w (drop d (now (dst .entry))))) ⌝ }
+    ensures { λ _. ⌜ now (dst .exit) ≡ putPart d (2 * w) (now (dst .entry))
+        (tailRows (take w (drop h (now (high .entry)))) (take w (drop d (now (dst .entry))))) ⌝ }
 {
     tail_row(&high[h..h + w], &mut dst[d..d + 2 * w]);
 }
@@ -123,7 +128,10 @@ fn tail_at(high: &[i16], dst: &mut [i16], w: usize, h: usize, d: usize)
 fn cols_from(low: &[i16], high: &[i16], dst: &mut [i16], w: usize, p: usize, q: usize)
     requires { ⌜ Halves p q ⌝ }
     requires { ⌜ (p * w ≤ length (now low)) × (q * w ≤ length (now high)) × ((p + q) * w ≤ length (now dst)) ⌝ }
-    ensures { λ _. ⌜ now (dst .exit) ≡ flatten (fromRows (take w (now (dst .entry))) (take w (now (high .entry))) (rows w (p - 1) (drop w (now (low .entry)))) (rows w (q - 1) (drop w (now (high .entry))))) ++ drop ((p + q) * w) (now (dst .entry)) ⌝ }
+    ensures { λ _. ⌜ now (dst .exit)
+        ≡ flatten (fromRows (take w (now (dst .entry))) (take w (now (high .entry)))
+        (rows w (p - 1) (drop w (now (low .entry)))) (rows w (q - 1) (drop w (now (high .entry)))))
+        ++ drop ((p + q) * w) (now (dst .entry)) ⌝ }
 {
     let mut l = w;
     let mut h: usize = 0;
@@ -151,7 +159,8 @@ fn cols_from(low: &[i16], high: &[i16], dst: &mut [i16], w: usize, p: usize, q: 
 fn line_rows(low: &[i16], high: &[i16], dst: &mut [i16], w: usize, p: usize, q: usize)
     requires { ⌜ Halves p q ⌝ }
     requires { ⌜ (p * w ≤ length (now low)) × (q * w ≤ length (now high)) × ((p + q) * w ≤ length (now dst)) ⌝ }
-    ensures { λ _. ⌜ now (dst .exit) ≡ flatten (lineRows (rows w p (now (low .entry))) (rows w q (now (high .entry)))) ++ drop ((p + q) * w) (now (dst .entry)) ⌝ }
+    ensures { λ _. ⌜ now (dst .exit)
+        ≡ flatten (lineRows (rows w p (now (low .entry))) (rows w q (now (high .entry)))) ++ drop ((p + q) * w) (now (dst .entry)) ⌝ }
 {
     let o: usize = 0;
     edge_row(&low[o..w], &high[o..w], &mut dst[o..w]);
@@ -163,7 +172,8 @@ pub fn idwt_cols(src: &[i16], dst: &mut [i16], half: usize, w: usize, p: usize, 
     requires { ⌜ Halves p q ⌝ }
     requires { ⌜ (w ≡ p + q) × (half ≡ p * w) ⌝ }
     requires { ⌜ ((p + q) * w ≤ length (now src)) × ((p + q) * w ≤ length (now dst)) ⌝ }
-    ensures { λ _. ⌜ now (dst .exit) ≡ flatten (down w (rows w p (now (src .entry))) (rows w q (drop half (now (src .entry))))) ++ drop ((p + q) * w) (now (dst .entry)) ⌝ }
+    ensures { λ _. ⌜ now (dst .exit)
+        ≡ flatten (down w (rows w p (now (src .entry))) (rows w q (drop half (now (src .entry))))) ++ drop ((p + q) * w) (now (dst .entry)) ⌝ }
 {
     line_rows(src, &src[half..], dst, w, p, q);
 }

@@ -12,7 +12,7 @@ use Rattle.dwt_lines.specs.Inner.{Halves}
 use Rattle.dwt_extrapolate.specs.Block.{lines, lows, highs, scratch, block, blockAt}
 use Rattle.dwt_extrapolate.specs.Transform.{inner, inverse, scratched}
 use Rattle.dwt_columns.specs.Columns.{rows, down}
-use Rattle.dwt_columns.specs.Inner.{put}
+use Rattle.dwt_columns.specs.Inner.{putPart}
 use Rattle.dwt_columns.proofs.Put.{part-length, to-end, drop-more}
 use Rattle.dwt_columns.proofs.Wide.{Wide}
 use Rattle.dwt_extrapolate.proofs.Rows.{flat-length, flat-rows, lines-wide}
@@ -53,7 +53,7 @@ module _ (p q : ℕ) (v : Halves p q) (b : List ℤ) (nb : (p + q) * (p + q) ≤
   module _ (t t₁ u : List ℤ) (k : ℕ) (e₁ : t₁ ≡ flatten (lines p q p (drop (q * p + p * q + q * q) b) b) ++ drop (p * (p + q)) t) (ek : k ≡ length t₁ - p * (p + q))
       (e₂ : u ≡ flatten (lines p q q (drop (q * p) b) (drop (q * p + p * q) b)) ++ drop (q * (p + q)) (take k (drop (p * (p + q)) t₁))) where
     -- the scratch then
-    pub block-scratch : put (p * (p + q)) k t₁ u ≡ scratch p q b t
+    pub block-scratch : putPart (p * (p + q)) k t₁ u ≡ scratch p q b t
     unfolding scratch lows highs
     block-scratch =
         let half : ℕ = p * (p + q) in
@@ -66,7 +66,7 @@ module _ (p q : ℕ) (v : Halves p q) (b : List ℤ) (nb : (p + q) * (p + q) ≤
         rw (none, append-nil, front, e₂, all, back, end)
 
     -- the buffer D after the columns
-    pub block-cols : (D : List ℤ) → D ≡ flatten (down (p + q) (rows (p + q) p (put (p * (p + q)) k t₁ u)) (rows (p + q) q (drop (p * (p + q)) (put (p * (p + q)) k t₁ u)))) ++ drop ((p + q) * (p + q)) b → D ≡ block p q b
+    pub block-cols : (D : List ℤ) → D ≡ flatten (down (p + q) (rows (p + q) p (putPart (p * (p + q)) k t₁ u)) (rows (p + q) q (drop (p * (p + q)) (putPart (p * (p + q)) k t₁ u)))) ++ drop ((p + q) * (p + q)) b → D ≡ block p q b
     unfolding scratch block
     block-cols D e =
         let half : ℕ = p * (p + q) in
@@ -83,7 +83,7 @@ module _ (p q : ℕ) (v : Halves p q) (b : List ℤ) (nb : (p + q) * (p + q) ≤
 -- ════ the three blocks ════
 
 -- a block at the end of the buffer
-at-end : (p q i k : ℕ) (b u : List ℤ) → k ≡ length b - i → u ≡ block p q (take k (drop i b)) → put i k b u ≡ blockAt i p q b
+at-end : (p q i k : ℕ) (b u : List ℤ) → k ≡ length b - i → u ≡ block p q (take k (drop i b)) → putPart i k b u ≡ blockAt i p q b
 unfolding blockAt
 at-end p q i k b u e f =
     let none : drop k (drop i b) ≡ [] = drop-of-length-le (drop i b) {i = k} (simp length-drop (omega arith)) in
@@ -96,14 +96,14 @@ unfolding scratch
 scratch-same b t t′ e = rw e
 
 -- the buffer and the scratch after each of the three: u₃ and u₂ are what the first two put at the end of the buffer
-module _ (b t u₃ t₃ u₂ t₂ b₁ t₁ : List ℤ) (k₃ k₂ : ℕ) (n₃ : k₃ ≡ length b - 3807) (n₂ : k₂ ≡ length (put 3807 k₃ b u₃) - 3007)
-    (nb : 4096 ≤ length b) (nb₃ : length (put 3807 k₃ b u₃) ≡ length b)
-    (e₃ : u₃ ≡ block 9 8 (take k₃ (drop 3807 b))) (e₂ : u₂ ≡ block 17 16 (take k₂ (drop 3007 (put 3807 k₃ b u₃)))) (e₁ : b₁ ≡ block 33 31 (put 3007 k₂ (put 3807 k₃ b u₃) u₂))
-    (f₃ : t₃ ≡ scratch 9 8 (take k₃ (drop 3807 b)) t) (f₂ : t₂ ≡ scratch 17 16 (take k₂ (drop 3007 (put 3807 k₃ b u₃))) t₃) (f₁ : t₁ ≡ scratch 33 31 (put 3007 k₂ (put 3807 k₃ b u₃) u₂) t₂) where
+module _ (b t u₃ t₃ u₂ t₂ b₁ t₁ : List ℤ) (k₃ k₂ : ℕ) (n₃ : k₃ ≡ length b - 3807) (n₂ : k₂ ≡ length (putPart 3807 k₃ b u₃) - 3007)
+    (nb : 4096 ≤ length b) (nb₃ : length (putPart 3807 k₃ b u₃) ≡ length b)
+    (e₃ : u₃ ≡ block 9 8 (take k₃ (drop 3807 b))) (e₂ : u₂ ≡ block 17 16 (take k₂ (drop 3007 (putPart 3807 k₃ b u₃)))) (e₁ : b₁ ≡ block 33 31 (putPart 3007 k₂ (putPart 3807 k₃ b u₃) u₂))
+    (f₃ : t₃ ≡ scratch 9 8 (take k₃ (drop 3807 b)) t) (f₂ : t₂ ≡ scratch 17 16 (take k₂ (drop 3007 (putPart 3807 k₃ b u₃))) t₃) (f₁ : t₁ ≡ scratch 33 31 (putPart 3007 k₂ (putPart 3807 k₃ b u₃) u₂) t₂) where
   -- the buffer after the first two
-  is-inner : put 3007 k₂ (put 3807 k₃ b u₃) u₂ ≡ inner b
+  is-inner : putPart 3007 k₂ (putPart 3807 k₃ b u₃) u₂ ≡ inner b
   unfolding inner
-  is-inner = at-end 17 16 3007 k₂ (put 3807 k₃ b u₃) u₂ n₂ e₂ ∙ ap (blockAt 3007 17 16) (at-end 9 8 3807 k₃ b u₃ n₃ e₃)
+  is-inner = at-end 17 16 3007 k₂ (putPart 3807 k₃ b u₃) u₂ n₂ e₂ ∙ ap (blockAt 3007 17 16) (at-end 9 8 3807 k₃ b u₃ n₃ e₃)
 
   -- what `decode` leaves in both
   pub three-blocks : (b₁ ≡ inverse b) × (t₁ ≡ scratched b t)
@@ -111,10 +111,10 @@ module _ (b t u₃ t₃ u₂ t₂ b₁ t₁ : List ℤ) (k₃ k₂ : ℕ) (n₃ 
   three-blocks =
       let v₃ : Halves 9 8 = record { some = omega arith; least = omega arith; most = omega arith } in
       let v₂ : Halves 17 16 = record { some = omega arith; least = omega arith; most = omega arith } in
-      let B : List ℤ = put 3807 k₃ b u₃ in
+      let B : List ℤ = putPart 3807 k₃ b u₃ in
       let m₃ : length (take k₃ (drop 3807 b)) ≡ k₃ = part-length b k₃ 3807 (omega arith) in
       let m₂ : length (take k₂ (drop 3007 B)) ≡ k₂ = part-length B k₂ 3007 (omega arith) in
       let r₃ : drop 289 t₃ ≡ drop 289 t = ap (drop 289) f₃ ∙ scratch-rest 9 8 v₃ (take k₃ (drop 3807 b)) (omega arith) t in
       let r₂ : drop 1089 t₂ ≡ drop 1089 t₃ = ap (drop 1089) f₂ ∙ scratch-rest 17 16 v₂ (take k₂ (drop 3007 B)) (omega arith) t₃ in
       let rest : drop 4096 t₂ ≡ drop 4096 t = drop-more t₂ t₃ 1089 4096 (omega arith) r₂ ∙ drop-more t₃ t 289 4096 (omega arith) r₃ in
-      (e₁ ∙ ap (block 33 31) is-inner, f₁ ∙ scratch-same (put 3007 k₂ B u₂) t t₂ rest ∙ ap (λ (z : List ℤ). scratch 33 31 z t) is-inner)
+      (e₁ ∙ ap (block 33 31) is-inner, f₁ ∙ scratch-same (putPart 3007 k₂ B u₂) t t₂ rest ∙ ap (λ (z : List ℤ). scratch 33 31 z t) is-inner)

@@ -13,7 +13,7 @@ use Rattle.dwt_lines.specs.Inner.{Halves}
 use Rattle.dwt_lines.proofs.Lines.{line-length}
 use Rattle.dwt_extrapolate.specs.Block.{lines}
 use Rattle.dwt_columns.specs.Columns.{rows}
-use Rattle.dwt_columns.specs.Inner.{put}
+use Rattle.dwt_columns.specs.Inner.{putPart}
 use Rattle.dwt_columns.proofs.Put.{put-take}
 use Rattle.dwt_columns.proofs.Wide.{Wide}
 
@@ -45,7 +45,7 @@ lines-none p q b e = refl
 
 -- the next line u is put after the i places that are done; m lines were left
 pub lines-turn : (Y b e d u : List ℤ) (p q m i k j l h p′ q′ : ℕ) → 0 < m → i ≤ length d → length u ≡ k → i + k ≡ j → p′ ≡ p → q′ ≡ q
-    → Y ≡ take i d ++ flatten (lines p q m (drop l b) (drop h e)) → u ≡ line (take p′ (drop l b)) (take q′ (drop h e)) → Y ≡ take j (put i k d u) ++ flatten (lines p q (m - 1) (drop (l + p) b) (drop (h + q) e))
+    → Y ≡ take i d ++ flatten (lines p q m (drop l b) (drop h e)) → u ≡ line (take p′ (drop l b)) (take q′ (drop h e)) → Y ≡ take j (putPart i k d u) ++ flatten (lines p q (m - 1) (drop (l + p) b) (drop (h + q) e))
 lines-turn Y b e d u p q zero i k j l h p′ q′ z f g x y t w v = absurd (omega arith)
 lines-turn Y b e d u p q (suc m) i k j l h p′ q′ z f g x y t w v =
     let n : suc m - 1 ≡ m = omega arith in

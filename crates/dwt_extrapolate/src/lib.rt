@@ -5,7 +5,7 @@ ghost use Prim.Native.Nat.{_+_, _*_, _≤_};
 ghost use lib.ListN.{length, drop};
 ghost use Rattle.dwt_lines.specs.Inner.{Halves};
 ghost use Rattle.dwt_extrapolate.specs.Block.{lines, scratch, block};
-ghost use Rattle.dwt_extrapolate.specs.Transform.{inverseAnswer, inverseBuffer, inverseScratch};
+ghost use Rattle.dwt_extrapolate.specs.Transform.{Inverts};
 ghost use Rattle.dwt_extrapolate.specs.Refused.{InverseRefusals};
 
 // The lines of n rows: p low places and q high ones each.
@@ -34,7 +34,8 @@ fn rows_of(src: &[i16], dst: &mut [i16], l: usize, h: usize, p: usize, q: usize,
     requires { ⌜ Halves p q ⌝ }
     requires { ⌜ p + q ≤ 64 ⌝ }
     requires { ⌜ (l + n * p ≤ length (now src)) × (h + n * q ≤ length (now src)) × (n * (p + q) ≤ length (now dst)) ⌝ }
-    ensures { λ _. ⌜ now (dst .exit) ≡ flatten (lines p q n (drop l (now (src .entry))) (drop h (now (src .entry)))) ++ drop (n * (p + q)) (now (dst .entry)) ⌝ }
+    ensures { λ _. ⌜ now (dst .exit)
+        ≡ flatten (lines p q n (drop l (now (src .entry))) (drop h (now (src .entry)))) ++ drop (n * (p + q)) (now (dst .entry)) ⌝ }
 {
     idwt_rows(&src[l..], &src[h..], dst, p, q, n);
 }
@@ -59,13 +60,13 @@ fn decode_block(buffer: &mut [i16], temp: &mut [i16], p: usize, q: usize)
 
 // The inverse wavelet, in place: three blocks, the smallest first. The scratch is lent, and altered.
 pub fn decode(buffer: &mut [i16], temp: &mut [i16]) -> answer::Answer
-    ensures { λ r. ⌜ (r ≡ inverseAnswer (now (buffer .entry)) (now (temp .entry))) × (now (buffer .exit) ≡ inverseBuffer (now (buffer .entry)) (now (temp .entry))) × (now (temp .exit) ≡ inverseScratch (now (buffer .entry)) (now (temp .entry))) ⌝ }
+    ensures { λ r. ⌜ Inverts (now (buffer .entry)) (now (temp .entry)) r (now (buffer .exit)) (now (temp .exit)) ⌝ }
 {
     if buffer.len() < 4096 {
-        return answer::Answer::Refused(1);
+        return answer::Answer::Refused(answer::SLICE_TOO_SHORT);
     }
     if temp.len() < 4096 {
-        return answer::Answer::Refused(1);
+        return answer::Answer::Refused(answer::SLICE_TOO_SHORT);
     }
     decode_block(&mut buffer[3807..], temp, 9, 8);
     decode_block(&mut buffer[3007..], temp, 17, 16);

@@ -34,8 +34,8 @@ samples-length quant cs n =
     inverse-length (dequantizedAll (quantizers true quant) cs) (omega arith) ∙ e ∙ n
 
 -- a component's samples y go where it lies; n is the length of the part as the code has it
-pub put : (quants quant : List ℕ) (k n : ℕ) (cs y : List ℤ) → n ≡ 4096 → quant ≡ rowOf k quants → y ≡ samples quant (midOf (k * 4096) n cs) → putMid (k * 4096) n cs y ≡ withComponent k (samplesOf quants cs k) cs
-put quants quant k n cs y whole row d =
+pub samples-put : (quants quant : List ℕ) (k n : ℕ) (cs y : List ℤ) → n ≡ 4096 → quant ≡ rowOf k quants → y ≡ samples quant (midOf (k * 4096) n cs) → putMid (k * 4096) n cs y ≡ withComponent k (samplesOf quants cs k) cs
+samples-put quants quant k n cs y whole row d =
     ap (putMid (k * 4096) n cs) d ∙ ap₂ (λ (n : ℕ) (r : List ℕ). putMid (k * 4096) n cs (samples r (midOf (k * 4096) n cs))) whole row
 
 -- all three

@@ -7,7 +7,7 @@ ghost use lib.ListN.{length, drop};
 ghost use Rattle.planes.specs.Planes.{component, joined};
 ghost use Rattle.planes.specs.Inner.{withComponent};
 ghost use Rattle.color.specs.Color.{picture};
-ghost use Rattle.pixels.specs.Pixels.{samples, samplesOf, rgba, pixelsAnswer, pixelsOut};
+ghost use Rattle.pixels.specs.Pixels.{samples, samplesOf, rgba, WritesPixels};
 
 // The samples of a component, in its place.
 fn component_samples(coefficients: &mut [i16], quant: [u8; 10], temp: &mut [i16])
@@ -42,7 +42,9 @@ fn all_samples(quants: [u8; 30], coefficients: &mut [i16], temp: &mut [i16])
 // The pixels of three components of samples.
 fn write_samples(samples: &[i16], pixels: &mut [u8])
     requires { ⌜ (length (now samples) ≡ 12288) × (16384 ≤ length (now pixels)) ⌝ }
-    ensures { λ _. ⌜ now (pixels .exit) ≡ picture (component 0 (now (samples .entry))) (component 1 (now (samples .entry))) (component 2 (now (samples .entry))) ++ drop 16384 (now (pixels .entry)) ⌝ }
+    ensures { λ _. ⌜ now (pixels .exit)
+        ≡ picture (component 0 (now (samples .entry))) (component 1 (now (samples .entry))) (component 2 (now (samples .entry)))
+        ++ drop 16384 (now (pixels .entry)) ⌝ }
 {
     color::write_rgba(
         &samples[0..4096],
@@ -71,19 +73,19 @@ pub fn reconstruct_to_rgba(
     use_reduce_extrapolate: bool,
     pixels: &mut [u8],
 ) -> answer::Answer
-    ensures { λ r. ⌜ (r ≡ pixelsAnswer positions quants «use_reduce_extrapolate» (now (pixels .entry))) × (now (pixels .exit) ≡ pixelsOut coefficients positions quants «use_reduce_extrapolate» (now (pixels .entry))) ⌝ }
+    ensures { λ r. ⌜ WritesPixels coefficients positions quants «use_reduce_extrapolate» (now (pixels .entry)) r (now (pixels .exit)) ⌝ }
 {
     if pixels.len() < 16384 {
-        return answer::Answer::Refused(1);
+        return answer::Answer::Refused(answer::SLICE_TOO_SHORT);
     }
     if !bands::positions_in_domain(&positions) {
-        return answer::Answer::Refused(2);
+        return answer::Answer::Refused(answer::OUT_OF_DOMAIN);
     }
     if !bands::positions_in_domain(&quants) {
-        return answer::Answer::Refused(2);
+        return answer::Answer::Refused(answer::OUT_OF_DOMAIN);
     }
     if !use_reduce_extrapolate {
-        return answer::Answer::Refused(3);
+        return answer::Answer::Refused(answer::STANDARD_LAYOUT);
     }
     write_pixels(coefficients, quants, pixels);
     answer::Answer::Accepted

@@ -7,7 +7,7 @@ use lib.Dec.{leb}
 use lib.ListN.{length}
 use borrow.Author.Needs.{needs}
 use borrow.Author.Tests.{lt-leb, le-leb}
-use Rattle.dwt_columns.specs.Inner.{put}
+use Rattle.dwt_columns.specs.Inner.{putPart}
 use Rattle.dwt_extrapolate.proofs.Blocks.{three-blocks}
 use Rattle.dwt_extrapolate.proofs.decode.Statement.{statement}
 use Rattle.dwt_extrapolate.proofs.decode.Tie as tie
@@ -15,14 +15,14 @@ use Rattle.dwt_extrapolate.proofs.decode.Tie as tie
 returns : tie.Need-returns
 returns c =
     let short : leb 4096 (length (c .before .args .buffer .now)) ≡ false = lt-leb 4096 (length (c .before .args .buffer .now)) (c .if1 .taken) in
-    (simp short, simp short, simp short)
+    record { answer = simp short; buffer = simp short; scratch = simp short }
 
 returns-2 : tie.Need-returns-2
 returns-2 c =
     let a = c .before .before .args in
     let long : leb 4096 (length (a .buffer .now)) ≡ true = le-leb 4096 (length (a .buffer .now)) (omega arith) in
     let short : leb 4096 (length (a .temp .now)) ≡ false = lt-leb 4096 (length (a .temp .now)) (c .if2 .taken) in
-    (simp (long, short), simp (long, short), simp (long, short))
+    record { answer = simp (long, short); buffer = simp (long, short); scratch = simp (long, short) }
 
 same-length : tie.Need-same-length
 same-length c = c .before .before .decode-block3 .kept .0 ∙ c .before .before .before .before .before .before .buffer2 .given .1 ∙ c .before .before .before .before .before .before .before .before .before .before .before .buffer .given .1
@@ -43,10 +43,10 @@ returns-3 c =
     let d₂ = c .before .before .before .before .before .before .before .decode-block2 in
     let d₁ = c .before .before .decode-block3 in
     let k₃ = length B - 3807 in
-    let k₂ = length (put 3807 k₃ B (d₃ .last .0)) - 3007 in
+    let k₂ = length (putPart 3807 k₃ B (d₃ .last .0)) - 3007 in
     let given = c .before .before .before .before .before .before .before .before .before .before .before .buffer .given .1 in
     let r = three-blocks B T (d₃ .last .0) (d₃ .last .1 .0) (d₂ .last .0) (d₂ .last .1 .0) (d₁ .last .0) (d₁ .last .1 .0) k₃ k₂ refl refl nb given (d₃ .ensures .0) (d₂ .ensures .0) (d₁ .ensures .0) (d₃ .ensures .1) (d₂ .ensures .1) (d₁ .ensures .1) in
-    (simp (long, longt), simp (long, longt) (r .0), simp (long, longt) (r .1))
+    record { answer = simp (long, longt); buffer = simp (long, longt) (r .0); scratch = simp (long, longt) (r .1) }
 
 pub decode-spec : {M : Type 1} → statement M
 decode-spec =

@@ -14,7 +14,7 @@ use Rattle.pixels.proofs.reconstruct_to_rgba.Tie as tie
 returns : tie.Need-returns
 returns c =
     let short = lt-leb 16384 (length (c .before .before .args .pixels .now)) (c .if1 .taken) in
-    (simp short, simp short)
+    record { answer = simp short; pixels = simp short }
 
 -- past the first test there is room for the pixels
 enough : (c : tie.Else1) → leb 16384 (length (c .before .before .args .pixels .now)) ≡ true
@@ -23,7 +23,7 @@ enough c = le-leb 16384 (length (c .before .before .args .pixels .now)) (omega (
 returns-2 : tie.Need-returns-2
 returns-2 c =
     let high : rowInDomain (c .before .before .before .before .before .args .t2) ≡ false = sym (c .before .positions-in-domain .ensures) ∙ not-true _ (c .if2 .taken) in
-    (simp (enough (c .before .before .before), high), simp (enough (c .before .before .before), high))
+    record { answer = simp (enough (c .before .before .before), high); pixels = simp (enough (c .before .before .before), high) }
 
 -- past the second test the positions are in the domain
 positions : (c : tie.Else2) → rowInDomain (c .before .before .before .before .before .args .t2) ≡ true
@@ -33,7 +33,7 @@ returns-3 : tie.Need-returns-3
 returns-3 c =
     let low = positions (c .before .before .before) in
     let high : rowInDomain (c .before .before .before .before .before .before .before .before .args .t3) ≡ false = sym (c .before .positions-in-domain2 .ensures) ∙ not-true _ (c .if3 .taken) in
-    (simp (enough (c .before .before .before .before .before .before), low, high), simp (enough (c .before .before .before .before .before .before), low, high))
+    record { answer = simp (enough (c .before .before .before .before .before .before), low, high); pixels = simp (enough (c .before .before .before .before .before .before), low, high) }
 
 -- past the third the quantizers are
 quantizers : (c : tie.Else3) → rowInDomain (c .before .before .before .before .before .before .before .before .args .t3) ≡ true
@@ -44,7 +44,7 @@ returns-4 c =
     let low = positions (c .before .before .before .before) in
     let low′ = quantizers (c .before) in
     let standard : c .before .before .before .before .before .before .before .before .before .args .use-reduce-extrapolate ≡ false = not-true _ (c .if4 .taken) in
-    (simp (enough (c .before .before .before .before .before .before .before), low, low′, standard), simp (enough (c .before .before .before .before .before .before .before), low, low′, standard))
+    record { answer = simp (enough (c .before .before .before .before .before .before .before), low, low′, standard); pixels = simp (enough (c .before .before .before .before .before .before .before), low, low′, standard) }
 
 returns-5 : tie.Need-returns-5
 returns-5 c =
@@ -55,7 +55,7 @@ returns-5 c =
     let a = c .before .before .before .before .before .before .before .before .before .before .before .before .before .args in
     let written = shown (a .pixels .now) (c .before .before .write-pixels .ensures) in
     let same : Shown (a .coefficients) (a .t3) (a .pixels .now) (c .before .before .write-pixels .last .1 .1 .0) = written in
-    (simp (long, low, low′, extrapolate), simp (long, low, low′, extrapolate) (same .is))
+    record { answer = simp (long, low, low′, extrapolate); pixels = simp (long, low, low′, extrapolate) (same .is) }
 
 pub reconstruct-to-rgba-spec : {M : Type 1} → statement M
 reconstruct-to-rgba-spec =
