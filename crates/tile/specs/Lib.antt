@@ -1,3 +1,4 @@
--- What the contracts of `tile` cite.
+-- What the contracts of `tile` cite, and `Inner` for inner functions.
 pub mod Tile
 pub mod Refused
+pub mod Inner

@@ -1,4 +1,5 @@
 -- A tile: made, loaded, upgraded, and its pixels (docs/SCOPE.md, "Tile").
+use mathlib.Core.Path.{_≡_}
 use mathlib.Core.Bool.{Bool, false, cond, _&&_}
 use mathlib.Core.List.{List}
 use Prim.Native.Nat.{ℕ, _+_, min}
@@ -6,7 +7,7 @@ use lib.IntN.{ℤ, pos}
 use lib.ListN.{replicate}
 use Rattle.bands.specs.Positions.{every, rowInDomain, rowsInDomain}
 use Rattle.answer.specs.declared.Answer.{Answer}
-use Rattle.answer.specs.Refusals.{answered, unlessRefused, longEnough}
+use Rattle.answer.specs.Refusals.{sliceTooShort, outOfDomain, unless, firstOf, longEnough, answered, unlessRefused}
 use Rattle.components.specs.Components.{passCoefficients, passSigns}
 use Rattle.planes.specs.Planes.{joined, of, taken}
 use Rattle.pixels.specs.Pixels.{pixelsAnswer, pixelsOut}
@@ -50,10 +51,10 @@ loaded cs ss rows quants e = record {
   «use_reduce_extrapolate» = e;
 }
 
--- 1: "a coefficient, sign .. slice under 4,096 elements"; 2: "a position or quantizer above 15"; 0 is none
+-- "order: .. 1, 2"
 abbrev pub loadRefusal : List (List ℤ) → List (List ℤ) → List (List ℕ) → List (List ℕ) → ℕ
 loadRefusal cs ss rows quants =
-    cond (every longEnough cs && every longEnough ss) (cond (rowsInDomain rows && rowsInDomain quants) 0 2) 1
+    firstOf (unless (every longEnough cs && every longEnough ss) sliceTooShort) (unless (rowsInDomain rows && rowsInDomain quants) outOfDomain)
 
 -- the answer by the refusal, and the tile: new, or if refused the old one
 abbrev pub loadedBy : ℕ → TileState → TileState → Loaded
@@ -105,3 +106,8 @@ reconstructAnswer t px = pixelsAnswer (t .«prog_quant») (t .«base_quant») (t
 -- the slice of pixels then
 abbrev pub reconstructPixels : TileState → List ℕ → List ℕ
 reconstructPixels t px = pixelsOut (t .coefficients) (t .«prog_quant») (t .«base_quant») (t .«use_reduce_extrapolate») px
+
+-- what the call fixes: its answer, and the slice
+pub record Reconstructs (t : TileState) (px : List ℕ) (r : Answer) (px′ : List ℕ) : Type 0 where
+  pub answer : r ≡ reconstructAnswer t px
+  pub pixels : px′ ≡ reconstructPixels t px

@@ -7,10 +7,10 @@ ghost use Prim.Native.Nat.{_≤_, _<_};
 ghost use lib.Dec.{leb};
 ghost use lib.ListN.{length};
 ghost use Rattle.bands.specs.Positions.{every, rowInDomain, rowsInDomain};
-ghost use Rattle.planes.specs.Planes.{three, joined, of};
-ghost use Rattle.components.specs.Components.{passCoefficients, passSigns};
-ghost use Rattle.tile.specs.Tile.{fresh, loaded, loadedBy, load, nextPass, upgraded, decodeUpgrade, reconstructAnswer, reconstructPixels};
+ghost use Rattle.planes.specs.Planes.{three};
+ghost use Rattle.tile.specs.Tile.{fresh, loaded, loadedBy, load, nextPass, upgraded, decodeUpgrade, Reconstructs};
 ghost use Rattle.tile.specs.Refused.{TileRefusals};
+ghost use Rattle.tile.specs.Inner.{fields, PassedInPlace};
 
 // A tile: 64 x 64 pixels, with what has arrived of them. Arrays are flat: three components (Y, Cb, Cr) of 4,096, three rows of ten.
 #[repr(C)]
@@ -88,8 +88,8 @@ fn not_loaded(refusal: u8) -> Loaded
     }
 }
 
-// A pass over the fields of a tile that it changes, where they lie; the caller stores the quality. A part of the tile's call and of the C
-// function: both have seen that no position is above 15.
+// A pass over the fields of a tile that it changes, where they lie, and where its readers ended; the caller stores the quality. A part of the
+// tile's call and of the C function: both have seen that no position is above 15.
 pub fn upgrade_in_place(
     y_srl: &[u8],
     y_raw: &[u8],
@@ -103,17 +103,18 @@ pub fn upgrade_in_place(
     sign: &mut [i8; 12288],
     prog_quant: &mut [u8; 30],
     pass: &mut u16,
-)
-    requires { ⌜ (rowInDomain (now «prog_quant») ≡ true) × (rowsInDomain rows ≡ true) ⌝ }
-    ensures { λ _. ⌜
-        (now (coefficients .exit) ≡ passCoefficients «use_reduce_extrapolate» (now («prog_quant» .entry)) rows (three (now («y_srl» .entry)) (now («cb_srl» .entry)) (now («cr_srl» .entry))) (three (now («y_raw» .entry)) (now («cb_raw» .entry)) (now («cr_raw» .entry))) (now (coefficients .entry)) (now (sign .entry)))
-        × (now (sign .exit) ≡ passSigns «use_reduce_extrapolate» (now («prog_quant» .entry)) rows (three (now («y_srl» .entry)) (now («cb_srl» .entry)) (now («cr_srl» .entry))) (now (sign .entry)))
-        × (now («prog_quant» .exit) ≡ joined (of rows))
-        × (now (pass .exit) ≡ nextPass (now (pass .entry))) ⌝ }
+) -> components::Ends
+    requires { ⌜ rowInDomain (now «prog_quant») ≡ true ⌝ }
+    ensures { λ r. ⌜ PassedInPlace «use_reduce_extrapolate» rows
+        (three (now («y_srl» .entry)) (now («cb_srl» .entry)) (now («cr_srl» .entry)))
+        (three (now («y_raw» .entry)) (now («cb_raw» .entry)) (now («cr_raw» .entry)))
+        (fields (now (coefficients .entry)) (now (sign .entry)) (now («prog_quant» .entry)) (now (pass .entry)))
+        (fields (now (coefficients .exit)) (now (sign .exit)) (now («prog_quant» .exit)) (now (pass .exit)))
+        r ⌝ }
 {
     let prev = *prog_quant;
     let number = *pass;
-    components::upgrade_components(
+    let ends = components::upgrade_components(
         y_srl,
         y_raw,
         cb_srl,
@@ -128,6 +129,7 @@ pub fn upgrade_in_place(
     );
     *prog_quant = planes::flat_rows(rows);
     *pass = next_pass(number);
+    ends
 }
 
 impl TileState {
@@ -166,8 +168,13 @@ impl TileState {
         base_quants: [[u8; 10]; 3],
         use_reduce_extrapolate: bool,
     ) -> TileState
-        requires { ⌜ (4096 ≤ length (now y)) × (4096 ≤ length (now cb)) × (4096 ≤ length (now cr)) × (4096 ≤ length (now «y_sign»)) × (4096 ≤ length (now «cb_sign»)) × (4096 ≤ length (now «cr_sign»)) ⌝ }
-        ensures { λ r. ⌜ r ≡ loaded (three (now (y .entry)) (now (cb .entry)) (now (cr .entry))) (three (now («y_sign» .entry)) (now («cb_sign» .entry)) (now («cr_sign» .entry))) «prog_quants» «base_quants» «use_reduce_extrapolate» ⌝ }
+        requires { ⌜
+            (4096 ≤ length (now y)) × (4096 ≤ length (now cb)) × (4096 ≤ length (now cr))
+            × (4096 ≤ length (now «y_sign»)) × (4096 ≤ length (now «cb_sign»)) × (4096 ≤ length (now «cr_sign»)) ⌝ }
+        ensures { λ r. ⌜ r ≡ loaded
+            (three (now (y .entry)) (now (cb .entry)) (now (cr .entry)))
+            (three (now («y_sign» .entry)) (now («cb_sign» .entry)) (now («cr_sign» .entry)))
+            «prog_quants» «base_quants» «use_reduce_extrapolate» ⌝ }
     {
         let mut coefficients: [i16; 12288] = [0; 12288];
         let mut sign: [i8; 12288] = [0; 12288];
@@ -200,19 +207,22 @@ impl TileState {
         base_quants: [[u8; 10]; 3],
         use_reduce_extrapolate: bool,
     ) -> Loaded
-        ensures { λ r. ⌜ r ≡ load (three (now (y .entry)) (now (cb .entry)) (now (cr .entry))) (three (now («y_sign» .entry)) (now («cb_sign» .entry)) (now («cr_sign» .entry))) «prog_quants» «base_quants» «use_reduce_extrapolate» ⌝ }
+        ensures { λ r. ⌜ r ≡ load
+            (three (now (y .entry)) (now (cb .entry)) (now (cr .entry)))
+            (three (now («y_sign» .entry)) (now («cb_sign» .entry)) (now («cr_sign» .entry)))
+            «prog_quants» «base_quants» «use_reduce_extrapolate» ⌝ }
     {
         if !long_enough(y.len(), cb.len(), cr.len()) {
-            return not_loaded(1);
+            return not_loaded(answer::SLICE_TOO_SHORT);
         }
         if !long_enough(y_sign.len(), cb_sign.len(), cr_sign.len()) {
-            return not_loaded(1);
+            return not_loaded(answer::SLICE_TOO_SHORT);
         }
         if !bands::rows_in_domain(prog_quants) {
-            return not_loaded(2);
+            return not_loaded(answer::OUT_OF_DOMAIN);
         }
         if !bands::rows_in_domain(base_quants) {
-            return not_loaded(2);
+            return not_loaded(answer::OUT_OF_DOMAIN);
         }
         let e = use_reduce_extrapolate;
         let tile = Self::loaded(
@@ -244,8 +254,11 @@ impl TileState {
         prog_quants: [[u8; 10]; 3],
         quality: u8,
     ) -> TileState
-        requires { ⌜ (rowInDomain (self .«prog_quant») ≡ true) × (rowsInDomain «prog_quants» ≡ true) ⌝ }
-        ensures { λ r. ⌜ r ≡ upgraded self (three (now («y_srl» .entry)) (now («cb_srl» .entry)) (now («cr_srl» .entry))) (three (now («y_raw» .entry)) (now («cb_raw» .entry)) (now («cr_raw» .entry))) «prog_quants» quality ⌝ }
+        requires { ⌜ rowInDomain (self .«prog_quant») ≡ true ⌝ }
+        ensures { λ r. ⌜ r ≡ upgraded self
+            (three (now («y_srl» .entry)) (now («cb_srl» .entry)) (now («cr_srl» .entry)))
+            (three (now («y_raw» .entry)) (now («cb_raw» .entry)) (now («cr_raw» .entry)))
+            «prog_quants» quality ⌝ }
     {
         let e = self.use_reduce_extrapolate;
         let mut coefficients = self.coefficients;
@@ -293,13 +306,16 @@ impl TileState {
         prog_quants: [[u8; 10]; 3],
         quality: u8,
     ) -> Upgraded
-        ensures { λ r. ⌜ r ≡ decodeUpgrade self (three (now («y_srl» .entry)) (now («cb_srl» .entry)) (now («cr_srl» .entry))) (three (now («y_raw» .entry)) (now («cb_raw» .entry)) (now («cr_raw» .entry))) «prog_quants» quality ⌝ }
+        ensures { λ r. ⌜ r ≡ decodeUpgrade self
+            (three (now («y_srl» .entry)) (now («cb_srl» .entry)) (now («cr_srl» .entry)))
+            (three (now («y_raw» .entry)) (now («cb_raw» .entry)) (now («cr_raw» .entry)))
+            «prog_quants» quality ⌝ }
     {
         let positions = self.prog_quant;
         let quants = self.base_quant;
         if !in_domain(prog_quants, positions, quants) {
             return Upgraded {
-                answer: answer::Answer::Refused(2),
+                answer: answer::Answer::Refused(answer::OUT_OF_DOMAIN),
                 tile: self,
             };
         }
@@ -321,7 +337,7 @@ impl TileState {
 
     // The tile's pixels, row by row, four bytes each: red, green, blue and 255.
     pub fn reconstruct_to_rgba(self, pixels: &mut [u8]) -> answer::Answer
-        ensures { λ r. ⌜ (r ≡ reconstructAnswer self (now (pixels .entry))) × (now (pixels .exit) ≡ reconstructPixels self (now (pixels .entry))) ⌝ }
+        ensures { λ r. ⌜ Reconstructs self (now (pixels .entry)) r (now (pixels .exit)) ⌝ }
     {
         let coefficients = self.coefficients;
         let positions = self.prog_quant;

@@ -6,7 +6,13 @@ use Rattle.tile.proofs.upgrade_in_place.Tie as tie
 returns : tie.Need-returns
 returns c =
     let done = c .before .before .upgrade-components .ensures in
-    (done .0, done .1, c .before .flat-rows .ensures, c .next-pass .ensures)
+    record {
+      coefficients = done .coefficients;
+      sign = done .sign;
+      positions = c .before .flat-rows .ensures;
+      pass = c .next-pass .ensures;
+      ends = done .ends;
+    }
 
 pub upgrade-in-place-spec : {M : Type 1} → statement M
 upgrade-in-place-spec = tie.close (tie.spec (λ c κs. search needs) (λ c κs. search needs) (λ c κs. search needs) returns)

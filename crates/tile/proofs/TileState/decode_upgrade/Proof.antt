@@ -22,8 +22,9 @@ low c = sym (c .before .in-domain .ensures) ∙ not-false _ (c .if1 .left)
 
 upgraded-requires : tie.Need-upgraded-requires
 upgraded-requires c κs =
-    let both = both-true _ _ (low c) in
-    (both-true _ _ (both .1) .0, both .0)
+    let a = c .before .before .before .before .before .before .before .before .before .before .args in
+    let both = both-true (rowsInDomain (a .prog-quants)) (rowInDomain (a .self .«prog_quant») && rowInDomain (a .self .«base_quant»)) (low c) in
+    both-true (rowInDomain (a .self .«prog_quant»)) _ (both .1) .0
 
 returns-2 : tie.Need-returns-2
 returns-2 c = simp (low (c .before)) (ap (λ (t : TileState). record { answer = Accepted; tile = t }) (c .upgraded .ensures))

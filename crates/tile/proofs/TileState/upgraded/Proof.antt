@@ -8,7 +8,7 @@ returns : tie.Need-returns
 unfolding upgraded
 returns c =
     let done = c .before .before .upgrade-in-place .ensures in
-    simp (done .0, done .1, done .2, done .3)
+    simp (done .coefficients, done .sign, done .positions, done .pass)
 
 pub upgraded-spec : {M : Type 1} → statement M
 upgraded-spec = tie.close (tie.spec (λ c κs. search needs) returns)

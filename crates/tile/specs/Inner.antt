@@ -1,0 +1,30 @@
+-- For inner functions only: a pass over the fields of a tile, where they lie.
+use mathlib.Core.Path.{_≡_}
+use mathlib.Core.Bool.{Bool}
+use mathlib.Core.List.{List}
+use Prim.Native.Nat.{ℕ}
+use lib.IntN.{ℤ}
+use Rattle.planes.specs.Planes.{joined, of}
+use Rattle.components.specs.Components.{passCoefficients, passSigns}
+use Rattle.components.specs.Inner.{ComponentsEnded}
+use Rattle.components.specs.declared.Ends.{Ends}
+use Rattle.tile.specs.Tile.{nextPass}
+
+-- the fields that a pass reads and changes
+pub record Fields : Type 0 where
+  pub coefficients : List ℤ
+  pub sign : List ℤ
+  pub positions : List ℕ
+  pub pass : ℕ
+
+-- by their four parts
+abbrev pub fields : List ℤ → List ℤ → List ℕ → ℕ → Fields
+fields cs ss positions n = record { coefficients = cs; sign = ss; positions = positions; pass = n }
+
+-- what a pass fixes of them, from f to g; r is where the readers end
+pub record PassedInPlace (e : Bool) (rows srlData rawData : List (List ℕ)) (f g : Fields) (r : Ends) : Type 0 where
+  pub coefficients : g .coefficients ≡ passCoefficients e (f .positions) rows srlData rawData (f .coefficients) (f .sign)
+  pub sign : g .sign ≡ passSigns e (f .positions) rows srlData (f .sign)
+  pub positions : g .positions ≡ joined (of rows)
+  pub pass : g .pass ≡ nextPass (f .pass)
+  pub ends : ComponentsEnded e (f .positions) rows srlData (f .sign) r
