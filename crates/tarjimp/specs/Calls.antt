@@ -1,6 +1,7 @@
 -- What the C functions answer and leave, where they have more to say than the call beneath them (include/tarjimp.h; docs/SCOPE.md, "Refusals").
+use mathlib.Core.Path.{_≡_}
 use mathlib.Core.Bool.{Bool, false, cond}
-use mathlib.Core.List.{List}
+use mathlib.Core.List.{List, [], _∷_}
 use Prim.Native.Nat.{ℕ}
 use lib.IntN.{ℤ}
 use lib.ListN.{replicate}
@@ -11,6 +12,9 @@ use Rattle.srl_encoder.specs.Encode.{encodeAnswer, encodeOut, encodedNumber, en
 use Rattle.srl_encoder.specs.Finish.{finishAnswer, finishOut, finishedNumber, finishedCount}
 use Rattle.srl_encoder.specs.declared.Encoded.{Encoded}
 use Rattle.srl_encoder.specs.declared.Encoded.the-variants as E
+use Rattle.answer.specs.Refusals.{answered}
+use Rattle.progressive_encoder.specs.Encode.{writtenNumber, srlCount, rawCount, encodePassAnswer, encodeSrlOut, encodeRawOut}
+use Rattle.tile.specs.Tile.{decodeUpgrade}
 use Rattle.tile.specs.declared.TileState.{TileState}
 use Rattle.tarjimp.specs.States.{readerFits, readerOf, readerNumbers, writerFits, writerOf, writerNumbers}
 
@@ -70,6 +74,15 @@ srlFinishOut s out = cond (writerFits s) (finishOut (writerOf s) out) out
 abbrev pub srlFinishCount : List ℕ → ℕ → ℕ
 srlFinishCount s room = cond (writerFits s) (finishedCount (finishAnswer (writerOf s) room)) 0
 
+-- ════ `tarjimp_encode_upgrade_pass` ════
+
+-- what the call fixes: the number returned, the counts of both streams ("zero lengths and counts" with a refusal), and both outputs
+pub record WritesPass (cs ps : List ℤ) (prev curr : List ℕ) (ss : List ℤ) (e : Bool) (srlOut rawOut : List ℕ) (r : ℕ) (counts srlOut′ rawOut′ : List ℕ) : Type 0 where
+  pub number : r ≡ writtenNumber (encodePassAnswer cs ps prev curr ss e srlOut rawOut)
+  pub written : counts ≡ (srlCount (encodePassAnswer cs ps prev curr ss e srlOut rawOut) ∷ rawCount (encodePassAnswer cs ps prev curr ss e srlOut rawOut) ∷ [])
+  pub srl : srlOut′ ≡ encodeSrlOut cs ps prev curr ss e srlOut rawOut
+  pub raw : rawOut′ ≡ encodeRawOut cs ps prev curr ss e srlOut rawOut
+
 -- ════ `tarjimp_tile_decode_upgrade` ════
 
 -- the tile that the arrays and numbers are; an upgrade neither reads nor changes the two fields that are not among them
@@ -85,3 +98,8 @@ tileOf cs ss positions quants e pass quality = record {
   quality = quality;
   «use_reduce_extrapolate» = e;
 }
+
+-- what the call fixes: the number returned, and the tile
+pub record UpgradesTile (t : TileState) (srlData rawData rows : List (List ℕ)) (q : ℕ) (r : ℕ) (t′ : TileState) : Type 0 where
+  pub number : answered r ≡ decodeUpgrade t srlData rawData rows q .answer
+  pub tile : t′ ≡ decodeUpgrade t srlData rawData rows q .tile

@@ -1,19 +1,17 @@
-// The C ABI (include/tarjimp.h). Each function returns the number of a refusal (docs/SCOPE.md, "Refusals"), 0 where there is none. A slice is
-// a pointer and then its length in elements, an array of a fixed size a pointer. What is lent to one call must not overlap.
+// The C ABI (include/tarjimp.h). Each function returns the number of a refusal (docs/SCOPE.md, "Refusals"), 0 where there is none: where its
+// contract is that of the call beneath it, `answered r` is the answer that the number stands for. A slice is a pointer and then its length in
+// elements, an array of a fixed size a pointer. What is lent to one call must not overlap.
 
 ghost use mathlib.Core.Path.{_≡_};
-ghost use mathlib.Core.List.{_∷_, []};
 ghost use lib.ListN.{length};
-ghost use Rattle.progressive_decoder.specs.Upgrade.{decodePassAnswer, decodeCoefficients, decodeSigns};
-ghost use Rattle.answer.specs.Refusals.{numberOf};
-ghost use Rattle.progressive_encoder.specs.Encode.{writtenNumber, srlCount, rawCount, encodePassAnswer, encodeSrlOut, encodeRawOut};
-ghost use Rattle.dwt_extrapolate.specs.Transform.{inverseAnswer, inverseBuffer, inverseScratch};
-ghost use Rattle.pixels.specs.Pixels.{pixelsAnswer, pixelsOut};
-ghost use Rattle.dequantizer.specs.Dequantize.{dequantizeAnswer, dequantizeOut};
+ghost use Rattle.answer.specs.Refusals.{answered};
+ghost use Rattle.progressive_decoder.specs.Upgrade.{DecodesPass};
+ghost use Rattle.dequantizer.specs.Dequantize.{Dequantizes};
+ghost use Rattle.dwt_extrapolate.specs.Transform.{Inverts};
 ghost use Rattle.color.specs.Color.{rgb};
+ghost use Rattle.pixels.specs.Pixels.{WritesPixels};
 ghost use Rattle.planes.specs.Planes.{three};
-ghost use Rattle.tile.specs.Tile.{decodeUpgrade};
-ghost use Rattle.tarjimp.specs.Calls.{srlDecodeNumber, srlDecodeState, srlDecodeOut, srlEncodeNumber, srlEncodeState, srlEncodeOut, srlEncodeCount, srlFinishNumber, srlFinishOut, srlFinishCount, tileOf};
+ghost use Rattle.tarjimp.specs.Calls.{srlDecodeNumber, srlDecodeState, srlDecodeOut, srlEncodeNumber, srlEncodeState, srlEncodeOut, srlEncodeCount, srlFinishNumber, srlFinishOut, srlFinishCount, WritesPass, tileOf, UpgradesTile};
 
 mod answers;
 mod states;
@@ -31,7 +29,7 @@ pub extern "C" fn tarjimp_srl_decode(
 {
     let s = *state;
     if !states::reader_fits(s) {
-        return 8;
+        return answer::IMPOSSIBLE_STATE;
     }
     let d = srl_decoder::decode(src, states::reader_of(s), out, num_values, num_bits);
     *state = answers::decoded_numbers(d, s);
@@ -53,7 +51,7 @@ pub extern "C" fn tarjimp_srl_encode(
     let s = *state;
     if !states::writer_fits(s) {
         *written = 0;
-        return 8;
+        return answer::IMPOSSIBLE_STATE;
     }
     let e = srl_encoder::encode(values, states::writer_of(s), out, num_bits);
     *state = answers::encoded_numbers(e, s);
@@ -69,7 +67,7 @@ pub extern "C" fn tarjimp_srl_finish(state: &[u64; 4], out: &mut [u8], written: 
     let s = *state;
     if !states::writer_fits(s) {
         *written = 0;
-        return 8;
+        return answer::IMPOSSIBLE_STATE;
     }
     let f = srl_encoder::finish(states::writer_of(s), out);
     *written = answers::finished_count(f);
@@ -87,7 +85,8 @@ pub extern "C" fn tarjimp_decode_upgrade_pass(
     coefficients: &mut [i16],
     sign: &mut [i8],
 ) -> u8
-    ensures { λ r. ⌜ (r ≡ numberOf (decodePassAnswer (now (prev .entry)) (now (curr .entry)) (now (coefficients .entry)) (now (sign .entry)))) × (now (coefficients .exit) ≡ decodeCoefficients (now («srl_data» .entry)) (now («raw_data» .entry)) (now (prev .entry)) (now (curr .entry)) «use_reduce_extrapolate» (now (coefficients .entry)) (now (sign .entry))) × (now (sign .exit) ≡ decodeSigns (now («srl_data» .entry)) (now (prev .entry)) (now (curr .entry)) «use_reduce_extrapolate» (now (coefficients .entry)) (now (sign .entry))) ⌝ }
+    ensures { λ r. ⌜ DecodesPass (now («srl_data» .entry)) (now («raw_data» .entry)) (now (prev .entry)) (now (curr .entry)) «use_reduce_extrapolate»
+        (now (coefficients .entry)) (now (sign .entry)) (answered r) (now (coefficients .exit)) (now (sign .exit)) ⌝ }
 {
     let p = *prev;
     let q = *curr;
@@ -109,7 +108,7 @@ pub extern "C" fn tarjimp_dequantize_component(
     quant: &[u8; 10],
     use_reduce_extrapolate: bool,
 ) -> u8
-    ensures { λ r. ⌜ (r ≡ numberOf (dequantizeAnswer (now (quant .entry)) (now (coefficients .entry)))) × (now (coefficients .exit) ≡ dequantizeOut «use_reduce_extrapolate» (now (quant .entry)) (now (coefficients .entry))) ⌝ }
+    ensures { λ r. ⌜ Dequantizes «use_reduce_extrapolate» (now (quant .entry)) (now (coefficients .entry)) (answered r) (now (coefficients .exit)) ⌝ }
 {
     let q = *quant;
     answer::number_of(dequantizer::dequantize_component_ccq(
@@ -132,7 +131,9 @@ pub extern "C" fn tarjimp_encode_upgrade_pass(
     raw_out: &mut [u8],
     written: &mut [usize; 2],
 ) -> u8
-    ensures { λ r. ⌜ (r ≡ writtenNumber (encodePassAnswer (now (coefficients .entry)) (now («prev_coefficients» .entry)) (now (prev .entry)) (now (curr .entry)) (now (sign .entry)) «use_reduce_extrapolate» (now («srl_out» .entry)) (now («raw_out» .entry)))) × (now (written .exit) ≡ (srlCount (encodePassAnswer (now (coefficients .entry)) (now («prev_coefficients» .entry)) (now (prev .entry)) (now (curr .entry)) (now (sign .entry)) «use_reduce_extrapolate» (now («srl_out» .entry)) (now («raw_out» .entry))) ∷ rawCount (encodePassAnswer (now (coefficients .entry)) (now («prev_coefficients» .entry)) (now (prev .entry)) (now (curr .entry)) (now (sign .entry)) «use_reduce_extrapolate» (now («srl_out» .entry)) (now («raw_out» .entry))) ∷ [])) × (now («srl_out» .exit) ≡ encodeSrlOut (now (coefficients .entry)) (now («prev_coefficients» .entry)) (now (prev .entry)) (now (curr .entry)) (now (sign .entry)) «use_reduce_extrapolate» (now («srl_out» .entry)) (now («raw_out» .entry))) × (now («raw_out» .exit) ≡ encodeRawOut (now (coefficients .entry)) (now («prev_coefficients» .entry)) (now (prev .entry)) (now (curr .entry)) (now (sign .entry)) «use_reduce_extrapolate» (now («srl_out» .entry)) (now («raw_out» .entry))) ⌝ }
+    ensures { λ r. ⌜ WritesPass (now (coefficients .entry)) (now («prev_coefficients» .entry)) (now (prev .entry)) (now (curr .entry)) (now (sign .entry))
+        «use_reduce_extrapolate» (now («srl_out» .entry)) (now («raw_out» .entry))
+        r (now (written .exit)) (now («srl_out» .exit)) (now («raw_out» .exit)) ⌝ }
 {
     let p = *prev;
     let q = *curr;
@@ -153,7 +154,7 @@ pub extern "C" fn tarjimp_encode_upgrade_pass(
 // The inverse wavelet of a component, in place, with a scratch.
 #[no_mangle]
 pub extern "C" fn tarjimp_dwt_extrapolate_decode(buffer: &mut [i16], temp: &mut [i16]) -> u8
-    ensures { λ r. ⌜ (r ≡ numberOf (inverseAnswer (now (buffer .entry)) (now (temp .entry)))) × (now (buffer .exit) ≡ inverseBuffer (now (buffer .entry)) (now (temp .entry))) × (now (temp .exit) ≡ inverseScratch (now (buffer .entry)) (now (temp .entry))) ⌝ }
+    ensures { λ r. ⌜ Inverts (now (buffer .entry)) (now (temp .entry)) (answered r) (now (buffer .exit)) (now (temp .exit)) ⌝ }
 {
     answer::number_of(dwt_extrapolate::decode(buffer, temp))
 }
@@ -185,13 +186,21 @@ pub extern "C" fn tarjimp_tile_decode_upgrade(
     cr_srl: &[u8],
     cr_raw: &[u8],
 ) -> u8
-    ensures { λ r. ⌜ (r ≡ numberOf (decodeUpgrade (tileOf (now (coefficients .entry)) (now (sign .entry)) (now («prog_quant» .entry)) (now («base_quant» .entry)) «use_reduce_extrapolate» (now (pass .entry)) (now (quality .entry))) (three (now («y_srl» .entry)) (now («cb_srl» .entry)) (now («cr_srl» .entry))) (three (now («y_raw» .entry)) (now («cb_raw» .entry)) (now («cr_raw» .entry))) (now («prog_quants» .entry)) «new_quality» .answer)) × (tileOf (now (coefficients .exit)) (now (sign .exit)) (now («prog_quant» .exit)) (now («base_quant» .entry)) «use_reduce_extrapolate» (now (pass .exit)) (now (quality .exit)) ≡ decodeUpgrade (tileOf (now (coefficients .entry)) (now (sign .entry)) (now («prog_quant» .entry)) (now («base_quant» .entry)) «use_reduce_extrapolate» (now (pass .entry)) (now (quality .entry))) (three (now («y_srl» .entry)) (now («cb_srl» .entry)) (now («cr_srl» .entry))) (three (now («y_raw» .entry)) (now («cb_raw» .entry)) (now («cr_raw» .entry))) (now («prog_quants» .entry)) «new_quality» .tile) ⌝ }
+    ensures { λ r. ⌜ UpgradesTile
+        (tileOf (now (coefficients .entry)) (now (sign .entry)) (now («prog_quant» .entry)) (now («base_quant» .entry))
+        «use_reduce_extrapolate» (now (pass .entry)) (now (quality .entry)))
+        (three (now («y_srl» .entry)) (now («cb_srl» .entry)) (now («cr_srl» .entry)))
+        (three (now («y_raw» .entry)) (now («cb_raw» .entry)) (now («cr_raw» .entry)))
+        (now («prog_quants» .entry)) «new_quality»
+        r
+        (tileOf (now (coefficients .exit)) (now (sign .exit)) (now («prog_quant» .exit)) (now («base_quant» .entry))
+        «use_reduce_extrapolate» (now (pass .exit)) (now (quality .exit))) ⌝ }
 {
     let rows = *prog_quants;
     let positions = *prog_quant;
     let quants = *base_quant;
     if !tile::in_domain(rows, positions, quants) {
-        return 2;
+        return answer::OUT_OF_DOMAIN;
     }
     tile::upgrade_in_place(
         y_srl,
@@ -220,7 +229,8 @@ pub extern "C" fn tarjimp_tile_reconstruct_to_rgba(
     use_reduce_extrapolate: bool,
     pixels: &mut [u8],
 ) -> u8
-    ensures { λ r. ⌜ (r ≡ numberOf (pixelsAnswer (now («prog_quant» .entry)) (now («base_quant» .entry)) «use_reduce_extrapolate» (now (pixels .entry)))) × (now (pixels .exit) ≡ pixelsOut (now (coefficients .entry)) (now («prog_quant» .entry)) (now («base_quant» .entry)) «use_reduce_extrapolate» (now (pixels .entry))) ⌝ }
+    ensures { λ r. ⌜ WritesPixels (now (coefficients .entry)) (now («prog_quant» .entry)) (now («base_quant» .entry)) «use_reduce_extrapolate»
+        (now (pixels .entry)) (answered r) (now (pixels .exit)) ⌝ }
 {
     let values = *coefficients;
     let positions = *prog_quant;

@@ -9,7 +9,12 @@ use Rattle.tarjimp.proofs.tarjimp_encode_upgrade_pass.Tie as tie
 returns : tie.Need-returns
 returns c =
     let e = c .before .before .before .before .before .before .before .before .encode-upgrade-pass .ensures in
-    (c .written-number .ensures ∙ ap writtenNumber (e .0), ap₂ (λ n m. n ∷ m ∷ []) (c .before .before .before .srl-count .ensures ∙ ap srlCount (e .0)) (c .before .before .raw-count .ensures ∙ ap rawCount (e .0)), e .1, e .2)
+    record {
+      number = c .written-number .ensures ∙ ap writtenNumber (e .0);
+      written = ap₂ (λ n m. n ∷ m ∷ []) (c .before .before .before .srl-count .ensures ∙ ap srlCount (e .0)) (c .before .before .raw-count .ensures ∙ ap rawCount (e .0));
+      srl = e .1;
+      raw = e .2;
+    }
 
 pub tarjimp-encode-upgrade-pass-spec : {M : Type 1} → statement M
 tarjimp-encode-upgrade-pass-spec = tie.close (tie.spec (λ c κs. search needs) (λ c κs. search needs) (λ c κs. search needs) (λ c κs. search needs) (λ c. search needs) (λ c. search needs) returns)

@@ -19,7 +19,7 @@ returns : tie.Need-returns
 returns c =
     let a = c .before .before .before .before .before .before .before .before .before .before .before .args in
     let high : (rowsInDomain (a .prog-quants .now) && (rowInDomain (a .prog-quant .now) && rowInDomain (a .base-quant .now))) ≡ false = sym (c .before .in-domain .ensures) ∙ not-true _ (c .if1 .taken) in
-    (simp high, simp high)
+    record { number = simp high; tile = simp high }
 
 -- past the test all positions and quantizers are in the domain
 low : (c : tie.Else1) → (rowsInDomain (c .before .before .before .before .before .before .before .before .before .before .before .args .prog-quants .now) && (rowInDomain (c .before .before .before .before .before .before .before .before .before .before .before .args .prog-quant .now) && rowInDomain (c .before .before .before .before .before .before .before .before .before .before .before .args .base-quant .now))) ≡ true
@@ -27,18 +27,20 @@ low c = sym (c .before .in-domain .ensures) ∙ not-false _ (c .if1 .left)
 
 upgrade-in-place-requires : tie.Need-upgrade-in-place-requires
 upgrade-in-place-requires c κs =
-    let both = both-true _ _ (low (c .before .before .before .before)) in
-    (both-true _ _ (both .1) .0, both .0)
+    let a = c .before .before .before .before .before .before .before .before .before .before .before .before .before .before .before .args in
+    let both = both-true (rowsInDomain (a .prog-quants .now)) (rowInDomain (a .prog-quant .now) && rowInDomain (a .base-quant .now)) (low (c .before .before .before .before)) in
+    both-true (rowInDomain (a .prog-quant .now)) _ (both .1) .0
 
 -- a tile is upgraded if each of its parts is
-stored : {cs ss : List ℤ} {ps : List ℕ} {n : ℕ} (cs₀ ss₀ : List ℤ) (ps₀ quants : List ℕ) (e : Bool) (n₀ q₀ q : ℕ) (srlData rawData rows : List (List ℕ)) → cs ≡ passCoefficients e ps₀ rows srlData rawData cs₀ ss₀ → ss ≡ passSigns e ps₀ rows srlData ss₀ → ps ≡ joined (of rows) → n ≡ nextPass n₀ → tileOf cs ss ps quants e n q ≡ upgraded (tileOf cs₀ ss₀ ps₀ quants e n₀ q₀) srlData rawData rows q
+upgraded-tile : {cs ss : List ℤ} {ps : List ℕ} {n : ℕ} (cs₀ ss₀ : List ℤ) (ps₀ quants : List ℕ) (e : Bool) (n₀ q₀ q : ℕ) (srlData rawData rows : List (List ℕ)) → cs ≡ passCoefficients e ps₀ rows srlData rawData cs₀ ss₀ → ss ≡ passSigns e ps₀ rows srlData ss₀ → ps ≡ joined (of rows) → n ≡ nextPass n₀ → tileOf cs ss ps quants e n q ≡ upgraded (tileOf cs₀ ss₀ ps₀ quants e n₀ q₀) srlData rawData rows q
 unfolding upgraded
-stored cs₀ ss₀ ps₀ quants e n₀ q₀ q srlData rawData rows cs ss ps n = rw (cs, ss, ps, n) refl
+upgraded-tile cs₀ ss₀ ps₀ quants e n₀ q₀ q srlData rawData rows cs ss ps n = rw (cs, ss, ps, n) refl
 
 returns-2 : tie.Need-returns-2
 returns-2 c =
     let done = c .upgrade-in-place .ensures in
-    (simp (low (c .before .before .before .before .before)), simp (low (c .before .before .before .before .before)) (stored _ _ _ _ _ _ _ _ _ _ _ (done .0) (done .1) (done .2) (done .3)))
+    let low′ = low (c .before .before .before .before .before) in
+    record { number = simp low′; tile = simp low′ (upgraded-tile _ _ _ _ _ _ _ _ _ _ _ (done .coefficients) (done .sign) (done .positions) (done .pass)) }
 
 pub tarjimp-tile-decode-upgrade-spec : {M : Type 1} → statement M
 tarjimp-tile-decode-upgrade-spec = tie.close (tie.spec (λ c κs. search needs) returns upgrade-in-place-requires returns-2)
