@@ -1,5 +1,6 @@
 // The demo: a whole stream and a cut one, stage by stage.
 use crate::passes;
+use panel_output::files;
 use panel_output::images;
 use panel_output::refusals;
 use panel_output::report;
@@ -101,7 +102,12 @@ fn show(
     reference: &[u8],
     pictures: &mut [u8],
 ) -> Run
-    requires { ⌜ (picture < 8) × (length (now file) ≤ 64) × (length (now folder) ≤ 3072) × (length (now reference) ≡ 16384) × (length (now pictures) ≡ 131072) ⌝ }
+    requires { ⌜
+        (picture < 8)
+        × (length (now file) ≤ 64)
+        × (length (now folder) ≤ 3072)
+        × (length (now reference) ≡ 16384)
+        × (length (now pictures) ≡ 131072) ⌝ }
 {
     let refusal = paint(t, pictures, picture);
     if refusal != 0 {
@@ -131,7 +137,13 @@ fn first(
     reference: &[u8],
     pictures: &mut [u8],
 ) -> Run
-    requires { ⌜ (picture < 8) × (length (now full) ≡ 12288) × (length (now file) ≤ 64) × (length (now folder) ≤ 3072) × (length (now reference) ≡ 16384) × (length (now pictures) ≡ 131072) ⌝ }
+    requires { ⌜
+        (picture < 8)
+        × (length (now full) ≡ 12288)
+        × (length (now file) ≤ 64)
+        × (length (now folder) ≤ 3072)
+        × (length (now reference) ≡ 16384)
+        × (length (now pictures) ≡ 131072) ⌝ }
 {
     let done = passes::loaded(full, panel_streams::positions(0));
     let answer = done.answer;
@@ -169,7 +181,13 @@ fn next(
     reference: &[u8],
     pictures: &mut [u8],
 ) -> Run
-    requires { ⌜ (picture < 8) × (length (now full) ≡ 12288) × (length (now file) ≤ 64) × (length (now folder) ≤ 3072) × (length (now reference) ≡ 16384) × (length (now pictures) ≡ 131072) ⌝ }
+    requires { ⌜
+        (picture < 8)
+        × (length (now full) ≡ 12288)
+        × (length (now file) ≤ 64)
+        × (length (now folder) ≤ 3072)
+        × (length (now reference) ≡ 16384)
+        × (length (now pictures) ≡ 131072) ⌝ }
 {
     if !before.is_good {
         return before;
@@ -208,7 +226,14 @@ fn opening(
     reference: &[u8],
     pictures: &mut [u8],
 ) -> Run
-    requires { ⌜ (picture < 7) × (length (now «cut_file») ≤ 64) × (length (now «pass_file») ≤ 64) × (length (now full) ≡ 12288) × (length (now folder) ≤ 3072) × (length (now reference) ≡ 16384) × (length (now pictures) ≡ 131072) ⌝ }
+    requires { ⌜
+        (picture < 7)
+        × (length (now «cut_file») ≤ 64)
+        × (length (now «pass_file») ≤ 64)
+        × (length (now full) ≡ 12288)
+        × (length (now folder) ≤ 3072)
+        × (length (now reference) ≡ 16384)
+        × (length (now pictures) ≡ 131072) ⌝ }
 {
     let a = first(full, run, cut_file, picture, folder, reference, pictures);
     next(
@@ -228,7 +253,11 @@ fn opening(
 
 // The second and the third pass of the whole stream.
 fn closing(before: Run, full: &[i16], folder: &[u8], reference: &[u8], pictures: &mut [u8]) -> Run
-    requires { ⌜ (length (now full) ≡ 12288) × (length (now folder) ≤ 3072) × (length (now reference) ≡ 16384) × (length (now pictures) ≡ 131072) ⌝ }
+    requires { ⌜
+        (length (now full) ≡ 12288)
+        × (length (now folder) ≤ 3072)
+        × (length (now reference) ≡ 16384)
+        × (length (now pictures) ≡ 131072) ⌝ }
 {
     let run = b"whole";
     let f2 = b"whole-2.png";
@@ -263,7 +292,11 @@ fn closing(before: Run, full: &[i16], folder: &[u8], reference: &[u8], pictures:
 
 // All three passes arrive.
 fn whole(full: &[i16], folder: &[u8], reference: &[u8], pictures: &mut [u8]) -> Run
-    requires { ⌜ (length (now full) ≡ 12288) × (length (now folder) ≤ 3072) × (length (now reference) ≡ 16384) × (length (now pictures) ≡ 131072) ⌝ }
+    requires { ⌜
+        (length (now full) ≡ 12288)
+        × (length (now folder) ≤ 3072)
+        × (length (now reference) ≡ 16384)
+        × (length (now pictures) ≡ 131072) ⌝ }
 {
     let f0 = b"whole-0-first-cut.png";
     let f1 = b"whole-1.png";
@@ -273,7 +306,11 @@ fn whole(full: &[i16], folder: &[u8], reference: &[u8], pictures: &mut [u8]) -> 
 
 // The stream ends half-way in the second pass.
 fn cut(full: &[i16], folder: &[u8], reference: &[u8], pictures: &mut [u8]) -> Run
-    requires { ⌜ (length (now full) ≡ 12288) × (length (now folder) ≤ 3072) × (length (now reference) ≡ 16384) × (length (now pictures) ≡ 131072) ⌝ }
+    requires { ⌜
+        (length (now full) ≡ 12288)
+        × (length (now folder) ≤ 3072)
+        × (length (now reference) ≡ 16384)
+        × (length (now pictures) ≡ 131072) ⌝ }
 {
     let run = b"cut";
     let f0 = b"cut-0-first-cut.png";
@@ -319,7 +356,11 @@ fn after_whole(
     reference: &[u8],
     pictures: &mut [u8],
 )
-    requires { ⌜ (length (now full) ≡ 12288) × (length (now folder) ≤ 3072) × (length (now reference) ≡ 16384) × (length (now pictures) ≡ 131072) ⌝ }
+    requires { ⌜
+        (length (now full) ≡ 12288)
+        × (length (now folder) ≤ 3072)
+        × (length (now reference) ≡ 16384)
+        × (length (now pictures) ≡ 131072) ⌝ }
 {
     let b = cut(full, folder, reference, pictures);
     if !b.is_good {
@@ -328,11 +369,15 @@ fn after_whole(
     if !images::save_grid(folder, b"sharpening.png", pictures) {
         return;
     }
-    report::summary(whole, b.figures);
+    report::summary(whole, b.figures, folder);
 }
 
 fn both_runs(full: &[i16], folder: &[u8], reference: &[u8], pictures: &mut [u8])
-    requires { ⌜ (length (now full) ≡ 12288) × (length (now folder) ≤ 3072) × (length (now reference) ≡ 16384) × (length (now pictures) ≡ 131072) ⌝ }
+    requires { ⌜
+        (length (now full) ≡ 12288)
+        × (length (now folder) ≤ 3072)
+        × (length (now reference) ≡ 16384)
+        × (length (now pictures) ≡ 131072) ⌝ }
 {
     let a = whole(full, folder, reference, pictures);
     if !a.is_good {
@@ -370,6 +415,9 @@ fn with_panel(full: &[i16], folder: &[u8])
 pub fn demo(folder: &[u8])
     requires { ⌜ length (now folder) ≤ 3072 ⌝ }
 {
+    if !files::make_folder(folder) {
+        return;
+    }
     let mut full = [0i16; 12288];
     panel_picture::panel(&mut full);
     with_panel(&full, folder);

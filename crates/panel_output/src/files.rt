@@ -27,6 +27,18 @@ fn join(folder: &[u8], name: &[u8], ending: &[u8], path: &mut [u8]) -> usize
     append(path, c, ending)
 }
 
+// Makes a folder, unless it is there; false once the reason is reported.
+pub fn make_folder(folder: &[u8]) -> bool {
+    if os::mkdir(folder) >= 0 {
+        return true;
+    }
+    if os::errno() == libc::EEXIST {
+        return true;
+    }
+    os::fail(folder);
+    false
+}
+
 // Opens a file in a folder for writing, under its temporary name: a descriptor, or a negative number once the reason is reported.
 pub fn open(folder: &[u8], name: &[u8]) -> i32
     requires { ⌜ (length (now folder) ≤ 3072) × (length (now name) ≤ 64) ⌝ }

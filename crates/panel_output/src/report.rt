@@ -8,7 +8,7 @@ pub fn error(line: &[u8]) {
 
 pub fn usage() {
     error(
-        b"usage: panel demo [FOLDER]\nwrites eight PNG images to FOLDER, or to the current folder, and a line for each stage to standard output\n",
+        b"usage: panel demo [FOLDER]\nwrites eight PNG images to FOLDER, or to the folder pictures, which is made where it is not there,\nand a line for each stage to standard output\n",
     );
 }
 
@@ -111,7 +111,7 @@ fn less(a: u64, b: u64) -> u64 {
 }
 
 // What both runs came to.
-pub fn summary(whole: Figures, cut: Figures) {
+pub fn summary(whole: Figures, cut: Figures, folder: &[u8]) {
     legend();
     text(b"\nThe whole stream ends ");
     number(whole.difference, 0);
@@ -121,5 +121,7 @@ pub fn summary(whole: Figures, cut: Figures) {
     number(cut.difference, 0);
     text(b" off, with the minus ");
     number(less(cut.ground, cut.stroke), 0);
-    text(b" darker. All stages side by side: sharpening.png\n");
+    text(b" darker. All stages side by side: ");
+    text(folder);
+    text(b"/sharpening.png\n");
 }

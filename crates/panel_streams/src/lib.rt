@@ -92,7 +92,13 @@ fn write_at(
     srl: &mut [u8],
     raw: &mut [u8],
 ) -> Written
-    requires { ⌜ (k ≤ 2) × (length (now full) ≡ 12288) × (length (now coefficients) ≡ 12288) × (length (now signs) ≡ 12288) × (length (now srl) ≡ 49152) × (length (now raw) ≡ 49152) ⌝ }
+    requires { ⌜
+        (k ≤ 2)
+        × (length (now full) ≡ 12288)
+        × (length (now coefficients) ≡ 12288)
+        × (length (now signs) ≡ 12288)
+        × (length (now srl) ≡ 49152)
+        × (length (now raw) ≡ 49152) ⌝ }
 {
     let mut target = [0i16; 4096];
     let mut target_signs = [0i8; 4096];
@@ -133,7 +139,12 @@ pub fn write_all(
     srl: &mut [u8],
     raw: &mut [u8],
 ) -> Streams
-    requires { ⌜ (length (now full) ≡ 12288) × (length (now coefficients) ≡ 12288) × (length (now signs) ≡ 12288) × (length (now srl) ≡ 49152) × (length (now raw) ≡ 49152) ⌝ }
+    requires { ⌜
+        (length (now full) ≡ 12288)
+        × (length (now coefficients) ≡ 12288)
+        × (length (now signs) ≡ 12288)
+        × (length (now srl) ≡ 49152)
+        × (length (now raw) ≡ 49152) ⌝ }
 {
     let y = write_at(0, full, coefficients, signs, prev, curr, srl, raw);
     let cb = write_at(1, full, coefficients, signs, prev, curr, srl, raw);
