@@ -10,7 +10,8 @@
  *
  * WHAT A CALL RETURNS
  *
- * 0 where the call was accepted, else the number of its refusal:
+ * 0 where the call was accepted, else the number of its refusal, by name in
+ * enum tarjimp_refusal:
  *
  *   1  a coefficient, sign or scratch slice under 4,096 elements, or pixels
  *      under 16,384 bytes
@@ -59,6 +60,19 @@
 #ifdef __cplusplus
 extern "C" {
 #endif
+
+/* What a call returns. */
+enum tarjimp_refusal {
+    TARJIMP_ACCEPTED = 0,
+    TARJIMP_SLICE_TOO_SHORT = 1,
+    TARJIMP_OUT_OF_DOMAIN = 2,
+    TARJIMP_STANDARD_LAYOUT = 3,
+    TARJIMP_INVALID_BIT_COUNT = 4,
+    TARJIMP_MAGNITUDE_OUT_OF_RANGE = 5,
+    TARJIMP_ZERO_RUN_TOO_LONG = 6,
+    TARJIMP_OUTPUT_TOO_SHORT = 7,
+    TARJIMP_IMPOSSIBLE_STATE = 8,
+};
 
 /*
  * SRL streams. A state is handed in and back as numbers, so that a stream may
@@ -171,15 +185,15 @@ uint8_t tarjimp_tile_reconstruct_to_rgba(const int16_t coefficients[12288],
 static inline const char *tarjimp_message(uint8_t number)
 {
     switch (number) {
-    case 0: return "accepted";
-    case 1: return "a slice is too short: coefficients, signs and scratch have 4096 elements, pixels 16384 bytes";
-    case 2: return "a position or quantizer is above 15";
-    case 3: return "pixels are made in the reduce-extrapolate layout only";
-    case 4: return "an SRL width is outside 1 to 15";
-    case 5: return "a magnitude is above the maximum of its width";
-    case 6: return "more than 4096 zeros are pending";
-    case 7: return "the answer does not fit the output slice";
-    case 8: return "the coder state is impossible";
+    case TARJIMP_ACCEPTED: return "accepted";
+    case TARJIMP_SLICE_TOO_SHORT: return "a slice is too short: coefficients, signs and scratch have 4096 elements, pixels 16384 bytes";
+    case TARJIMP_OUT_OF_DOMAIN: return "a position or quantizer is above 15";
+    case TARJIMP_STANDARD_LAYOUT: return "pixels are made in the reduce-extrapolate layout only";
+    case TARJIMP_INVALID_BIT_COUNT: return "an SRL width is outside 1 to 15";
+    case TARJIMP_MAGNITUDE_OUT_OF_RANGE: return "a magnitude is above the maximum of its width";
+    case TARJIMP_ZERO_RUN_TOO_LONG: return "more than 4096 zeros are pending";
+    case TARJIMP_OUTPUT_TOO_SHORT: return "the answer does not fit the output slice";
+    case TARJIMP_IMPOSSIBLE_STATE: return "the coder state is impossible";
     default: return "no number of this library";
     }
 }
