@@ -12,6 +12,15 @@ pub const NUM_BANDS: usize = 10;
 // Coefficients of a component.
 pub const COEFFICIENTS_PER_COMPONENT: usize = 4096;
 
+// Coefficients of a tile, which has three components.
+pub const COEFFICIENTS_PER_TILE: usize = 12288;
+
+// The bytes of a tile's pixels.
+pub const PIXEL_BYTES: usize = 16384;
+
+// The highest position, and the highest quantizer.
+pub const MAX_POSITION: u8 = 15;
+
 // A band: its size, and the place of its first coefficient.
 pub struct BandInfo {
     pub width: usize,
@@ -207,7 +216,7 @@ pub fn positions_in_domain(positions: &[u8]) -> bool
 {
     let mut b: usize = 0;
     while b < positions.len() {
-        if positions[b] > 15 {
+        if positions[b] > MAX_POSITION {
             return false;
         }
         b += 1;

@@ -33,8 +33,8 @@ fn upgrade_component(
 {
     let prev = planes::row_at(positions, k * 10);
     let curr = rows[k];
-    let at = k * 4096;
-    let end = at + 4096;
+    let at = k * bands::COEFFICIENTS_PER_COMPONENT;
+    let end = at + bands::COEFFICIENTS_PER_COMPONENT;
     progressive_decoder::upgrade::upgrade_bands(
         srl_data,
         raw_data,

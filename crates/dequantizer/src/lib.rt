@@ -35,7 +35,7 @@ pub fn dequantize_bands(coefficients: &mut [i16], quant: [u8; 10], use_reduce_ex
     ensures { λ _. ⌜ now (coefficients .exit) ≡ dequantizedAll (quantizers «use_reduce_extrapolate» quant) (now (coefficients .entry)) ⌝ }
 {
     let mut b: usize = 0;
-    while b < 10 {
+    while b < bands::NUM_BANDS {
         let place = upgrade_steps::span::band_span(use_reduce_extrapolate, b);
         let from = place.from;
         let to = place.to;
@@ -52,7 +52,7 @@ pub fn dequantize_component_ccq(
 ) -> answer::Answer
     ensures { λ r. ⌜ Dequantizes «use_reduce_extrapolate» quant (now (coefficients .entry)) r (now (coefficients .exit)) ⌝ }
 {
-    if coefficients.len() < 4096 {
+    if coefficients.len() < bands::COEFFICIENTS_PER_COMPONENT {
         return answer::Answer::Refused(answer::SLICE_TOO_SHORT);
     }
     if !bands::row_in_domain(quant) {

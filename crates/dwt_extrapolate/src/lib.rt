@@ -62,10 +62,10 @@ fn decode_block(buffer: &mut [i16], temp: &mut [i16], p: usize, q: usize)
 pub fn decode(buffer: &mut [i16], temp: &mut [i16]) -> answer::Answer
     ensures { λ r. ⌜ Inverts (now (buffer .entry)) (now (temp .entry)) r (now (buffer .exit)) (now (temp .exit)) ⌝ }
 {
-    if buffer.len() < 4096 {
+    if buffer.len() < bands::COEFFICIENTS_PER_COMPONENT {
         return answer::Answer::Refused(answer::SLICE_TOO_SHORT);
     }
-    if temp.len() < 4096 {
+    if temp.len() < bands::COEFFICIENTS_PER_COMPONENT {
         return answer::Answer::Refused(answer::SLICE_TOO_SHORT);
     }
     decode_block(&mut buffer[3807..], temp, 9, 8);

@@ -24,8 +24,8 @@ fn samples_at(k: usize, quants: [u8; 30], coefficients: &mut [i16], temp: &mut [
     ensures { λ _. ⌜ now (coefficients .exit) ≡ withComponent k (samplesOf quants (now (coefficients .entry)) k) (now (coefficients .entry)) ⌝ }
 {
     let quant = planes::row_at(quants, k * 10);
-    let at = k * 4096;
-    let end = at + 4096;
+    let at = k * bands::COEFFICIENTS_PER_COMPONENT;
+    let end = at + bands::COEFFICIENTS_PER_COMPONENT;
     component_samples(&mut coefficients[at..end], quant, temp);
 }
 
@@ -55,19 +55,23 @@ fn write_samples(samples: &[i16], pixels: &mut [u8])
 }
 
 // The pixels of three components of coefficients.
-fn write_pixels(coefficients: [i16; 12288], quants: [u8; 30], pixels: &mut [u8])
+fn write_pixels(
+    coefficients: [i16; bands::COEFFICIENTS_PER_TILE],
+    quants: [u8; 30],
+    pixels: &mut [u8],
+)
     requires { ⌜ 16384 ≤ length (now pixels) ⌝ }
     ensures { λ _. ⌜ now (pixels .exit) ≡ rgba quants coefficients ++ drop 16384 (now (pixels .entry)) ⌝ }
 {
     let mut samples = coefficients;
-    let mut temp: [i16; 4096] = [0; 4096];
+    let mut temp: [i16; bands::COEFFICIENTS_PER_COMPONENT] = [0; bands::COEFFICIENTS_PER_COMPONENT];
     all_samples(quants, &mut samples, &mut temp);
     write_samples(&samples, pixels);
 }
 
 // The pixels of three components, with the positions and quantizers of their tile.
 pub fn reconstruct_to_rgba(
-    coefficients: [i16; 12288],
+    coefficients: [i16; bands::COEFFICIENTS_PER_TILE],
     positions: [u8; 30],
     quants: [u8; 30],
     use_reduce_extrapolate: bool,
@@ -75,7 +79,7 @@ pub fn reconstruct_to_rgba(
 ) -> answer::Answer
     ensures { λ r. ⌜ WritesPixels coefficients positions quants «use_reduce_extrapolate» (now (pixels .entry)) r (now (pixels .exit)) ⌝ }
 {
-    if pixels.len() < 16384 {
+    if pixels.len() < bands::PIXEL_BYTES {
         return answer::Answer::Refused(answer::SLICE_TOO_SHORT);
     }
     if !bands::positions_in_domain(&positions) {

@@ -22,10 +22,10 @@ pub fn decode_upgrade_pass(
     ensures { λ r. ⌜ DecodesPass (now («srl_data» .entry)) (now («raw_data» .entry)) prev curr «use_reduce_extrapolate»
         (now (coefficients .entry)) (now (sign .entry)) r (now (coefficients .exit)) (now (sign .exit)) ⌝ }
 {
-    if coefficients.len() < 4096 {
+    if coefficients.len() < bands::COEFFICIENTS_PER_COMPONENT {
         return Answer::Refused(answer::SLICE_TOO_SHORT);
     }
-    if sign.len() < 4096 {
+    if sign.len() < bands::COEFFICIENTS_PER_COMPONENT {
         return Answer::Refused(answer::SLICE_TOO_SHORT);
     }
     if !upgrade_steps::positions::rows_ok(prev, curr) {

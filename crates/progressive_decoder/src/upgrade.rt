@@ -319,7 +319,7 @@ pub fn upgrade_bands(
         raw: 0,
     };
     let mut b: usize = 0;
-    while b < 10 {
+    while b < bands::NUM_BANDS {
         let t = upgrade_steps::band_step(b, prev[b], curr[b]);
         let place = upgrade_steps::span::band_span(use_reduce_extrapolate, b);
         let from = place.from;

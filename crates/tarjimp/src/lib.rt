@@ -170,8 +170,8 @@ pub extern "C" fn tarjimp_ycbcr_to_rgb(y: i16, cb: i16, cr: i16, out: &mut [u8; 
 // A pass over the three components of a tile, in place: `TileState::decode_upgrade` on the fields that it reads and changes.
 #[no_mangle]
 pub extern "C" fn tarjimp_tile_decode_upgrade(
-    coefficients: &mut [i16; 12288],
-    sign: &mut [i8; 12288],
+    coefficients: &mut [i16; bands::COEFFICIENTS_PER_TILE],
+    sign: &mut [i8; bands::COEFFICIENTS_PER_TILE],
     prog_quant: &mut [u8; 30],
     base_quant: &[u8; 30],
     use_reduce_extrapolate: bool,
@@ -223,7 +223,7 @@ pub extern "C" fn tarjimp_tile_decode_upgrade(
 // The pixels of a tile, of the fields that they depend on.
 #[no_mangle]
 pub extern "C" fn tarjimp_tile_reconstruct_to_rgba(
-    coefficients: &[i16; 12288],
+    coefficients: &[i16; bands::COEFFICIENTS_PER_TILE],
     prog_quant: &[u8; 30],
     base_quant: &[u8; 30],
     use_reduce_extrapolate: bool,

@@ -15,8 +15,8 @@ ghost use Rattle.tile.specs.Inner.{fields, PassedInPlace};
 // A tile: 64 x 64 pixels, with what has arrived of them. Arrays are flat: three components (Y, Cb, Cr) of 4,096, three rows of ten.
 #[repr(C)]
 pub struct TileState {
-    pub coefficients: [i16; 12288],
-    pub sign: [i8; 12288],
+    pub coefficients: [i16; bands::COEFFICIENTS_PER_TILE],
+    pub sign: [i8; bands::COEFFICIENTS_PER_TILE],
     pub prog_quant: [u8; 30],
     pub quant_idx: [u8; 3],
     pub base_quant: [u8; 30],
@@ -65,13 +65,13 @@ pub fn in_domain(rows: [[u8; 10]; 3], positions: [u8; 30], quants: [u8; 30]) -> 
 fn long_enough(y: usize, cb: usize, cr: usize) -> bool
     ensures { λ r. ⌜ r ≡ every (leb 4096) (three y cb cr) ⌝ }
 {
-    if y < 4096 {
+    if y < bands::COEFFICIENTS_PER_COMPONENT {
         return false;
     }
-    if cb < 4096 {
+    if cb < bands::COEFFICIENTS_PER_COMPONENT {
         return false;
     }
-    if cr < 4096 {
+    if cr < bands::COEFFICIENTS_PER_COMPONENT {
         return false;
     }
     true
@@ -99,8 +99,8 @@ pub fn upgrade_in_place(
     cr_raw: &[u8],
     rows: [[u8; 10]; 3],
     use_reduce_extrapolate: bool,
-    coefficients: &mut [i16; 12288],
-    sign: &mut [i8; 12288],
+    coefficients: &mut [i16; bands::COEFFICIENTS_PER_TILE],
+    sign: &mut [i8; bands::COEFFICIENTS_PER_TILE],
     prog_quant: &mut [u8; 30],
     pass: &mut u16,
 ) -> components::Ends
@@ -144,8 +144,8 @@ impl TileState {
         let rows = [row; 3];
         let prog_quant = planes::flat_rows(rows);
         Self {
-            coefficients: [0; 12288],
-            sign: [0; 12288],
+            coefficients: [0; bands::COEFFICIENTS_PER_TILE],
+            sign: [0; bands::COEFFICIENTS_PER_TILE],
             prog_quant: prog_quant,
             quant_idx: [0; 3],
             base_quant: [6; 30],
@@ -176,8 +176,9 @@ impl TileState {
             (three (now («y_sign» .entry)) (now («cb_sign» .entry)) (now («cr_sign» .entry)))
             «prog_quants» «base_quants» «use_reduce_extrapolate» ⌝ }
     {
-        let mut coefficients: [i16; 12288] = [0; 12288];
-        let mut sign: [i8; 12288] = [0; 12288];
+        let mut coefficients: [i16; bands::COEFFICIENTS_PER_TILE] =
+            [0; bands::COEFFICIENTS_PER_TILE];
+        let mut sign: [i8; bands::COEFFICIENTS_PER_TILE] = [0; bands::COEFFICIENTS_PER_TILE];
         planes::load_coefficients(y, cb, cr, &mut coefficients);
         planes::load_signs(y_sign, cb_sign, cr_sign, &mut sign);
         let prog_quant = planes::flat_rows(prog_quants);
