@@ -217,46 +217,8 @@ fn srl_list(
 
 // ---- a band
 
-// All places of a band that is not skipped: the raw ones, and then the SRL ones. So neither loop has to ask at a place what it is.
+// A band: of width 0 it is skipped. Else all its places: the raw ones, and then the SRL ones. So neither loop has to ask at a place what it is.
 fn upgrade_band(
-    srl_data: &[u8],
-    raw_data: &[u8],
-    t: upgrade_steps::BandStep,
-    from: Readers,
-    coefficients: &mut [i16],
-    sign: &mut [i8],
-    zeros: &mut [u16],
-    others: &mut [u16],
-    rows: &[u8; 2304],
-) -> Readers
-    requires { ⌜
-        Width (t .width)
-        × Early from (2 ^ 40)
-        × (length (now sign) ≡ length (now coefficients))
-        × (length (now coefficients) ≤ 1024)
-        × (1024 ≤ length (now zeros))
-        × (1024 ≤ length (now others))
-        × (now rows ≡ placeRows) ⌝ }
-    ensures { λ r. ⌜ BandWalked (now («srl_data» .entry)) (now («raw_data» .entry)) (bandStep t)
-        (now (coefficients .entry)) (now (sign .entry)) from (now (coefficients .exit)) (now (sign .exit)) r ⌝ }
-{
-    let state = from.srl;
-    let n = crate::split::split(t, sign, zeros, others, rows);
-    let raw = raw_list(
-        raw_data,
-        from.raw,
-        t,
-        others,
-        sign.len() - n,
-        coefficients,
-        sign,
-    );
-    let srl = srl_list(srl_data, state, t, zeros, n, coefficients, sign);
-    Readers { srl, raw }
-}
-
-// A band: of width 0 it is skipped.
-fn one_band(
     srl_data: &[u8],
     raw_data: &[u8],
     t: upgrade_steps::BandStep,
@@ -281,17 +243,19 @@ fn one_band(
     if t.width == 0 {
         return from;
     }
-    upgrade_band(
-        srl_data,
+    let state = from.srl;
+    let n = crate::split::split(t, sign, zeros, others, rows);
+    let raw = raw_list(
         raw_data,
+        from.raw,
         t,
-        from,
+        others,
+        sign.len() - n,
         coefficients,
         sign,
-        zeros,
-        others,
-        rows,
-    )
+    );
+    let srl = srl_list(srl_data, state, t, zeros, n, coefficients, sign);
+    Readers { srl, raw }
 }
 
 // ---- all bands
@@ -324,7 +288,7 @@ pub fn upgrade_bands(
         let place = upgrade_steps::span::band_span(use_reduce_extrapolate, b);
         let from = place.from;
         let to = place.to;
-        readers = one_band(
+        readers = upgrade_band(
             srl_data,
             raw_data,
             t,

@@ -59,8 +59,8 @@ lies c = record { number = c .before .before .loop-test .taken; begins = c .band
 step : (c : tie.After-band-step Inv-loop μ-loop) → bandStep (c .band-step .result) ≡ stepOf (c .before .before .before .before .before .before .before .args .t3) (c .before .before .before .before .before .before .before .args .t4) (c .before .before .loop .b)
 step c = c .band-step .ensures
 
-one-band-requires : tie.Need-one-band-requires Inv-loop μ-loop
-one-band-requires c κs =
+upgrade-band-requires : tie.Need-upgrade-band-requires Inv-loop μ-loop
+upgrade-band-requires c κs =
     let a = c .before .before .before .before .before .before .before .before .before .before .before .before .before .args in
     let p = c .before .before .before .before .before .before .before .before .before .before .before .before .before .pre in
     let l = c .before .before .before .before .before .before .before .before .loop in
@@ -87,7 +87,7 @@ loop-again c =
     let p = c .before .before .before .before .before .before .before .before .before .before .before .before .before .before .before .before .before .before .pre in
     let l = c .before .before .before .before .before .before .before .before .before .before .before .before .before .loop in
     let s = c .before .before .before .before .before .before .before .before .before .before .band-span .result in
-    let u = c .before .before .before .before .one-band in
+    let u = c .before .before .before .before .upgrade-band in
     let e = a .use-reduce-extrapolate in
     let f = stepOf (a .t3) (a .t4) in
     let at = lies (c .before .before .before .before .before .before .before .before .before .before) in
@@ -127,4 +127,4 @@ returns c =
     }
 
 pub upgrade-bands-spec : {M : Type 1} → statement M
-upgrade-bands-spec = tie.close (tie.spec Inv-loop μ-loop (λ c κs. search needs) (λ c κs. search needs) loop-holds (λ c. search needs) (λ c. search needs) (λ c κs. search needs) (λ c κs. search needs) (λ c. search needs) (λ c. search needs) (λ c. search needs) (λ c. search needs) (λ c. search needs) (λ c. search needs) (λ c. search needs) (λ c. search needs) (λ c. search needs) one-band-requires (λ c. search needs) (λ c. search needs) loop-again (λ c. search needs) (λ c. search needs) returns)
+upgrade-bands-spec = tie.close (tie.spec Inv-loop μ-loop (λ c κs. search needs) (λ c κs. search needs) loop-holds (λ c. search needs) (λ c. search needs) (λ c κs. search needs) (λ c κs. search needs) (λ c. search needs) (λ c. search needs) (λ c. search needs) (λ c. search needs) (λ c. search needs) (λ c. search needs) (λ c. search needs) (λ c. search needs) (λ c. search needs) upgrade-band-requires (λ c. search needs) (λ c. search needs) loop-again (λ c. search needs) (λ c. search needs) returns)
