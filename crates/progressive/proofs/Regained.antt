@@ -1,6 +1,6 @@
 -- The round trip of a pass: what was written is read back, and what that makes of each place.
 use mathlib.Core.Path.{_≡_, refl, sym, ap, ap₂, _∙_, subst}
-use mathlib.Core.Bool.{Bool, true, false, cond, _&&_, true≢false}
+use mathlib.Core.Bool.{Bool, true, false, _&&_, true≢false}
 use mathlib.Core.List.{List, [], _∷_, _++_, append-nil}
 use Prim.Native.Nat.{ℕ, zero, suc, _+_, _-_, _*_, _/_, _^_, _≤_, _<_}
 use native.Mathlib.Nat.{zero-div, div-le-self, div-mul-le-self, div-lt-iff-lt-mul, le-div-iff-mul-le, mul-le-mul-right, add-mul}
@@ -21,14 +21,14 @@ use Rattle.bits.specs.Written.{bitsOf, bitsOfAll, pack}
 use Rattle.bits.proofs.Holds.{Holds, holds-append, num-holds, pack-holds}
 use Rattle.bits.proofs.Puts.{length-bitsOf}
 use Rattle.srl_decoder.specs.Srl.{start, values}
-use Rattle.srl_encoder.specs.Encode.{valueZeros, valueFault, firstOf}
+use Rattle.srl_encoder.specs.Encode.{valueZeros, valueFault}
 use Rattle.srl_encoder.specs.Finish.{streamBits}
 use Rattle.srl.specs.Laws.{Legal, legal}
 use Rattle.srl.proofs.Back.{value-legal}
 use Rattle.srl_encoder.proofs.EncodedValues.{first-none}
 use Rattle.srl.proofs.Trip.{stream-values}
 use Rattle.upgrade_steps.specs.Steps.{Step, Source, skipped, srl, raw, source, sourceOf, steps, stepOf, srlWidths, rawWidths}
-use Rattle.answer.specs.Refusals.{longEnough}
+use Rattle.answer.specs.Refusals.{sliceTooShort, outOfDomain, unless, firstOf, longEnough}
 use Rattle.progressive_decoder.specs.Upgrade.{srlCoefficient, srlSign, adds, rawCoefficient, signThen, signsAfter, coefficientThen, coefficientsAfter, srlValues, rawNumbers, decodeCoefficients, decodeSigns}
 use Rattle.progressive_encoder.specs.Encode.{srlDifference, rawDifference, srlGiven, srlDifferences, rawGiven, rawDifferences, srlStream, srlBytes, rawBytes, valuesFault, passFault, noRoomFor, encodePassRefusal}
 use Rattle.progressive_encoder.proofs.Placewise.{same-length}
@@ -239,7 +239,7 @@ taken cs ps ss prev curr e srlOut rawOut = by (longEnough cs && (longEnough ps &
     rest = noRoomFor (srlBytes (steps e prev curr) cs ps ss) srlOut (rawBytes (steps e prev curr) cs ps ss) rawOut
 
     by : (a : Bool) → (longEnough cs && (longEnough ps && longEnough ss)) ≡ a → (b : Bool) → (rowInDomain prev && rowInDomain curr) ≡ b
-        → cond a (cond b (firstOf (passFault (steps e prev curr) cs ps ss) rest) 2) 1 ≡ 0 → Taken cs ps ss prev curr e
+        → firstOf (unless a sliceTooShort) (firstOf (unless b outOfDomain) (firstOf (passFault (steps e prev curr) cs ps ss) rest)) ≡ 0 → Taken cs ps ss prev curr e
     by true la true lb k =
         let one = both-true (longEnough cs) (longEnough ps && longEnough ss) la in
         let two = both-true (longEnough ps) (longEnough ss) (one .1) in

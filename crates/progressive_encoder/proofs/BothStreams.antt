@@ -1,6 +1,6 @@
 -- Laws of both streams together: what is refused, test by test, and what is answered and stored then. Assumes nothing.
 use mathlib.Core.Path.{_≡_, refl, ap, sym, _∙_}
-use mathlib.Core.Bool.{Bool, cond, _||_}
+use mathlib.Core.Bool.{Bool, cond}
 use mathlib.Core.List.{List}
 use Prim.Native.Nat.{ℕ, zero, suc, _≤_}
 use native.Mathlib.Omega.{arith}
@@ -8,8 +8,7 @@ use lib.Dec.{ltb}
 use lib.ListN.{length}
 use lib.Seq.{sets}
 use Rattle.bits.proofs.Packed.{sets-start}
-use Rattle.srl_rules.specs.Rules.{stored}
-use Rattle.srl_encoder.specs.Encode.{firstOf}
+use Rattle.answer.specs.Refusals.{magnitudeOutOfRange, outputTooShort, firstOf, noRoom, stored}
 use Rattle.srl_encoder.proofs.EncodedCalls.{stored-some}
 use Rattle.progressive_encoder.specs.Encode.{srlStream, rawStream, written}
 use Rattle.progressive_encoder.specs.Inner.{Lists, anyTooLarge, listsRefusal, listsAnswer, listsSrlOut, listsRawOut}
@@ -23,14 +22,17 @@ written-some (suc k) n m h = refl
 module _ (l : Lists) (srlOut rawOut : List ℕ) where
   -- the refusal by its three tests: a value that is too large, and no room for one stream or the other
   pub refusal-is : length (l .values) ≤ 4096 → {a b c : Bool} → a ≡ anyTooLarge (l .widths) (l .values) → b ≡ ltb (length srlOut) (length (srlStream (l .widths) (l .values)))
-      → c ≡ ltb (length rawOut) (length (rawStream (l .numberWidths) (l .numbers))) → listsRefusal l srlOut rawOut ≡ firstOf (cond a 5 0) (cond (b || c) 7 0)
+      → c ≡ ltb (length rawOut) (length (rawStream (l .numberWidths) (l .numbers)))
+      → listsRefusal l srlOut rawOut ≡ firstOf (cond a magnitudeOutOfRange 0) (firstOf (cond b outputTooShort 0) (cond c outputTooShort 0))
   refusal-is h {a} {b} {c} p q r =
-      let full = ltb (length srlOut) (length (srlStream (l .widths) (l .values))) || ltb (length rawOut) (length (rawStream (l .numberWidths) (l .numbers))) in
-      ap (λ n. firstOf n (cond full 7 0)) (fault-by-size 0 (l .widths) (l .values) (omega arith))
-      ∙ ap (λ x. firstOf (cond x 5 0) (cond full 7 0)) (sym p)
-      ∙ ap (λ x. firstOf (cond a 5 0) (cond (x || ltb (length rawOut) (length (rawStream (l .numberWidths) (l .numbers)))) 7 0)) (sym q)
-      ∙ ap (λ x. firstOf (cond a 5 0) (cond (b || x) 7 0)) (sym r)
+      let none = noRoom (length rawOut) (length (rawStream (l .numberWidths) (l .numbers))) in
+      let full = firstOf (noRoom (length srlOut) (length (srlStream (l .widths) (l .values)))) none in
+      ap (λ n. firstOf n full) (fault-by-size 0 (l .widths) (l .values) (omega arith))
+      ∙ ap (λ x. firstOf (cond x magnitudeOutOfRange 0) full) (sym p)
+      ∙ ap (λ x. firstOf (cond a magnitudeOutOfRange 0) (firstOf (cond x outputTooShort 0) none)) (sym q)
+      ∙ ap (λ x. firstOf (cond a magnitudeOutOfRange 0) (firstOf (cond b outputTooShort 0) (cond x outputTooShort 0))) (sym r)
 
+  -- where it is some: the answer, and both outputs as they were
   pub refused : (n : ℕ) → (n ≡ 0 → ⊥) → listsRefusal l srlOut rawOut ≡ n
       → (Refused n ≡ listsAnswer l srlOut rawOut) × (srlOut ≡ listsSrlOut l srlOut rawOut) × (rawOut ≡ listsRawOut l srlOut rawOut)
   refused n h r =

@@ -612,10 +612,10 @@ pub fn write_pass(
         use_reduce_extrapolate,
     );
     if total.bad {
-        return Written::Refused(5);
+        return Written::Refused(answer::MAGNITUDE_OUT_OF_RANGE);
     }
     if raw_out.len() < (total.raw_bits + 7) / 8 {
-        return Written::Refused(7);
+        return Written::Refused(answer::OUTPUT_TOO_SHORT);
     }
     if srl_exceeds(
         coefficients,
@@ -627,7 +627,7 @@ pub fn write_pass(
         total,
         srl_out.len(),
     ) {
-        return Written::Refused(7);
+        return Written::Refused(answer::OUTPUT_TOO_SHORT);
     }
     write_streams(
         coefficients,

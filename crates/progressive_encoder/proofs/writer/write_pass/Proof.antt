@@ -1,11 +1,12 @@
 -- `progressive_encoder::writer::write_pass` meets its contract: each test is one of `listsRefusal`, and the bytes stored are those measured. Assumes nothing.
-use mathlib.Core.Path.{_≡_, refl, sym, ap, _∙_}
-use mathlib.Core.Bool.{Bool, true, false, cond, _||_}
+use mathlib.Core.Path.{_≡_, refl, sym, _∙_}
+use mathlib.Core.Bool.{Bool, true, false, cond}
 use Prim.Native.Nat.{_+_, _/_, _≤_}
 use native.Mathlib.Omega.{arith}
 use lib.Dec.{ltb}
 use lib.ListN.{length}
 use borrow.Author.Tests.{lt-ltb, le-ltb, ltb-false}
+use Rattle.answer.specs.Refusals.{magnitudeOutOfRange, outputTooShort, firstOf}
 use Rattle.upgrade_steps.specs.Steps.{steps}
 use Rattle.progressive_encoder.specs.Encode.{srlStream, rawStream}
 use Rattle.progressive_encoder.specs.Inner.{Lists, passLists, anyTooLarge}
@@ -37,12 +38,13 @@ unfolding given
 returns c =
     let k = c .before .before .before .before in
     let a = k .args in
-    refused (given k) (a .srl-out .now) (a .raw-out .now) 5 (λ e. omega arith)
+    refused (given k) (a .srl-out .now) (a .raw-out .now) magnitudeOutOfRange (λ e. omega arith)
     (refusal-is (given k) (a .srl-out .now) (a .raw-out .now) (few (c .before)) (sym (c .if1 .taken) ∙ bad (c .before)) refl refl)
 
-or-true : (b : Bool) → (b || true) ≡ true
-or-true true = refl
-or-true false = refl
+-- no room for the raw stream, whatever the other has
+either-full : (b : Bool) → firstOf (cond b outputTooShort 0) outputTooShort ≡ outputTooShort
+either-full true = refl
+either-full false = refl
 
 returns-2 : tie.Need-returns-2
 unfolding given
@@ -51,9 +53,9 @@ returns-2 c =
     let a = k .args in
     let l = given k in
     let full = lt-ltb (length (a .raw-out .now)) (length (rawStream (l .numberWidths) (l .numbers))) (omega (arith, c .if2 .taken, bytes (c .before .before .before))) in
-    refused l (a .srl-out .now) (a .raw-out .now) 7 (λ e. omega arith)
+    refused l (a .srl-out .now) (a .raw-out .now) outputTooShort (λ e. omega arith)
     (refusal-is l (a .srl-out .now) (a .raw-out .now) (few (c .before .before .before)) (sym (c .before .before .if1 .left) ∙ bad (c .before .before .before)) refl (sym full)
-    ∙ ap (λ b. cond b 7 0) (or-true (ltb (length (a .srl-out .now)) (length (srlStream (l .widths) (l .values))))))
+    ∙ either-full (ltb (length (a .srl-out .now)) (length (srlStream (l .widths) (l .values)))))
 
 -- the raw stream has room
 room : (c : tie.Else2) → length (rawStream (given (c .before .before .before .before .before .before) .numberWidths) (given (c .before .before .before .before .before .before) .numbers)) ≤ length (c .before .before .before .before .before .before .args .raw-out .now)
@@ -65,7 +67,7 @@ unfolding given
 returns-3 c =
     let k = c .before .before .before .before .before .before .before .before in
     let a = k .args in
-    refused (given k) (a .srl-out .now) (a .raw-out .now) 7 (λ e. omega arith)
+    refused (given k) (a .srl-out .now) (a .raw-out .now) outputTooShort (λ e. omega arith)
     (refusal-is (given k) (a .srl-out .now) (a .raw-out .now) (few (c .before .before .before .before .before)) (sym (c .before .before .before .before .if1 .left) ∙ bad (c .before .before .before .before .before)) (sym (c .if3 .taken) ∙ c .before .srl-exceeds .ensures) refl)
 
 returns-4 : tie.Need-returns-4
