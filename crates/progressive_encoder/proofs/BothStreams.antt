@@ -6,13 +6,13 @@ use Prim.Native.Nat.{ℕ, zero, suc, _≤_}
 use native.Mathlib.Omega.{arith}
 use lib.Dec.{ltb}
 use lib.ListN.{length}
-use lib.Seq.{sets}
 use Rattle.bits.proofs.Packed.{sets-start}
 use Rattle.answer.specs.Refusals.{magnitudeOutOfRange, outputTooShort, firstOf, noRoom, stored}
 use Rattle.srl_encoder.proofs.EncodedCalls.{stored-some}
 use Rattle.progressive_encoder.specs.Encode.{srlStream, rawStream, written}
-use Rattle.progressive_encoder.specs.Inner.{Lists, anyTooLarge, listsRefusal, listsAnswer, listsSrlOut, listsRawOut}
-use Rattle.progressive_encoder.specs.declared.Written.the-variants.{Bytes, Refused}
+use Rattle.progressive_encoder.specs.Inner.{Lists, anyTooLarge, listsRefusal, StoresStreams, WritesStreams}
+use Rattle.progressive_encoder.specs.declared.Written.{Written}
+use Rattle.progressive_encoder.specs.declared.Written.the-variants.{Refused}
 use Rattle.progressive_encoder.proofs.WrittenValues.{fault-by-size}
 
 written-some : (k n m : ℕ) → (k ≡ 0 → ⊥) → written k n m ≡ Refused k
@@ -34,24 +34,24 @@ module _ (l : Lists) (srlOut rawOut : List ℕ) where
 
   -- where it is some: the answer, and both outputs as they were
   pub refused : (n : ℕ) → (n ≡ 0 → ⊥) → listsRefusal l srlOut rawOut ≡ n
-      → (Refused n ≡ listsAnswer l srlOut rawOut) × (srlOut ≡ listsSrlOut l srlOut rawOut) × (rawOut ≡ listsRawOut l srlOut rawOut)
+      → WritesStreams l srlOut rawOut (Refused n) srlOut rawOut
   refused n h r =
       let x = srlStream (l .widths) (l .values) in
-      let y = rawStream (l .numberWidths) (l .numbers) in (
-        sym (ap (λ k. written k (length x) (length y)) r ∙ written-some n (length x) (length y) h),
-        sym (ap (λ k. stored k x srlOut) r ∙ stored-some n x srlOut h),
-        sym (ap (λ k. stored k y rawOut) r ∙ stored-some n y rawOut h),
-      )
+      let y = rawStream (l .numberWidths) (l .numbers) in
+      record {
+        answer = sym (ap (λ k. written k (length x) (length y)) r ∙ written-some n (length x) (length y) h);
+        srl = sym (ap (λ k. stored k x srlOut) r ∙ stored-some n x srlOut h);
+        raw = sym (ap (λ k. stored k y rawOut) r ∙ stored-some n y rawOut h);
+      }
 
-  -- where it is none: n and m are the counts, o and p the outputs then
+  -- where it is none, with room for both: what was stored is what is to be written
   pub accepted : listsRefusal l srlOut rawOut ≡ 0 → length (srlStream (l .widths) (l .values)) ≤ length srlOut → length (rawStream (l .numberWidths) (l .numbers)) ≤ length rawOut
-      → {n m : ℕ} {o p : List ℕ} → n ≡ length (srlStream (l .widths) (l .values)) → m ≡ length (rawStream (l .numberWidths) (l .numbers))
-      → o ≡ sets srlOut 0 (srlStream (l .widths) (l .values)) → p ≡ sets rawOut 0 (rawStream (l .numberWidths) (l .numbers))
-      → (Bytes n m ≡ listsAnswer l srlOut rawOut) × (o ≡ listsSrlOut l srlOut rawOut) × (p ≡ listsRawOut l srlOut rawOut)
-  accepted r h k {n} {m} a b c d =
+      → {a : Written} {o p : List ℕ} → StoresStreams l srlOut rawOut a o p → WritesStreams l srlOut rawOut a o p
+  accepted r h k s =
       let x = srlStream (l .widths) (l .values) in
-      let y = rawStream (l .numberWidths) (l .numbers) in (
-        ap (λ i. Bytes i m) a ∙ ap (Bytes (length x)) b ∙ sym (ap (λ i. written i (length x) (length y)) r),
-        c ∙ sets-start x srlOut h ∙ sym (ap (λ i. stored i x srlOut) r),
-        d ∙ sets-start y rawOut k ∙ sym (ap (λ i. stored i y rawOut) r),
-      )
+      let y = rawStream (l .numberWidths) (l .numbers) in
+      record {
+        answer = s .answer ∙ sym (ap (λ i. written i (length x) (length y)) r);
+        srl = s .srl ∙ sets-start x srlOut h ∙ sym (ap (λ i. stored i x srlOut) r);
+        raw = s .raw ∙ sets-start y rawOut k ∙ sym (ap (λ i. stored i y rawOut) r);
+      }

@@ -6,14 +6,13 @@ ghost use Prim.Native.Nat.{_+_, _-_, _*_, _/_, _^_, _≤_, _<_};
 ghost use lib.Dec.{ltb};
 ghost use lib.IntN.{pos};
 ghost use lib.ListN.{length};
-ghost use lib.Seq.{sets};
 ghost use Rattle.bands.specs.Positions.{rowInDomain};
 ghost use Rattle.srl_rules.specs.Inner.{Width};
 ghost use Rattle.srl_encoder.specs.Inner.{Good};
 ghost use Rattle.upgrade_steps.specs.Steps.{steps};
 ghost use Rattle.upgrade_steps.specs.Inner.{bandStep};
-ghost use Rattle.progressive_encoder.specs.Encode.{srlDifference, rawDifference, srlBytes, rawBytes, written};
-ghost use Rattle.progressive_encoder.specs.Inner.{passLists, placeLists, bandLists, Long, Lent, oneIf, onlyIf, surveyOf, Counts, Surveys, noTotal, Few, measuredOf, Measures, Measurable, sinksOf, freshSinks, outputs, Stores, Writable, endLength, endOut, listsAnswer, listsSrlOut, listsRawOut};
+ghost use Rattle.progressive_encoder.specs.Encode.{srlDifference, rawDifference, srlDifferences, srlBytes};
+ghost use Rattle.progressive_encoder.specs.Inner.{passLists, placeLists, bandLists, Slices, Lent, WentOver, oneIf, onlyIf, CountsBand, Surveys, noTotal, Few, measuredOf, Measures, Measurable, sinksOf, freshSinks, outputs, Stores, Writable, Ready, endLength, endOut, StoresStreams, WritesStreams};
 use crate::Written;
 
 // What a band has for the SRL stream: how many values, the sum of their magnitudes, and the largest.
@@ -106,7 +105,7 @@ fn survey_band(
     to: usize,
 ) -> Survey
     requires { ⌜ Lent (now coefficients) (now «prev_coefficients») (now sign) from to × (1 ≤ t .width) ⌝ }
-    ensures { λ r. ⌜ Counts (bandLists (bandStep t) from to (now (coefficients .entry)) (now («prev_coefficients» .entry)) (now (sign .entry))) (surveyOf 0 0 0) r × (r .count ≤ to - from) × (r .sum ≤ 32768 * (to - from)) ⌝ }
+    ensures { λ r. ⌜ CountsBand (bandStep t) from to (now (coefficients .entry)) (now («prev_coefficients» .entry)) (now (sign .entry)) r ⌝ }
 {
     let mut count: u32 = 0;
     let mut sum: u32 = 0;
@@ -139,7 +138,9 @@ fn survey_next(
     done: Total,
 ) -> Total
     requires { ⌜ Lent (now coefficients) (now «prev_coefficients») (now sign) from to × (t .width ≤ 15) × Few done from ⌝ }
-    ensures { λ r. ⌜ Surveys (bandLists (bandStep t) from to (now (coefficients .entry)) (now («prev_coefficients» .entry)) (now (sign .entry))) done r × Few r to ⌝ }
+    ensures { λ r. ⌜ WentOver Surveys Few
+        (bandLists (bandStep t) from to (now (coefficients .entry)) (now («prev_coefficients» .entry)) (now (sign .entry)))
+        to done r ⌝ }
 {
     if t.width == 0 {
         return done;
@@ -163,8 +164,10 @@ fn survey_bands(
     sign: &[i8],
     use_reduce_extrapolate: bool,
 ) -> Total
-    requires { ⌜ (rowInDomain prev ≡ true) × Long (now coefficients) × Long (now «prev_coefficients») × Long (now sign) ⌝ }
-    ensures { λ r. ⌜ Surveys (passLists (steps «use_reduce_extrapolate» prev curr) (now (coefficients .entry)) (now («prev_coefficients» .entry)) (now (sign .entry))) noTotal r × Few r 4096 ⌝ }
+    requires { ⌜ (rowInDomain prev ≡ true) × Slices (now coefficients) (now «prev_coefficients») (now sign) ⌝ }
+    ensures { λ r. ⌜ WentOver Surveys Few
+        (passLists (steps «use_reduce_extrapolate» prev curr) (now (coefficients .entry)) (now («prev_coefficients» .entry)) (now (sign .entry)))
+        4096 noTotal r ⌝ }
 {
     let mut done = Total {
         count: 0,
@@ -208,7 +211,7 @@ fn measure_place(
     i: usize,
 ) -> srl_encoder::encoder::Measured
     requires { ⌜ Width (t .width) × Measurable start i × (i < 4096) ⌝ }
-    ensures { λ r. ⌜ Measures (placeLists (bandStep t) c p s) start r × Measurable r (i + 1) ⌝ }
+    ensures { λ r. ⌜ WentOver Measures Measurable (placeLists (bandStep t) c p s) (i + 1) start r ⌝ }
 {
     if !upgrade_steps::from_srl(t, s) {
         return start;
@@ -231,7 +234,9 @@ fn measure_band(
     start: srl_encoder::encoder::Measured,
 ) -> srl_encoder::encoder::Measured
     requires { ⌜ Lent (now coefficients) (now «prev_coefficients») (now sign) from to × Width (t .width) × Measurable start from ⌝ }
-    ensures { λ r. ⌜ Measures (bandLists (bandStep t) from to (now (coefficients .entry)) (now («prev_coefficients» .entry)) (now (sign .entry))) start r × Measurable r to ⌝ }
+    ensures { λ r. ⌜ WentOver Measures Measurable
+        (bandLists (bandStep t) from to (now (coefficients .entry)) (now («prev_coefficients» .entry)) (now (sign .entry)))
+        to start r ⌝ }
 {
     let mut at = start.at;
     let mut bit_count = start.bit_count;
@@ -263,7 +268,9 @@ fn measure_next(
     start: srl_encoder::encoder::Measured,
 ) -> srl_encoder::encoder::Measured
     requires { ⌜ Lent (now coefficients) (now «prev_coefficients») (now sign) from to × (t .width ≤ 15) × Measurable start from ⌝ }
-    ensures { λ r. ⌜ Measures (bandLists (bandStep t) from to (now (coefficients .entry)) (now («prev_coefficients» .entry)) (now (sign .entry))) start r × Measurable r to ⌝ }
+    ensures { λ r. ⌜ WentOver Measures Measurable
+        (bandLists (bandStep t) from to (now (coefficients .entry)) (now («prev_coefficients» .entry)) (now (sign .entry)))
+        to start r ⌝ }
 {
     if t.width == 0 {
         return start;
@@ -280,8 +287,10 @@ fn measure_bands(
     sign: &[i8],
     use_reduce_extrapolate: bool,
 ) -> srl_encoder::encoder::Measured
-    requires { ⌜ (rowInDomain prev ≡ true) × Long (now coefficients) × Long (now «prev_coefficients») × Long (now sign) ⌝ }
-    ensures { λ r. ⌜ Measures (passLists (steps «use_reduce_extrapolate» prev curr) (now (coefficients .entry)) (now («prev_coefficients» .entry)) (now (sign .entry))) (measuredOf 0 0 8 0) r × Measurable r 4096 ⌝ }
+    requires { ⌜ (rowInDomain prev ≡ true) × Slices (now coefficients) (now «prev_coefficients») (now sign) ⌝ }
+    ensures { λ r. ⌜ WentOver Measures Measurable
+        (passLists (steps «use_reduce_extrapolate» prev curr) (now (coefficients .entry)) (now («prev_coefficients» .entry)) (now (sign .entry)))
+        4096 (measuredOf 0 0 8 0) r ⌝ }
 {
     let mut cur = measured_of(0, 0, 8, 0);
     let mut b: usize = 0;
@@ -306,8 +315,11 @@ fn srl_length(
     use_reduce_extrapolate: bool,
     count: usize,
 ) -> usize
-    requires { ⌜ (rowInDomain prev ≡ true) × Long (now coefficients) × Long (now «prev_coefficients») × Long (now sign) × (count ≡ length (passLists (steps «use_reduce_extrapolate» prev curr) (now coefficients) (now «prev_coefficients») (now sign) .values)) ⌝ }
-    ensures { λ r. ⌜ r ≡ length (srlBytes (steps «use_reduce_extrapolate» prev curr) (now (coefficients .entry)) (now («prev_coefficients» .entry)) (now (sign .entry))) ⌝ }
+    requires { ⌜ (rowInDomain prev ≡ true)
+        × Slices (now coefficients) (now «prev_coefficients») (now sign)
+        × (count ≡ length (srlDifferences (steps «use_reduce_extrapolate» prev curr) (now coefficients) (now «prev_coefficients») (now sign))) ⌝ }
+    ensures { λ r. ⌜ r ≡ length
+        (srlBytes (steps «use_reduce_extrapolate» prev curr) (now (coefficients .entry)) (now («prev_coefficients» .entry)) (now (sign .entry))) ⌝ }
 {
     if count == 0 {
         return 0;
@@ -335,8 +347,13 @@ fn srl_exceeds(
     total: Total,
     room: usize,
 ) -> bool
-    requires { ⌜ (rowInDomain prev ≡ true) × Long (now coefficients) × Long (now «prev_coefficients») × Long (now sign) × Surveys (passLists (steps «use_reduce_extrapolate» prev curr) (now coefficients) (now «prev_coefficients») (now sign)) noTotal total × Few total 4096 ⌝ }
-    ensures { λ r. ⌜ r ≡ ltb room (length (srlBytes (steps «use_reduce_extrapolate» prev curr) (now (coefficients .entry)) (now («prev_coefficients» .entry)) (now (sign .entry)))) ⌝ }
+    requires { ⌜ (rowInDomain prev ≡ true)
+        × Slices (now coefficients) (now «prev_coefficients») (now sign)
+        × WentOver Surveys Few
+        (passLists (steps «use_reduce_extrapolate» prev curr) (now coefficients) (now «prev_coefficients») (now sign))
+        4096 noTotal total ⌝ }
+    ensures { λ r. ⌜ r ≡ ltb room
+        (length (srlBytes (steps «use_reduce_extrapolate» prev curr) (now (coefficients .entry)) (now («prev_coefficients» .entry)) (now (sign .entry)))) ⌝ }
 {
     let most = total.sum + 12 * total.count + 40;
     if most / 8 < room {
@@ -399,7 +416,9 @@ fn write_place(
     raw_out: &mut [u8],
 ) -> Sinks
     requires { ⌜ Width (t .width) × (t .position ≤ 15) × Writable start i × (i < 4096) ⌝ }
-    ensures { λ r. ⌜ Stores (placeLists (bandStep t) c p s) (outputs (now («srl_out» .entry)) (now («raw_out» .entry)) start) (outputs (now («srl_out» .exit)) (now («raw_out» .exit)) r) × Writable r (i + 1) ⌝ }
+    ensures { λ r. ⌜ WentOver Stores Ready (placeLists (bandStep t) c p s) (i + 1)
+        (outputs (now («srl_out» .entry)) (now («raw_out» .entry)) start)
+        (outputs (now («srl_out» .exit)) (now («raw_out» .exit)) r) ⌝ }
 {
     let a = start.srl;
     let k = start.raw;
@@ -441,7 +460,11 @@ fn write_band(
     raw_out: &mut [u8],
 ) -> Sinks
     requires { ⌜ Lent (now coefficients) (now «prev_coefficients») (now sign) from to × Width (t .width) × (t .position ≤ 15) × Writable start from ⌝ }
-    ensures { λ r. ⌜ Stores (bandLists (bandStep t) from to (now (coefficients .entry)) (now («prev_coefficients» .entry)) (now (sign .entry))) (outputs (now («srl_out» .entry)) (now («raw_out» .entry)) start) (outputs (now («srl_out» .exit)) (now («raw_out» .exit)) r) × Writable r to ⌝ }
+    ensures { λ r. ⌜ WentOver Stores Ready
+        (bandLists (bandStep t) from to (now (coefficients .entry)) (now («prev_coefficients» .entry)) (now (sign .entry)))
+        to
+        (outputs (now («srl_out» .entry)) (now («raw_out» .entry)) start)
+        (outputs (now («srl_out» .exit)) (now («raw_out» .exit)) r) ⌝ }
 {
     let a = start.srl;
     let k = a.sink;
@@ -490,7 +513,11 @@ fn write_next(
     raw_out: &mut [u8],
 ) -> Sinks
     requires { ⌜ Lent (now coefficients) (now «prev_coefficients») (now sign) from to × (t .width ≤ 15) × (t .position ≤ 15) × Writable start from ⌝ }
-    ensures { λ r. ⌜ Stores (bandLists (bandStep t) from to (now (coefficients .entry)) (now («prev_coefficients» .entry)) (now (sign .entry))) (outputs (now («srl_out» .entry)) (now («raw_out» .entry)) start) (outputs (now («srl_out» .exit)) (now («raw_out» .exit)) r) × Writable r to ⌝ }
+    ensures { λ r. ⌜ WentOver Stores Ready
+        (bandLists (bandStep t) from to (now (coefficients .entry)) (now («prev_coefficients» .entry)) (now (sign .entry)))
+        to
+        (outputs (now («srl_out» .entry)) (now («raw_out» .entry)) start)
+        (outputs (now («srl_out» .exit)) (now («raw_out» .exit)) r) ⌝ }
 {
     if t.width == 0 {
         return start;
@@ -519,8 +546,12 @@ fn write_bands(
     srl_out: &mut [u8],
     raw_out: &mut [u8],
 ) -> Sinks
-    requires { ⌜ (rowInDomain prev ≡ true) × (rowInDomain curr ≡ true) × Long (now coefficients) × Long (now «prev_coefficients») × Long (now sign) ⌝ }
-    ensures { λ r. ⌜ Stores (passLists (steps «use_reduce_extrapolate» prev curr) (now (coefficients .entry)) (now («prev_coefficients» .entry)) (now (sign .entry))) (outputs (now («srl_out» .entry)) (now («raw_out» .entry)) freshSinks) (outputs (now («srl_out» .exit)) (now («raw_out» .exit)) r) × Writable r 4096 ⌝ }
+    requires { ⌜ (rowInDomain prev ≡ true) × (rowInDomain curr ≡ true) × Slices (now coefficients) (now «prev_coefficients») (now sign) ⌝ }
+    ensures { λ r. ⌜ WentOver Stores Ready
+        (passLists (steps «use_reduce_extrapolate» prev curr) (now (coefficients .entry)) (now («prev_coefficients» .entry)) (now (sign .entry)))
+        4096
+        (outputs (now («srl_out» .entry)) (now («raw_out» .entry)) freshSinks)
+        (outputs (now («srl_out» .exit)) (now («raw_out» .exit)) r) ⌝ }
 {
     let mut cur = sinks_of(0, 0, 0, 8, 0, 0, 0, 0);
     let mut b: usize = 0;
@@ -571,8 +602,13 @@ fn write_streams(
     srl_out: &mut [u8],
     raw_out: &mut [u8],
 ) -> Written
-    requires { ⌜ (rowInDomain prev ≡ true) × (rowInDomain curr ≡ true) × Long (now coefficients) × Long (now «prev_coefficients») × Long (now sign) × (count ≡ length (passLists (steps «use_reduce_extrapolate» prev curr) (now coefficients) (now «prev_coefficients») (now sign) .values)) ⌝ }
-    ensures { λ r. ⌜ (r ≡ written 0 (length (srlBytes (steps «use_reduce_extrapolate» prev curr) (now (coefficients .entry)) (now («prev_coefficients» .entry)) (now (sign .entry)))) (length (rawBytes (steps «use_reduce_extrapolate» prev curr) (now (coefficients .entry)) (now («prev_coefficients» .entry)) (now (sign .entry))))) × (now («srl_out» .exit) ≡ sets (now («srl_out» .entry)) 0 (srlBytes (steps «use_reduce_extrapolate» prev curr) (now (coefficients .entry)) (now («prev_coefficients» .entry)) (now (sign .entry)))) × (now («raw_out» .exit) ≡ sets (now («raw_out» .entry)) 0 (rawBytes (steps «use_reduce_extrapolate» prev curr) (now (coefficients .entry)) (now («prev_coefficients» .entry)) (now (sign .entry)))) ⌝ }
+    requires { ⌜ (rowInDomain prev ≡ true)
+        × (rowInDomain curr ≡ true)
+        × Slices (now coefficients) (now «prev_coefficients») (now sign)
+        × (count ≡ length (srlDifferences (steps «use_reduce_extrapolate» prev curr) (now coefficients) (now «prev_coefficients») (now sign))) ⌝ }
+    ensures { λ r. ⌜ StoresStreams
+        (passLists (steps «use_reduce_extrapolate» prev curr) (now (coefficients .entry)) (now («prev_coefficients» .entry)) (now (sign .entry)))
+        (now («srl_out» .entry)) (now («raw_out» .entry)) r (now («srl_out» .exit)) (now («raw_out» .exit)) ⌝ }
 {
     let done = write_bands(
         coefficients,
@@ -600,8 +636,10 @@ pub fn write_pass(
     srl_out: &mut [u8],
     raw_out: &mut [u8],
 ) -> Written
-    requires { ⌜ (rowInDomain prev ≡ true) × (rowInDomain curr ≡ true) × Long (now coefficients) × Long (now «prev_coefficients») × Long (now sign) ⌝ }
-    ensures { λ r. ⌜ (r ≡ listsAnswer (passLists (steps «use_reduce_extrapolate» prev curr) (now (coefficients .entry)) (now («prev_coefficients» .entry)) (now (sign .entry))) (now («srl_out» .entry)) (now («raw_out» .entry))) × (now («srl_out» .exit) ≡ listsSrlOut (passLists (steps «use_reduce_extrapolate» prev curr) (now (coefficients .entry)) (now («prev_coefficients» .entry)) (now (sign .entry))) (now («srl_out» .entry)) (now («raw_out» .entry))) × (now («raw_out» .exit) ≡ listsRawOut (passLists (steps «use_reduce_extrapolate» prev curr) (now (coefficients .entry)) (now («prev_coefficients» .entry)) (now (sign .entry))) (now («srl_out» .entry)) (now («raw_out» .entry))) ⌝ }
+    requires { ⌜ (rowInDomain prev ≡ true) × (rowInDomain curr ≡ true) × Slices (now coefficients) (now «prev_coefficients») (now sign) ⌝ }
+    ensures { λ r. ⌜ WritesStreams
+        (passLists (steps «use_reduce_extrapolate» prev curr) (now (coefficients .entry)) (now («prev_coefficients» .entry)) (now (sign .entry)))
+        (now («srl_out» .entry)) (now («raw_out» .entry)) r (now («srl_out» .exit)) (now («raw_out» .exit)) ⌝ }
 {
     let total = survey_bands(
         coefficients,

@@ -56,8 +56,15 @@ low c = sym (c .before .rows-ok .ensures) ∙ not-false _ (c .if4 .left)
 
 write-pass-requires : tie.Need-write-pass-requires
 write-pass-requires c κs =
-    let r = both-true _ _ (low (c .before .before)) in
-    (r .0, r .1, omega (arith, c .before .before .before .before .before .before .if1 .left), omega (arith, c .before .before .before .before .before .if2 .left), omega (arith, c .before .before .before .before .if3 .left))
+    let r = both-true _ _ (low (c .before .before)) in (
+      r .0,
+      r .1,
+      record {
+        coefficients = omega (arith, c .before .before .before .before .before .before .if1 .left);
+        previous = omega (arith, c .before .before .before .before .before .if2 .left);
+        sign = omega (arith, c .before .before .before .before .if3 .left);
+      },
+    )
 
 returns-5 : tie.Need-returns-5
 returns-5 c =
@@ -66,7 +73,7 @@ returns-5 c =
     let long″ = signs (c .before .before .before .before .before .before .before .before .before) in
     let right = low (c .before .before .before .before .before .before .before) in
     let e = c .before .before .before .before .write-pass .ensures in
-    record { answer = simp (long, long′, long″, right) (e .0); srl = simp (long, long′, long″, right) (e .1); raw = simp (long, long′, long″, right) (e .2) }
+    record { answer = simp (long, long′, long″, right) (e .answer); srl = simp (long, long′, long″, right) (e .srl); raw = simp (long, long′, long″, right) (e .raw) }
 
 pub encode-upgrade-pass-spec : {M : Type 1} → statement M
 encode-upgrade-pass-spec = tie.close (tie.spec returns returns-2 returns-3 (λ c κs. search needs) returns-4 write-pass-requires (λ c. search needs) (λ c. search needs) returns-5)

@@ -46,11 +46,11 @@ loop-again c =
     let z = getD (a .sign .now) (l .i) (pos 0) in (
       omega (arith, l .inv .0),
       omega arith,
-      u .ensures .1,
+      u .ensures .bound,
       place-next Measures measures-placewise (a .coefficients .now) (a .prev-coefficients .now) (a .sign .now) t (a .from) (l .i) (a .to) (k .pre .0) (l .inv .0) (omega arith)
           (a .start) (measuredOf (l .at) (l .bit-count) (l .kp) (l .zeros)) (u .result) (l .inv .3)
           (toZ-ofZ w16 x (record { sfits = c .before .before .before .before .c .given })) (toZ-ofZ w16 y (record { sfits = c .before .before .before .p .given })) (toZ-ofZ w8 z (record { sfits = c .before .before .s .given }))
-          (subst (λ (p : Measured). Measures (placeLists t (toZ w16 (ofZ w16 x)) (toZ w16 (ofZ w16 y)) (toZ w8 (ofZ w8 z))) p (u .result)) (c .before .measured-of .ensures) (u .ensures .0)),
+          (subst (λ (p : Measured). Measures (placeLists t (toZ w16 (ofZ w16 x)) (toZ w16 (ofZ w16 y)) (toZ w8 (ofZ w8 z))) p (u .result)) (c .before .measured-of .ensures) (u .ensures .over)),
     )
 
 returns : tie.Need-returns Inv-loop μ-loop
@@ -58,7 +58,7 @@ returns c =
     let a = c .before .before .before .args in
     let l = c .before .before .loop in
     let e : l .i ≡ a .to = omega (arith, l .inv .1) in
-    (rw (c .measured-of2 .ensures, sym e) (l .inv .3), rw (c .measured-of2 .ensures, sym e) (l .inv .2))
+    record { over = rw (c .measured-of2 .ensures, sym e) (l .inv .3); bound = rw (c .measured-of2 .ensures, sym e) (l .inv .2) }
 
 pub measure-band-spec : {M : Type 1} → statement M
 measure-band-spec = tie.close (tie.spec Inv-loop μ-loop loop-holds (λ c. search needs) (λ c. search needs) (λ c. search needs) (λ c. search needs) (λ c. search needs) (λ c κs. search needs) measure-place-requires (λ c. search needs) (λ c. search needs) loop-again (λ c κs. search needs) returns)

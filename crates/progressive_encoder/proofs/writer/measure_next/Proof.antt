@@ -10,10 +10,11 @@ use Rattle.progressive_encoder.proofs.writer.measure_next.Tie as tie
 returns : tie.Need-returns
 returns c =
     let k = c .before .before in
-    let a = k .args in (
-      band-skip Measures measures-placewise (a .coefficients .now) (a .prev-coefficients .now) (a .sign .now) (bandStep (a .t)) (a .from) (a .to) (k .pre .0) (c .if1 .taken) (a .start),
-      measurable-on (a .start) (a .from) (a .to) (k .pre .0 .begins) (k .pre .2),
-    )
+    let a = k .args in
+    record {
+      over = band-skip Measures measures-placewise (a .coefficients .now) (a .prev-coefficients .now) (a .sign .now) (bandStep (a .t)) (a .from) (a .to) (k .pre .0) (c .if1 .taken) (a .start);
+      bound = measurable-on (a .start) (a .from) (a .to) (k .pre .0 .begins) (k .pre .2);
+    }
 
 pub measure-next-spec : {M : Type 1} → statement M
 measure-next-spec = tie.close (tie.spec returns (λ c κs. search needs) (λ c. search needs))

@@ -12,7 +12,7 @@ use Rattle.srl_encoder.specs.declared.encoder.Measured.{Measured}
 use Rattle.srl_encoder.specs.Inner.{valueMeasure}
 use Rattle.progressive_encoder.specs.Encode.{srlDifference}
 use Rattle.upgrade_steps.specs.Inner.{bandStep, fromSrl}
-use Rattle.progressive_encoder.specs.Inner.{placeLists, Measures, Measurable}
+use Rattle.progressive_encoder.specs.Inner.{placeLists, WentOver, Measures, Measurable}
 use Rattle.progressive_encoder.proofs.WrittenValues.{measures-srl, measures-raw, measured-zero, measurable-value, measurable-on}
 use borrow.Author.Needs.{needs}
 use Rattle.progressive_encoder.proofs.writer.measure_place.Statement.{statement}
@@ -31,20 +31,22 @@ alike-is c e =
 
 -- a value, measured
 value : (k : tie.Start) → fromSrl (bandStep (k .args .t)) (k .args .s) ≡ true → (r : Measured) → r ≡ valueMeasure (k .args .t .width) (k .args .start) (srlDifference (k .args .t .position) (k .args .c) (k .args .p))
-    → Measures (placeLists (bandStep (k .args .t)) (k .args .c) (k .args .p) (k .args .s)) (k .args .start) r × Measurable r (k .args .i + 1)
+    → WentOver Measures Measurable (placeLists (bandStep (k .args .t)) (k .args .c) (k .args .p) (k .args .s)) (k .args .i + 1) (k .args .start) r
 value k f r e =
-    let a = k .args in (
-      measures-srl (bandStep (a .t)) (a .c) (a .p) (a .s) (k .pre .0 .0) f (a .start) r e,
-      measurable-value (a .t .width) (a .i) (a .start) r (a .t .position) (a .c) (a .p) e (k .pre .1),
-    )
+    let a = k .args in
+    record {
+      over = measures-srl (bandStep (a .t)) (a .c) (a .p) (a .s) (k .pre .0 .0) f (a .start) r e;
+      bound = measurable-value (a .t .width) (a .i) (a .start) r (a .t .position) (a .c) (a .p) e (k .pre .1);
+    }
 
 returns : tie.Need-returns
 returns c =
     let k = c .before .before in
-    let a = k .args in (
-      measures-raw (bandStep (a .t)) (a .c) (a .p) (a .s) (k .pre .0 .0) (srl-is (c .before) ∙ not-true _ (c .if1 .taken)) (a .start),
-      measurable-on (a .start) (a .i) _ (omega arith) (k .pre .1),
-    )
+    let a = k .args in
+    record {
+      over = measures-raw (bandStep (a .t)) (a .c) (a .p) (a .s) (k .pre .0 .0) (srl-is (c .before) ∙ not-true _ (c .if1 .taken)) (a .start);
+      bound = measurable-on (a .start) (a .i) _ (omega arith) (k .pre .1);
+    }
 
 add-measured-of : tie.Need-add-measured-of
 add-measured-of c = omega (arith, c .before .before .before .before .before .pre .1 .few, c .before .before .before .before .before .pre .2)

@@ -97,7 +97,7 @@ returns c =
     let a = k .args in
     let l = c .before .loop in
     let e : l .i ≡ a .to = omega (arith, l .inv .1) in
-    (rw (sym e) (l .inv .4), omega (arith, l .inv .2), omega (arith, l .inv .3))
+    record { counts = rw (sym e) (l .inv .4); few = omega (arith, l .inv .2); small = omega (arith, l .inv .3) }
 
 pub survey-band-spec : {M : Type 1} → statement M
 survey-band-spec = tie.close (tie.spec Inv-loop μ-loop loop-holds (λ c. search needs) (λ c. search needs) (λ c. search needs) (λ c. search needs) (λ c κs. search needs) (λ c. search needs) (λ c κs. search needs) (λ c κs. search needs) (λ c κs. search needs) (λ c κs. search needs) add-count (λ c. search needs) add-sum (λ c κs. search needs) (λ c. search needs) (λ c. search needs) loop-again returns)

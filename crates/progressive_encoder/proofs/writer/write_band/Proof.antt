@@ -51,11 +51,11 @@ loop-again c =
       omega (arith, c .before .before .before .before .before .before .before .before .before .before .before .before .before .before .loop-test .taken),
       u .kept .1 .1 .1 .1 .1 .1 .0 ∙ l .inv .2,
       u .kept .1 .1 .1 .1 .1 .1 .1 .0 ∙ l .inv .3,
-      u .ensures .1,
+      u .ensures .bound,
       place-next Stores stores-placewise (a .coefficients .now) (a .prev-coefficients .now) (a .sign .now) t (a .from) (l .i) (a .to) (k .pre .0) (l .inv .0) (c .before .before .before .before .before .before .before .before .before .before .before .before .before .before .loop-test .taken)
           (outputs (a .srl-out .now) (a .raw-out .now) (a .start)) (outputs (l .srl-out) (l .raw-out) (sinksOf (l .at) (l .current) (l .n) (l .kp) (l .zeros) (l .raw-at) (l .raw-current) (l .raw-n))) then (l .inv .5)
           (toZ-ofZ w16 x (record { sfits = c .before .before .before .before .before .before .before .before .before .before .before .before .c .given })) (toZ-ofZ w16 y (record { sfits = c .before .before .before .before .before .before .before .before .before .before .before .p .given })) (toZ-ofZ w8 z (record { sfits = c .before .before .before .before .before .before .before .before .before .before .s .given }))
-          (subst (λ (s : Sinks). Stores (placeLists t (toZ w16 (ofZ w16 x)) (toZ w16 (ofZ w16 y)) (toZ w8 (ofZ w8 z))) (outputs (l .srl-out) (l .raw-out) s) then) (c .before .before .before .before .before .before .before .before .before .before .before .before .before .sinks-of .ensures) (u .ensures .0)),
+          (subst (λ (s : Sinks). Stores (placeLists t (toZ w16 (ofZ w16 x)) (toZ w16 (ofZ w16 y)) (toZ w8 (ofZ w8 z))) (outputs (l .srl-out) (l .raw-out) s) then) (c .before .before .before .before .before .before .before .before .before .before .before .before .before .sinks-of .ensures) (u .ensures .over)),
     )
 
 add-i : tie.Need-add-i Inv-loop μ-loop
@@ -72,7 +72,7 @@ returns c =
     let a = c .before .before .before .before .before .before .before .before .args in
     let l = c .before .before .loop in
     let e : l .i ≡ a .to = omega (arith, l .inv .1) in
-    (rw (c .sinks-of2 .ensures, sym e) (l .inv .5), rw (c .sinks-of2 .ensures, sym e) (l .inv .4))
+    record { over = rw (c .sinks-of2 .ensures, sym e) (l .inv .5); bound = rw (c .sinks-of2 .ensures, sym e) (l .inv .4) }
 
 pub write-band-spec : {M : Type 1} → statement M
 write-band-spec = tie.close (tie.spec Inv-loop μ-loop loop-holds (λ c κs. search needs) (λ c. search needs) (λ c. search needs) (λ c. search needs) (λ c. search needs) (λ c. search needs) write-place-requires add-i (λ c. search needs) loop-again (λ c κs. search needs) same-length same-length-2 returns)

@@ -23,15 +23,15 @@ given k = passLists (steps (k .args .use-reduce-extrapolate) (k .args .prev) (k 
 -- few values, one of which may be too large, and so many raw bytes
 few : (c : tie.After-survey-bands) → length (given (c .before .before .before) .values) ≤ 4096
 unfolding given
-few c = omega (arith, c .survey-bands .ensures .0 .count, c .survey-bands .ensures .1 .count)
+few c = omega (arith, c .survey-bands .ensures .over .count, c .survey-bands .ensures .bound .count)
 
 bad : (c : tie.After-survey-bands) → c .survey-bands .result .bad ≡ anyTooLarge (given (c .before .before .before) .widths) (given (c .before .before .before) .values)
 unfolding given
-bad c = survey-bad (given (c .before .before .before)) (c .survey-bands .result) (c .survey-bands .ensures .0)
+bad c = survey-bad (given (c .before .before .before)) (c .survey-bands .result) (c .survey-bands .ensures .over)
 
 bytes : (c : tie.After-survey-bands) → (c .survey-bands .result .«raw_bits» + 7) / 8 ≡ length (rawStream (given (c .before .before .before) .numberWidths) (given (c .before .before .before) .numbers))
 unfolding given
-bytes c = survey-bytes (given (c .before .before .before)) (c .survey-bands .result) (c .survey-bands .ensures .0)
+bytes c = survey-bytes (given (c .before .before .before)) (c .survey-bands .result) (c .survey-bands .ensures .over)
 
 returns : tie.Need-returns
 unfolding given
@@ -75,12 +75,9 @@ unfolding given
 returns-4 c =
     let k = c .before .before .before .before .before .before .before .before .before .before .before .before .before .before .before in
     let a = k .args in
-    let w = c .before .before .before .before .write-streams .ensures in
     let e = sym (c .before .before .before .before .before .before .before .if3 .left) ∙ c .before .before .before .before .before .before .before .before .srl-exceeds .ensures in
-    let r = accepted (given k) (a .srl-out .now) (a .raw-out .now)
-    (refusal-is (given k) (a .srl-out .now) (a .raw-out .now) (few (c .before .before .before .before .before .before .before .before .before .before .before .before)) (sym (c .before .before .before .before .before .before .before .before .before .before .before .if1 .left) ∙ bad (c .before .before .before .before .before .before .before .before .before .before .before .before)) e (sym (le-ltb _ _ (room (c .before .before .before .before .before .before .before .before .before)))))
-    (ltb-false _ _ (sym e)) (room (c .before .before .before .before .before .before .before .before .before)) refl refl (w .1) (w .2) in
-    (w .0 ∙ r .0, r .1, r .2)
+    let none = refusal-is (given k) (a .srl-out .now) (a .raw-out .now) (few (c .before .before .before .before .before .before .before .before .before .before .before .before)) (sym (c .before .before .before .before .before .before .before .before .before .before .before .if1 .left) ∙ bad (c .before .before .before .before .before .before .before .before .before .before .before .before)) e (sym (le-ltb _ _ (room (c .before .before .before .before .before .before .before .before .before)))) in
+    accepted (given k) (a .srl-out .now) (a .raw-out .now) none (ltb-false _ _ (sym e)) (room (c .before .before .before .before .before .before .before .before .before)) (c .before .before .before .before .write-streams .ensures)
 
 pub write-pass-spec : {M : Type 1} → statement M
 write-pass-spec = tie.close (tie.spec (λ c κs. search needs) returns (λ c. search needs) returns-2 (λ c κs. search needs) returns-3 (λ c κs. search needs) (λ c. search needs) (λ c. search needs) returns-4)
