@@ -223,7 +223,7 @@ fn measure_place(
     srl_encoder::encoder::measure_value(start, v, t.width)
 }
 
-// All places of a band that is not skipped. The loop keeps the parts of what is measured, as the reader's `upgrade_band` does.
+// One band more: of width 0 it is skipped. The loop keeps the parts of what is measured, as the reader's `upgrade_band` does.
 fn measure_band(
     coefficients: &[i16],
     prev_coefficients: &[i16],
@@ -233,11 +233,14 @@ fn measure_band(
     to: usize,
     start: srl_encoder::encoder::Measured,
 ) -> srl_encoder::encoder::Measured
-    requires { ⌜ Lent (now coefficients) (now «prev_coefficients») (now sign) from to × Width (t .width) × Measurable start from ⌝ }
+    requires { ⌜ Lent (now coefficients) (now «prev_coefficients») (now sign) from to × (t .width ≤ 15) × Measurable start from ⌝ }
     ensures { λ r. ⌜ WentOver Measures Measurable
         (bandLists (bandStep t) from to (now (coefficients .entry)) (now («prev_coefficients» .entry)) (now (sign .entry)))
         to start r ⌝ }
 {
+    if t.width == 0 {
+        return start;
+    }
     let mut at = start.at;
     let mut bit_count = start.bit_count;
     let mut kp = start.kp;
@@ -255,27 +258,6 @@ fn measure_band(
         i += 1;
     }
     measured_of(at, bit_count, kp, zeros)
-}
-
-// One band more: of width 0 it is skipped.
-fn measure_next(
-    coefficients: &[i16],
-    prev_coefficients: &[i16],
-    sign: &[i8],
-    t: upgrade_steps::BandStep,
-    from: usize,
-    to: usize,
-    start: srl_encoder::encoder::Measured,
-) -> srl_encoder::encoder::Measured
-    requires { ⌜ Lent (now coefficients) (now «prev_coefficients») (now sign) from to × (t .width ≤ 15) × Measurable start from ⌝ }
-    ensures { λ r. ⌜ WentOver Measures Measurable
-        (bandLists (bandStep t) from to (now (coefficients .entry)) (now («prev_coefficients» .entry)) (now (sign .entry)))
-        to start r ⌝ }
-{
-    if t.width == 0 {
-        return start;
-    }
-    measure_band(coefficients, prev_coefficients, sign, t, from, to, start)
 }
 
 // The ten bands.
@@ -299,7 +281,7 @@ fn measure_bands(
         let place = upgrade_steps::span::band_span(use_reduce_extrapolate, b);
         let from = place.from;
         let to = place.to;
-        cur = measure_next(coefficients, prev_coefficients, sign, t, from, to, cur);
+        cur = measure_band(coefficients, prev_coefficients, sign, t, from, to, cur);
         b += 1;
     }
     cur
@@ -447,7 +429,7 @@ fn write_place(
     }
 }
 
-// All places of a band that is not skipped. The loop keeps the writers' parts, as the reader's `upgrade_band` does.
+// One band more: of width 0 it is skipped. The loop keeps the writers' parts, as the reader's `upgrade_band` does.
 fn write_band(
     coefficients: &[i16],
     prev_coefficients: &[i16],
@@ -459,13 +441,16 @@ fn write_band(
     srl_out: &mut [u8],
     raw_out: &mut [u8],
 ) -> Sinks
-    requires { ⌜ Lent (now coefficients) (now «prev_coefficients») (now sign) from to × Width (t .width) × (t .position ≤ 15) × Writable start from ⌝ }
+    requires { ⌜ Lent (now coefficients) (now «prev_coefficients») (now sign) from to × (t .width ≤ 15) × (t .position ≤ 15) × Writable start from ⌝ }
     ensures { λ r. ⌜ WentOver Stores Ready
         (bandLists (bandStep t) from to (now (coefficients .entry)) (now («prev_coefficients» .entry)) (now (sign .entry)))
         to
         (outputs (now («srl_out» .entry)) (now («raw_out» .entry)) start)
         (outputs (now («srl_out» .exit)) (now («raw_out» .exit)) r) ⌝ }
 {
+    if t.width == 0 {
+        return start;
+    }
     let a = start.srl;
     let k = a.sink;
     let r = start.raw;
@@ -500,41 +485,6 @@ fn write_band(
     sinks_of(at, current, n, kp, zeros, raw_at, raw_current, raw_n)
 }
 
-// One band more: of width 0 it is skipped.
-fn write_next(
-    coefficients: &[i16],
-    prev_coefficients: &[i16],
-    sign: &[i8],
-    t: upgrade_steps::BandStep,
-    from: usize,
-    to: usize,
-    start: Sinks,
-    srl_out: &mut [u8],
-    raw_out: &mut [u8],
-) -> Sinks
-    requires { ⌜ Lent (now coefficients) (now «prev_coefficients») (now sign) from to × (t .width ≤ 15) × (t .position ≤ 15) × Writable start from ⌝ }
-    ensures { λ r. ⌜ WentOver Stores Ready
-        (bandLists (bandStep t) from to (now (coefficients .entry)) (now («prev_coefficients» .entry)) (now (sign .entry)))
-        to
-        (outputs (now («srl_out» .entry)) (now («raw_out» .entry)) start)
-        (outputs (now («srl_out» .exit)) (now («raw_out» .exit)) r) ⌝ }
-{
-    if t.width == 0 {
-        return start;
-    }
-    write_band(
-        coefficients,
-        prev_coefficients,
-        sign,
-        t,
-        from,
-        to,
-        start,
-        srl_out,
-        raw_out,
-    )
-}
-
 // The ten bands.
 fn write_bands(
     coefficients: &[i16],
@@ -560,7 +510,7 @@ fn write_bands(
         let place = upgrade_steps::span::band_span(use_reduce_extrapolate, b);
         let from = place.from;
         let to = place.to;
-        cur = write_next(
+        cur = write_band(
             coefficients,
             prev_coefficients,
             sign,

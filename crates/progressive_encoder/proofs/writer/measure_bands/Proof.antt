@@ -28,8 +28,8 @@ loop-holds c =
 next : (c : tie.After-band-span Inv-loop μ-loop) → Next (c .before .before .before .before .before .args .use-reduce-extrapolate) (c .before .before .before .before .before .args .t3) (c .before .before .before .before .before .args .t4) (c .before .before .before .loop .b) (c .band-span .result .from) (c .band-span .result .to) (bandStep (c .before .band-step .result))
 next c = record { lies = record { number = c .before .before .loop-test .taken; begins = c .band-span .ensures .0; ends = c .band-span .ensures .1 }; step = c .before .band-step .ensures }
 
-measure-next-requires : tie.Need-measure-next-requires Inv-loop μ-loop
-measure-next-requires c κs =
+measure-band-requires : tie.Need-measure-band-requires Inv-loop μ-loop
+measure-band-requires c κs =
     let k = c .before .before .before .before .before in
     let a = k .args in
     let l = c .before .before .before .loop in
@@ -44,7 +44,7 @@ loop-again c =
     let k = c .before .before .before .before .before .before in
     let a = k .args in
     let l = c .before .before .before .before .loop in
-    let u = c .measure-next in
+    let u = c .measure-band in
     (omega arith, bands-next Measures measures-placewise Measurable (a .coefficients .now) (a .prev-coefficients .now) (a .sign .now) (a .use-reduce-extrapolate) (a .t3) (a .t4) (l .b) _ _ _ (measuredOf 0 0 8 0) (l .cur) (u .result) (next (c .before)) (k .pre .1) (l .inv .1) (u .ensures))
 
 returns : tie.Need-returns Inv-loop μ-loop
@@ -54,4 +54,4 @@ returns c =
     bands-all Measures measures-placewise Measurable (a .coefficients .now) (a .prev-coefficients .now) (a .sign .now) (a .use-reduce-extrapolate) (a .t3) (a .t4) (l .b) (measuredOf 0 0 8 0) (l .cur) (omega (arith, l .inv .0)) (l .inv .1)
 
 pub measure-bands-spec : {M : Type 1} → statement M
-measure-bands-spec = tie.close (tie.spec Inv-loop μ-loop (λ c κs. search needs) loop-holds (λ c. search needs) (λ c. search needs) (λ c κs. search needs) (λ c κs. search needs) measure-next-requires (λ c. search needs) (λ c. search needs) loop-again returns)
+measure-bands-spec = tie.close (tie.spec Inv-loop μ-loop (λ c κs. search needs) loop-holds (λ c. search needs) (λ c. search needs) (λ c κs. search needs) (λ c κs. search needs) measure-band-requires (λ c. search needs) (λ c. search needs) loop-again returns)

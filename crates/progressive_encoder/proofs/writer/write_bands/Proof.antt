@@ -34,8 +34,8 @@ loop-holds c =
 next : (c : tie.After-band-span Inv-loop μ-loop) → Next (c .before .before .before .before .before .before .before .args .use-reduce-extrapolate) (c .before .before .before .before .before .before .before .args .t3) (c .before .before .before .before .before .before .before .args .t4) (c .before .before .before .loop .b) (c .band-span .result .from) (c .band-span .result .to) (bandStep (c .before .band-step .result))
 next c = record { lies = record { number = c .before .before .loop-test .taken; begins = c .band-span .ensures .0; ends = c .band-span .ensures .1 }; step = c .before .band-step .ensures }
 
-write-next-requires : tie.Need-write-next-requires Inv-loop μ-loop
-write-next-requires c κs =
+write-band-requires : tie.Need-write-band-requires Inv-loop μ-loop
+write-band-requires c κs =
     let k = c .before .before .before .before .before .before .before .before .before in
     let a = k .args in
     let l = c .before .before .before .before .before .loop in
@@ -51,7 +51,7 @@ loop-again c =
     let k = c .before .before .before .before .before .before .before .before .before .before .before .before .before .before in
     let a = k .args in
     let l = c .before .before .before .before .before .before .before .before .before .before .loop in
-    let u = c .before .before .before .before .write-next in
+    let u = c .before .before .before .before .write-band in
     let o = u .last .1 .1 .1 .1 .1 .1 .1 in (
       omega (arith, c .before .before .before .before .before .before .before .before .before .loop-test .taken),
       u .kept .1 .1 .1 .1 .1 .1 .1 .0 ∙ l .inv .1,
@@ -73,4 +73,4 @@ returns c =
     bands-all Stores stores-placewise Ready (a .coefficients .now) (a .prev-coefficients .now) (a .sign .now) (a .use-reduce-extrapolate) (a .t3) (a .t4) (l .b) (outputs (a .srl-out .now) (a .raw-out .now) freshSinks) (outputs (l .srl-out) (l .raw-out) (l .cur)) (omega (arith, l .inv .0)) (l .inv .3)
 
 pub write-bands-spec : {M : Type 1} → statement M
-write-bands-spec = tie.close (tie.spec Inv-loop μ-loop (λ c κs. search needs) loop-holds (λ c. search needs) (λ c. search needs) (λ c κs. search needs) (λ c κs. search needs) write-next-requires (λ c. search needs) (λ c. search needs) loop-again same-length same-length-2 returns)
+write-bands-spec = tie.close (tie.spec Inv-loop μ-loop (λ c κs. search needs) loop-holds (λ c. search needs) (λ c. search needs) (λ c κs. search needs) (λ c κs. search needs) write-band-requires (λ c. search needs) (λ c. search needs) loop-again same-length same-length-2 returns)
