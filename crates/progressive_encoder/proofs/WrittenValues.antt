@@ -11,6 +11,9 @@ use lib.Dec.{ltb}
 use lib.IntN.{ℤ, pos, negsuc, natAbs, _-ℤ_, +ℤ-invr}
 use lib.ListN.{length, set, length-append}
 use lib.Seq.{sets}
+use mir.Val.{SFits, toZ, ofZ}
+use mir.Syntax.{w8, w16}
+use mir.ValLaws.{toZ-ofZ}
 use Rattle.fixed.specs.Fixed.{clampI16, floorShift}
 use Rattle.answer.specs.Refusals.{firstOf}
 use Rattle.bits.specs.Written.{bitsOf, bitsOfAll, after, pack}
@@ -163,6 +166,16 @@ stream-length l m h n =
     let at = ap (λ p. p .at) e in
     let rest = ap (λ p. p .«bit_count») e in
     omega (arith, some-length (l .widths) (l .values) n, at, rest)
+
+-- ════ a place's numbers, read in the code ════
+
+-- the difference of two coefficients that were read is that of the coefficients
+pub read-difference : (q : ℕ) (c p : ℤ) → SFits w16 c → SFits w16 p → srlDifference q (toZ w16 (ofZ w16 c)) (toZ w16 (ofZ w16 p)) ≡ srlDifference q c p
+read-difference q c p f g = λ i. srlDifference q (toZ-ofZ w16 c f i) (toZ-ofZ w16 p g i)
+
+-- and a sign that was read says which stream its place goes to
+pub read-source : (t : Step) (s : ℤ) → SFits w8 s → fromSrl t (toZ w8 (ofZ w8 s)) ≡ fromSrl t s
+read-source t s f = ap (fromSrl t) (toZ-ofZ w8 s f)
 
 -- ════ value by value ════
 

@@ -6,7 +6,7 @@ use Prim.Native.Nat.{ℕ, _+_}
 use native.Mathlib.Omega.{arith}
 use lib.IntN.{ℤ, pos}
 use borrow.Author.Tests.{not-true, not-false}
-use mir.Syntax.{w8, w16}
+use mir.Syntax.{w16}
 use mir.ValLaws.{toZ-ofZ}
 use Rattle.bits.specs.Written.{bitsOf, after}
 use Rattle.bits.specs.Inner.{write}
@@ -16,21 +16,21 @@ use Rattle.srl_encoder.specs.declared.encoder.CallState.{CallState}
 use Rattle.progressive_encoder.specs.Encode.{srlDifference, rawDifference}
 use Rattle.upgrade_steps.specs.Inner.{bandStep, fromSrl}
 use Rattle.progressive_encoder.specs.Inner.{placeLists, WentOver, outputs, Stores, Ready}
-use Rattle.progressive_encoder.proofs.WrittenValues.{stores-srl, stores-raw, writable-value, writable-number}
+use Rattle.progressive_encoder.proofs.WrittenValues.{read-difference, read-source, stores-srl, stores-raw, writable-value, writable-number}
 use borrow.Author.Needs.{needs}
 use Rattle.progressive_encoder.proofs.writer.write_place.Statement.{statement}
 use Rattle.progressive_encoder.proofs.writer.write_place.Tie as tie
 
 -- where the place's value comes from
 srl-is : (c : tie.After-from-srl) → fromSrl (bandStep (c .before .before .before .before .before .args .t)) (c .before .before .before .before .before .args .s) ≡ c .from-srl .result
-srl-is c = sym (c .from-srl .ensures ∙ ap (fromSrl (bandStep (c .before .before .before .before .before .args .t))) (toZ-ofZ w8 (c .before .before .before .before .before .args .s) (c .before .before .before .before .before .fits .s)))
+srl-is c = sym (c .from-srl .ensures ∙ read-source (bandStep (c .before .before .before .before .before .args .t)) (c .before .before .before .before .before .args .s) (c .before .before .before .before .before .fits .s))
 
 -- that the value is 0
 alike-is : (c : tie.After-alike) → c .alike .result ≡ true → srlDifference (c .before .before .before .before .before .before .before .args .t .position) (c .before .before .before .before .before .before .before .args .c) (c .before .before .before .before .before .before .before .args .p) ≡ pos 0
 alike-is c e =
     let k = c .before .before .before .before .before .before .before in
     let a = k .args in
-    (λ i. srlDifference (a .t .position) (sym (toZ-ofZ w16 (a .c) (k .fits .c)) i) (sym (toZ-ofZ w16 (a .p) (k .fits .p)) i)) ∙ c .alike .ensures e
+    sym (read-difference (a .t .position) (a .c) (a .p) (k .fits .c) (k .fits .p)) ∙ c .alike .ensures e
 
 -- a value v, stored: y and o are the writer and the output then
 value : (k : tie.Start) → fromSrl (bandStep (k .args .t)) (k .args .s) ≡ true → (v : ℤ) → v ≡ srlDifference (k .args .t .position) (k .args .c) (k .args .p) → (y : CallState) (o : List ℕ)
@@ -87,8 +87,7 @@ returns-3 c =
     let a = k .args in
     let d = c .before .before .before .before .srl-difference in
     let r = c .before .before .put-value in
-    let q = a .t .position in
-    value k (srl-is (c .before .before .before .before .before .before .before .before) ∙ not-false _ (c .before .before .before .before .before .before .before .if1 .left)) _ (got w16 (d .ok) (d .ensures ∙ (λ i. srlDifference q (toZ-ofZ w16 (a .c) (k .fits .c) i) (toZ-ofZ w16 (a .p) (k .fits .p) i)))) (r .result) (r .last .0) (r .ensures .0) (r .ensures .1)
+    value k (srl-is (c .before .before .before .before .before .before .before .before) ∙ not-false _ (c .before .before .before .before .before .before .before .if1 .left)) _ (got w16 (d .ok) (d .ensures ∙ read-difference (a .t .position) (a .c) (a .p) (k .fits .c) (k .fits .p))) (r .result) (r .last .0) (r .ensures .0) (r .ensures .1)
 
 pub write-place-spec : {M : Type 1} → statement M
 write-place-spec = tie.close (tie.spec (λ c κs. search needs) (λ c κs. search needs) (λ c. search needs) put-bits-requires (λ c. search needs) returns (λ c κs. search needs) add-t21 returns-2 (λ c κs. search needs) put-value-requires (λ c. search needs) returns-3)
