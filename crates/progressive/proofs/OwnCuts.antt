@@ -190,5 +190,6 @@ calls-sent cs ps ss prev curr e srlOut rawOut o =
     (passFault ts cs ps ss)
     (all-sent ts cs ps ss (omega (arith, place-whole e (stepOf prev curr))) o .srl-fits)
 
+-- the law, in both its parts
 pub own-cuts-sent : OwnCutsSent
 own-cuts-sent = record { sent = all-sent; never-5 = calls-sent }

@@ -23,6 +23,7 @@ use Rattle.upgrade_steps.proofs.Sources.{source-srl, source-raw, source-none}
 
 -- ════ one place ════
 
+-- what no place gives
 abbrev pub noLists : Lists
 noLists = lists [] [] [] []
 
@@ -51,9 +52,11 @@ alone : (t : Step) (c p s : ℤ) → placeLists t c p s ≡ given (source t s) t
 unfolding srlDifferences srlWidths rawDifferences rawWidths
 alone t c p s = refl
 
+-- with an SRL value: that value, at the width of the band
 pub place-srl : (t : Step) (c p s : ℤ) → 1 ≤ t .width → fromSrl t s ≡ true → placeLists t c p s ≡ lists (srlDifference (t .position) c p ∷ []) (t .width ∷ []) [] []
 place-srl t c p s h e = alone t c p s ∙ ap (λ (x : Source). given x t c p noLists) (source-srl t s h e)
 
+-- with raw bits: that number, at the width of the band
 pub place-raw : (t : Step) (c p s : ℤ) → 1 ≤ t .width → fromSrl t s ≡ false → placeLists t c p s ≡ lists [] [] (rawDifference (t .position) c p ∷ []) (t .width ∷ [])
 place-raw t c p s h e = alone t c p s ∙ ap (λ (x : Source). given x t c p noLists) (source-raw t s h e)
 
@@ -144,9 +147,11 @@ low row b e = by (ltb b (length row)) refl
     by true q = low-position row b e (ltb-true b (length row) q)
     by false q = rw (List·getD-eq-default row 0 (ltb-false b (length row) q)) (omega arith)
 
+-- so the next band has a width of at most 15
 pub narrow : {e : Bool} {prev curr : List ℕ} {b from to : ℕ} {t : Step} → Next e prev curr b from to t → rowInDomain prev ≡ true → t .width ≤ 15
 narrow {prev = prev} {b = b} p h = omega (arith, ap (λ (u : Step). u .width) (p .step), low prev b h)
 
+-- and a position of at most 15
 pub low-step : {e : Bool} {prev curr : List ℕ} {b from to : ℕ} {t : Step} → Next e prev curr b from to t → rowInDomain curr ≡ true → t .position ≤ 15
 low-step {curr = curr} {b = b} p h = omega (arith, ap (λ (u : Step). u .position) (p .step), low curr b h)
 

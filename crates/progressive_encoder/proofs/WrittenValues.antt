@@ -94,6 +94,7 @@ stream-some : (ws : List ℕ) (vs : List ℤ) → (length vs ≡ 0 → ⊥) → 
 stream-some ws [] h = absurd (h refl)
 stream-some ws (v ∷ vs) h = refl
 
+-- where there is none, no byte
 pub stream-none : (ws : List ℕ) (vs : List ℤ) → length vs ≡ 0 → srlStream ws vs ≡ []
 stream-none ws [] h = refl
 stream-none ws (v ∷ vs) h = absurd (omega arith)
@@ -199,6 +200,7 @@ value-write w out c v ws us =
 
 -- ════ measuring, place by place ════
 
+-- what is measured of some places and then of others is measured of both
 pub measures-placewise : Placewise Measures
 measures-placewise = record {
   none = λ p. record { count = λ ws us. refl };
@@ -206,12 +208,14 @@ measures-placewise = record {
 }
 
 module _ (t : Step) (c p s : ℤ) (h : 1 ≤ t .width) where
+  -- a place with an SRL value: y is the measure after that value
   pub measures-srl : fromSrl t s ≡ true → (x y : Measured) → y ≡ valueMeasure (t .width) x (srlDifference (t .position) c p) → Measures (placeLists t c p s) x y
   measures-srl q x y e =
       let v = srlDifference (t .position) c p in
       subst (λ (l : Lists). Measures l x y) (sym (place-srl t c p s h q))
       (record { count = λ ws us. value-counted (t .width) x v ws us ∙ ap (λ m. endCount m ws us) (sym e) })
 
+  -- a place with raw bits has nothing to measure
   pub measures-raw : fromSrl t s ≡ false → (x : Measured) → Measures (placeLists t c p s) x x
   measures-raw q x = subst (λ (l : Lists). Measures l x x) (sym (place-raw t c p s h q)) (record { count = λ ws us. refl })
 
@@ -230,11 +234,13 @@ measurable-value w i x y q c p e m =
       few = omega (arith, m .few, value-zeros (x .zeros) v);
     })
 
+-- what can go on after some places can go on after more
 pub measurable-on : (p : Measured) (i j : ℕ) → i ≤ j → Measurable p i → Measurable p j
 measurable-on p i j h m = record { good = m .good; early = omega (arith, m .early); few = omega (arith, m .few) }
 
 -- ════ storing, place by place ════
 
+-- what is stored of some places and then of others is stored of both
 pub stores-placewise : Placewise Stores
 stores-placewise = record {
   none = λ x. record { srl-after = λ ws us. refl; srl-write = λ ws us. refl; raw-after = λ ns ms. refl; raw-write = λ ns ms. refl };
@@ -287,6 +293,7 @@ writable-value w i x y k q c p e m =
       raw-early = omega (arith, m .raw-early);
     })
 
+-- after a number too: l is the raw writer then
 pub writable-number : (w n i : ℕ) (x : CallState) (k l : BitWriter) → w ≤ 15 → l ≡ after k (bitsOf w n) → Writable (record { srl = x; raw = k }) i → Writable (record { srl = x; raw = l }) (i + 1)
 writable-number w n i x k l h e m = record {
   good = m .good;
@@ -295,5 +302,6 @@ writable-number w n i x k l h e m = record {
   raw-early = omega (arith, m .raw-early, wrote-at k (bitsOf w n) e, length-bitsOf w n);
 }
 
+-- writers that can go on after some places can go on after more
 pub writable-on : (k : Sinks) (i j : ℕ) → i ≤ j → Writable k i → Writable k j
 writable-on k i j h m = record { good = m .good; early = omega (arith, m .early); sound = m .sound; raw-early = omega (arith, m .raw-early) }
