@@ -15,10 +15,9 @@ use Rattle.fixed.specs.Fixed.{clampI16, floorShift, isZero, signOf}
 use Rattle.fixed.proofs.Sign.{abs-minus, zero-is}
 use Rattle.bands.specs.Positions.{rowInDomain}
 use Rattle.bands.proofs.Spread.{place-whole}
-use Rattle.srl_encoder.specs.Encode.{firstOf}
 use Rattle.srl.specs.Laws.{Legal, legal}
 use Rattle.upgrade_steps.specs.Steps.{Step, Source, skipped, srl, raw, source, sourceOf, steps, stepOf, srlWidth, srlWidths, rawWidth, rawWidths}
-use Rattle.answer.specs.Refusals.{longEnough}
+use Rattle.answer.specs.Refusals.{sliceTooShort, outOfDomain, magnitudeOutOfRange, outputTooShort, unless, firstOf, longEnough}
 use Rattle.progressive_encoder.specs.Encode.{srlDifference, rawDifference, srlGiven, srlDifferences, rawGiven, rawDifferences, srlBytes, rawBytes, passFault, encodePassRefusal}
 use Rattle.progressive_encoder.specs.Inner.{anyTooLarge}
 use Rattle.progressive_encoder.proofs.WrittenValues.{fault-by-size}
@@ -172,22 +171,25 @@ all-sent ts cs ps ss h o =
     }
 
 -- without a fault, what is refused is refused by 1, 2 or 7
-no-5 : (a b d : Bool) (f : ℕ) → f ≡ 0 → cond a (cond b (firstOf f (cond d 7 0)) 2) 1 ≢ 5
-no-5 a b d (suc f) h e = absurd (omega (arith, h))
-no-5 false b d zero h e = absurd (omega (arith, e))
-no-5 true false d zero h e = absurd (omega (arith, e))
-no-5 true true true zero h e = absurd (omega (arith, e))
-no-5 true true false zero h e = absurd (omega (arith, e))
+no-5 : (a b c d : Bool) (f : ℕ) → f ≡ 0
+    → firstOf (unless a sliceTooShort) (firstOf (unless b outOfDomain) (firstOf f (firstOf (cond c outputTooShort 0) (cond d outputTooShort 0)))) ≢ magnitudeOutOfRange
+no-5 a b c d (suc f) h e = absurd (omega (arith, h))
+no-5 false b c d zero h e = absurd (omega (arith, e))
+no-5 true false c d zero h e = absurd (omega (arith, e))
+no-5 true true true d zero h e = absurd (omega (arith, e))
+no-5 true true false true zero h e = absurd (omega (arith, e))
+no-5 true true false false zero h e = absurd (omega (arith, e))
 
 -- of a call
 calls-sent : (cs ps ss : List ℤ) (prev curr : List ℕ) (e : Bool) (srlOut rawOut : List ℕ)
-    → OwnCuts (steps e prev curr) cs ps ss → encodePassRefusal cs ps prev curr ss e srlOut rawOut ≢ 5
+    → OwnCuts (steps e prev curr) cs ps ss → encodePassRefusal cs ps prev curr ss e srlOut rawOut ≢ magnitudeOutOfRange
 calls-sent cs ps ss prev curr e srlOut rawOut o =
     let ts = steps e prev curr in
     no-5 (longEnough cs && (longEnough ps && longEnough ss)) (rowInDomain prev && rowInDomain curr)
-    (ltb (length srlOut) (length (srlBytes ts cs ps ss)) || ltb (length rawOut) (length (rawBytes ts cs ps ss)))
+    (ltb (length srlOut) (length (srlBytes ts cs ps ss))) (ltb (length rawOut) (length (rawBytes ts cs ps ss)))
     (passFault ts cs ps ss)
     (all-sent ts cs ps ss (omega (arith, place-whole e (stepOf prev curr))) o .srl-fits)
 
+-- the law, in both its parts
 pub own-cuts-sent : OwnCutsSent
 own-cuts-sent = record { sent = all-sent; never-5 = calls-sent }

@@ -1,6 +1,6 @@
 -- The round trip of a pass: what was written is read back, and what that makes of each place.
 use mathlib.Core.Path.{_≡_, refl, sym, ap, ap₂, _∙_, subst}
-use mathlib.Core.Bool.{Bool, true, false, cond, _&&_, true≢false}
+use mathlib.Core.Bool.{Bool, true, false, _&&_, true≢false}
 use mathlib.Core.List.{List, [], _∷_, _++_, append-nil}
 use Prim.Native.Nat.{ℕ, zero, suc, _+_, _-_, _*_, _/_, _^_, _≤_, _<_}
 use native.Mathlib.Nat.{zero-div, div-le-self, div-mul-le-self, div-lt-iff-lt-mul, le-div-iff-mul-le, mul-le-mul-right, add-mul}
@@ -21,18 +21,18 @@ use Rattle.bits.specs.Written.{bitsOf, bitsOfAll, pack}
 use Rattle.bits.proofs.Holds.{Holds, holds-append, num-holds, pack-holds}
 use Rattle.bits.proofs.Puts.{length-bitsOf}
 use Rattle.srl_decoder.specs.Srl.{start, values}
-use Rattle.srl_encoder.specs.Encode.{valueZeros, valueFault, firstOf}
+use Rattle.srl_encoder.specs.Encode.{valueZeros, valueFault}
 use Rattle.srl_encoder.specs.Finish.{streamBits}
 use Rattle.srl.specs.Laws.{Legal, legal}
 use Rattle.srl.proofs.Back.{value-legal}
 use Rattle.srl_encoder.proofs.EncodedValues.{first-none}
 use Rattle.srl.proofs.Trip.{stream-values}
 use Rattle.upgrade_steps.specs.Steps.{Step, Source, skipped, srl, raw, source, sourceOf, steps, stepOf, srlWidths, rawWidths}
-use Rattle.answer.specs.Refusals.{longEnough}
+use Rattle.answer.specs.Refusals.{sliceTooShort, outOfDomain, unless, firstOf, longEnough}
 use Rattle.progressive_decoder.specs.Upgrade.{srlCoefficient, srlSign, adds, rawCoefficient, signThen, signsAfter, coefficientThen, coefficientsAfter, srlValues, rawNumbers, decodeCoefficients, decodeSigns}
 use Rattle.progressive_encoder.specs.Encode.{srlDifference, rawDifference, srlGiven, srlDifferences, rawGiven, rawDifferences, srlStream, srlBytes, rawBytes, valuesFault, passFault, noRoomFor, encodePassRefusal}
 use Rattle.progressive_encoder.proofs.Placewise.{same-length}
-use Rattle.progressive.specs.Laws.{Small, small, Sent, downward, towardZero, cut, cuts, cutSign, cutSigns, Onward, Regained, Regains, regained, PassRoundTrip}
+use Rattle.progressive.specs.Laws.{Small, small, Sent, downward, towardZero, cutBy, cuts, cutSign, cutSigns, Onward, Regained, Regains, regained, PassRoundTrip}
 
 -- ════ a place with an SRL value ════
 
@@ -87,6 +87,7 @@ gained q far near l e =
     let sum : b ≡ a + (b - a) = omega (arith, more) in
     sym (ap (λ (k : ℕ). k * 2 ^ q) sum ∙ add-mul a (b - a) (2 ^ q) ∙ ap (λ (k : ℕ). k + (b - a) * 2 ^ q) e)
 
+-- a natural number, cut towards zero
 pub toward-pos : (q n : ℕ) → towardZero q (pos n) ≡ pos (n / 2 ^ q * 2 ^ q)
 toward-pos q n = ap (λ (b : Bool). withSign b (n / 2 ^ q * 2 ^ q)) (le-ltb n 0 (omega arith))
 
@@ -134,6 +135,7 @@ all-legal z (w ∷ ws) (v ∷ vs) l e =
     let f = first-none (valueFault w z v) (valuesFault (valueZeros z v) ws vs) e in
     legal (value-legal w z v (f .0)) (all-legal (valueZeros z v) ws vs (omega (arith, l)) (f .1))
 
+-- the SRL stream of values that fit their widths is read back as these values
 pub read-values : (ws : List ℕ) (vs : List ℤ) → Legal ws vs → values (srlStream ws vs) ws start ≡ vs
 unfolding values
 read-values [] [] l = refl
@@ -142,6 +144,7 @@ read-values ws (v ∷ vs) l =
     let s = pack 0 0 bits ++ (0 ∷ []) in
     stream-values l s (pack-holds bits s 0 0 0 (0 ∷ []) (omega arith) refl)
 
+-- and so is a raw stream, from wherever the bits of its numbers stand
 pub read-numbers : {ws ms : List ℕ} → Small ws ms → (s : List ℕ) (n : ℕ) → Holds s n (bitsOfAll ws ms) → numbers s ws n ≡ ms
 unfolding numbers bitsOfAll
 read-numbers Small.none s n h = refl
@@ -163,7 +166,7 @@ numbers-back ts cs ps ss h =
 -- ════ all places ════
 
 place-cut : (o : Source) (t : Step) (c p s : ℤ) (vs : List ℤ) (ms : List ℕ) (rest : List ℤ → List ℕ → List ℤ) (l : List ℤ) → Regained o t c p s → rest vs ms ≡ l
-    → coefficientThen o t p s (srlGiven o (srlDifference (t .position) c p) vs) (rawGiven o (rawDifference (t .position) c p) ms) rest ≡ cut o (t .position) c p ∷ l
+    → coefficientThen o t p s (srlGiven o (srlDifference (t .position) c p) vs) (rawGiven o (rawDifference (t .position) c p) ms) rest ≡ cutBy o (t .position) c p ∷ l
 place-cut skipped t c p s vs ms rest l r e = ap (λ (k : List ℤ). p ∷ k) e
 place-cut srl t c p s vs ms rest l r e =
     let q = t .position in
@@ -239,7 +242,7 @@ taken cs ps ss prev curr e srlOut rawOut = by (longEnough cs && (longEnough ps &
     rest = noRoomFor (srlBytes (steps e prev curr) cs ps ss) srlOut (rawBytes (steps e prev curr) cs ps ss) rawOut
 
     by : (a : Bool) → (longEnough cs && (longEnough ps && longEnough ss)) ≡ a → (b : Bool) → (rowInDomain prev && rowInDomain curr) ≡ b
-        → cond a (cond b (firstOf (passFault (steps e prev curr) cs ps ss) rest) 2) 1 ≡ 0 → Taken cs ps ss prev curr e
+        → firstOf (unless a sliceTooShort) (firstOf (unless b outOfDomain) (firstOf (passFault (steps e prev curr) cs ps ss) rest)) ≡ 0 → Taken cs ps ss prev curr e
     by true la true lb k =
         let one = both-true (longEnough cs) (longEnough ps && longEnough ss) la in
         let two = both-true (longEnough ps) (longEnough ss) (one .1) in
@@ -268,5 +271,6 @@ calls-back cs ps ss prev curr e srlOut rawOut k m r =
     } in
     (simp (t .previous-long, t .signs-long, t .rows) (coefficients-back (steps e prev curr) cs ps ss sent r), simp (t .previous-long, t .signs-long, t .rows) (signs-back (steps e prev curr) cs ps ss sent r))
 
+-- the law, in its five parts
 pub pass-round-trip : PassRoundTrip
 pass-round-trip = record { values = values-back; numbers = numbers-back; coefficients = coefficients-back; signs = signs-back; calls = calls-back }

@@ -37,11 +37,11 @@ downward q c = floorShift c q *ℤ pos (2 ^ q)
 abbrev pub towardZero : ℕ → ℤ → ℤ
 towardZero q c = withSign (isNegative c) (natAbs c / 2 ^ q * 2 ^ q)
 
--- at a place: c is the coefficient, p the previous one
-abbrev pub cut : Source → ℕ → ℤ → ℤ → ℤ
-cut skipped q c p = p
-cut srl q c p = downward q c
-cut raw q c p = towardZero q c
+-- at a place, by where its value goes: c is the coefficient, p the previous one
+abbrev pub cutBy : Source → ℕ → ℤ → ℤ → ℤ
+cutBy skipped q c p = p
+cutBy srl q c p = downward q c
+cutBy raw q c p = towardZero q c
 
 -- of all places; what stands past the steps stays
 unfoldable pub cuts : List Step → List ℤ → List ℤ → List ℤ → List ℤ
@@ -49,7 +49,7 @@ cuts [] cs ps ss = ps
 cuts (t ∷ ts) [] ps ss = ps
 cuts (t ∷ ts) (c ∷ cs) [] ss = []
 cuts (t ∷ ts) (c ∷ cs) (p ∷ ps) [] = p ∷ ps
-cuts (t ∷ ts) (c ∷ cs) (p ∷ ps) (s ∷ ss) = cut (source t s) (t .position) c p ∷ cuts ts cs ps ss
+cuts (t ∷ ts) (c ∷ cs) (p ∷ ps) (s ∷ ss) = cutBy (source t s) (t .position) c p ∷ cuts ts cs ps ss
 
 -- the sign then: at a place with an SRL value that of the target, elsewhere the same as before
 abbrev pub cutSign : Source → ℕ → ℤ → ℤ → ℤ

@@ -8,6 +8,7 @@ use Prim.Native.Nat.{ℕ, _+_, _≤_}
 use lib.IntN.{ℤ}
 use lib.ListN.{length}
 use Rattle.fixed.specs.Fixed.{signOf}
+use Rattle.answer.specs.Refusals.{magnitudeOutOfRange}
 use Rattle.upgrade_steps.specs.Steps.{Step, steps}
 use Rattle.progressive_encoder.specs.Encode.{encodePassRefusal}
 use Rattle.progressive.specs.Laws.{Sent, towardZero}
@@ -32,4 +33,4 @@ pub record OwnCutsSent : Type 0 where
   pub sent : (ts : List Step) (cs ps ss : List ℤ) → length ts ≤ 4096 → OwnCuts ts cs ps ss → Sent ts cs ps ss
   -- so the writer never refuses it by 5
   pub never-5 : (cs ps ss : List ℤ) (prev curr : List ℕ) (e : Bool) (srlOut rawOut : List ℕ)
-      → OwnCuts (steps e prev curr) cs ps ss → encodePassRefusal cs ps prev curr ss e srlOut rawOut ≢ 5
+      → OwnCuts (steps e prev curr) cs ps ss → encodePassRefusal cs ps prev curr ss e srlOut rawOut ≢ magnitudeOutOfRange

@@ -17,12 +17,13 @@ use Rattle.bands.proofs.Spread.{perPlaceTo, place-none, place-count, place-all,
 use Rattle.upgrade_steps.specs.Steps.{Step, Source, skipped, srl, raw, source, stepOf, steps, srlWidth, srlWidths, rawWidth, rawWidths}
 use Rattle.upgrade_steps.specs.Inner.{fromSrl}
 use Rattle.progressive_encoder.specs.Encode.{srlDifference, rawDifference, srlGiven, rawGiven, srlDifferences, rawDifferences}
-use Rattle.progressive_encoder.specs.Inner.{Lists, lists, passLists, placeLists, bandLists, Long, Lent}
+use Rattle.progressive_encoder.specs.Inner.{Lists, lists, passLists, placeLists, bandLists, Long, Slices, Lent, WentOver}
 use Rattle.upgrade_steps.proofs.Spans.{Lies, place-more, more-length}
 use Rattle.upgrade_steps.proofs.Sources.{source-srl, source-raw, source-none}
 
 -- ════ one place ════
 
+-- what no place gives
 abbrev pub noLists : Lists
 noLists = lists [] [] [] []
 
@@ -51,9 +52,11 @@ alone : (t : Step) (c p s : ℤ) → placeLists t c p s ≡ given (source t s) t
 unfolding srlDifferences srlWidths rawDifferences rawWidths
 alone t c p s = refl
 
+-- with an SRL value: that value, at the width of the band
 pub place-srl : (t : Step) (c p s : ℤ) → 1 ≤ t .width → fromSrl t s ≡ true → placeLists t c p s ≡ lists (srlDifference (t .position) c p ∷ []) (t .width ∷ []) [] []
 place-srl t c p s h e = alone t c p s ∙ ap (λ (x : Source). given x t c p noLists) (source-srl t s h e)
 
+-- with raw bits: that number, at the width of the band
 pub place-raw : (t : Step) (c p s : ℤ) → 1 ≤ t .width → fromSrl t s ≡ false → placeLists t c p s ≡ lists [] [] (rawDifference (t .position) c p ∷ []) (t .width ∷ [])
 place-raw t c p s h e = alone t c p s ∙ ap (λ (x : Source). given x t c p noLists) (source-raw t s h e)
 
@@ -92,7 +95,7 @@ same-step t P z f (suc n) (c ∷ cs) (p ∷ ps) (s ∷ ss) h j k =
 pub of-band : (t : Step) (P : ℕ → Lists → Type 0) → P 0 noLists → ((n : ℕ) (c p s : ℤ) (l : Lists) → P n l → P (suc n) (given (source t s) t c p l))
     → (cs ps ss : List ℤ) (from to : ℕ) → Lent cs ps ss from to → P (to - from) (bandLists t from to cs ps ss)
 of-band t P z f cs ps ss from to h =
-    same-step t P z f (to - from) (drop from cs) (drop from ps) (drop from ss) (omega (arith, length-drop from cs, h .ends, h .coefficients)) (omega (arith, length-drop from ps, h .ends, h .previous)) (omega (arith, length-drop from ss, h .ends, h .sign))
+    same-step t P z f (to - from) (drop from cs) (drop from ps) (drop from ss) (omega (arith, length-drop from cs, h .ends, h .slices .coefficients)) (omega (arith, length-drop from ps, h .ends, h .slices .previous)) (omega (arith, length-drop from ss, h .ends, h .slices .sign))
 
 -- of width 0 they give nothing
 skipped-none : (t : Step) → t .width ≡ 0 → (cs ps ss : List ℤ) (from to : ℕ) → Lent cs ps ss from to → bandLists t from to cs ps ss ≡ noLists
@@ -120,13 +123,12 @@ pub record Next (e : Bool) (prev curr : List ℕ) (b from to : ℕ) (t : Step) :
   pub lies : Lies e b from to
   pub step : t ≡ stepOf prev curr b
 
-pub lent : {e : Bool} {prev curr : List ℕ} {b from to : ℕ} {t : Step} → Next e prev curr b from to t → (cs ps ss : List ℤ) → Long cs → Long ps → Long ss → Lent cs ps ss from to
-lent {e = e} {b = b} p cs ps ss h j k = record {
+-- its places lie in slices that are long enough
+pub lent : {e : Bool} {prev curr : List ℕ} {b from to : ℕ} {t : Step} → Next e prev curr b from to t → (cs ps ss : List ℤ) → Slices cs ps ss → Lent cs ps ss from to
+lent {e = e} {b = b} p cs ps ss h = record {
   begins = omega (arith, p .lies .ends);
   ends = omega (arith, p .lies .begins, p .lies .ends, band-within e b);
-  coefficients = h;
-  previous = j;
-  sign = k;
+  slices = h;
 }
 
 -- how many places come before it, and with it
@@ -145,9 +147,11 @@ low row b e = by (ltb b (length row)) refl
     by true q = low-position row b e (ltb-true b (length row) q)
     by false q = rw (List·getD-eq-default row 0 (ltb-false b (length row) q)) (omega arith)
 
+-- so the next band has a width of at most 15
 pub narrow : {e : Bool} {prev curr : List ℕ} {b from to : ℕ} {t : Step} → Next e prev curr b from to t → rowInDomain prev ≡ true → t .width ≤ 15
 narrow {prev = prev} {b = b} p h = omega (arith, ap (λ (u : Step). u .width) (p .step), low prev b h)
 
+-- and a position of at most 15
 pub low-step : {e : Bool} {prev curr : List ℕ} {b from to : ℕ} {t : Step} → Next e prev curr b from to t → rowInDomain curr ≡ true → t .position ≤ 15
 low-step {curr = curr} {b = b} p h = omega (arith, ap (λ (u : Step). u .position) (p .step), low curr b h)
 
@@ -202,31 +206,34 @@ module _ {X : Type 0} (R : Lists → X → X → Type 0) (o : Placewise R) (cs p
           let m : i + 1 - from ≡ i - from + 1 = omega arith in
           ap (λ (k : ℕ). passLists (replicate k t) (drop from cs) (drop from ps) (drop from ss)) m
           ∙ ap (λ (ts : List Step). passLists ts (drop from cs) (drop from ps) (drop from ss)) (sym (replicate-append-replicate (i - from) 1 t))
-          ∙ pass-append (replicate (i - from) t) (t ∷ []) (drop from cs) (drop from ps) (drop from ss) (short cs (h .coefficients)) (short ps (h .previous)) (short ss (h .sign))
-          ∙ ap (joined (bandLists t from i cs ps ss)) (one _ _ _ _ _ _ (here cs c (h .coefficients) u) (here ps p (h .previous) v) (here ss s (h .sign) w))
+          ∙ pass-append (replicate (i - from) t) (t ∷ []) (drop from cs) (drop from ps) (drop from ss) (short cs (h .slices .coefficients)) (short ps (h .slices .previous)) (short ss (h .slices .sign))
+          ∙ ap (joined (bandLists t from i cs ps ss)) (one _ _ _ _ _ _ (here cs c (h .slices .coefficients) u) (here ps p (h .slices .previous) v) (here ss s (h .slices .sign) w))
 
 -- ════ band by band ════
 
--- what went over the places of the first b bands, and a bound by their number
-pub record Reached {X : Type 0} (R : Lists → X → X → Type 0) (B : X → ℕ → Type 0) (cs ps ss : List ℤ) (e : Bool) (prev curr : List ℕ) (b : ℕ) (x y : X) : Type 0 where
-  pub over : R (passLists (perPlaceTo e (stepOf prev curr) b) cs ps ss) x y
-  pub bound : B y (length (perPlaceTo e (stepOf prev curr) b))
+-- a walk that went over the places of the first b bands
+abbrev pub WentOverBands : {X : Type 0} (R : Lists → X → X → Type 0) (B : X → ℕ → Type 0) (cs ps ss : List ℤ) (e : Bool) (prev curr : List ℕ) (b : ℕ) (x y : X) → Type 0
+WentOverBands R B cs ps ss e prev curr b x y =
+    WentOver R B (passLists (perPlaceTo e (stepOf prev curr) b) cs ps ss) (length (perPlaceTo e (stepOf prev curr) b)) x y
 
 module _ {X : Type 0} (R : Lists → X → X → Type 0) (o : Placewise R) (B : X → ℕ → Type 0) (cs ps ss : List ℤ) (e : Bool) (prev curr : List ℕ) where
-  pub reached-none : (x : X) → B x 0 → Reached R B cs ps ss e prev curr 0 x x
-  reached-none x h =
+  -- before the first
+  pub bands-none : (x : X) → B x 0 → WentOverBands R B cs ps ss e prev curr 0 x x
+  bands-none x h =
       let n = place-none e (stepOf prev curr) in
       record {
         over = subst (λ (l : Lists). R l x x) (sym (ap (λ (ts : List Step). passLists ts cs ps ss) n ∙ no-places cs ps ss)) (o .none x);
         bound = subst (B x) (sym (ap length n)) h;
       }
 
-  pub bound-before : (b from to : ℕ) (t : Step) (x y : X) → Next e prev curr b from to t → Reached R B cs ps ss e prev curr b x y → B y from
+  -- the bound, by where the next band begins
+  pub bound-before : (b from to : ℕ) (t : Step) (x y : X) → Next e prev curr b from to t → WentOverBands R B cs ps ss e prev curr b x y → B y from
   bound-before b from to t x y p r = subst (B y) (before p) (r .bound)
 
-  pub reached-next : (b from to : ℕ) (t : Step) (x y z : X) → Next e prev curr b from to t → Long cs → Long ps → Long ss → Reached R B cs ps ss e prev curr b x y
-      → R (bandLists t from to cs ps ss) y z × B z to → Reached R B cs ps ss e prev curr (b + 1) x z
-  reached-next b from to t x y z p h j k r now =
+  -- a band more
+  pub bands-next : (b from to : ℕ) (t : Step) (x y z : X) → Next e prev curr b from to t → Slices cs ps ss → WentOverBands R B cs ps ss e prev curr b x y
+      → WentOver R B (bandLists t from to cs ps ss) to y z → WentOverBands R B cs ps ss e prev curr (b + 1) x z
+  bands-next b from to t x y z p h r now =
       let f = stepOf prev curr in
       let ts = perPlaceTo e f b in
       let us = replicate (to - from) (f b) in
@@ -236,15 +243,18 @@ module _ {X : Type 0} (R : Lists → X → X → Type 0) (o : Placewise R) (B : 
         over = subst (λ (l : Lists). R l x z)
             (sym
             (ap (λ (l : List Step). passLists l cs ps ss) (place-more e f b from to (p .lies))
-            ∙ pass-append ts us cs ps ss (omega arith) (omega arith) (omega arith)
+            ∙ pass-append ts us cs ps ss (omega (arith, h .coefficients)) (omega (arith, h .previous)) (omega (arith, h .sign))
             ∙ ap (λ (i : ℕ). joined (passLists ts cs ps ss) (passLists us (drop i cs) (drop i ps) (drop i ss))) n
             ∙ ap (λ (u : Step). joined (passLists ts cs ps ss) (bandLists u from to cs ps ss)) (sym (p .step))))
-            (o .then (passLists ts cs ps ss) (bandLists t from to cs ps ss) x y z (r .over) (now .0));
-        bound = subst (B z) (with-it p) (now .1);
+            (o .then (passLists ts cs ps ss) (bandLists t from to cs ps ss) x y z (r .over) (now .over));
+        bound = subst (B z) (with-it p) (now .bound);
       }
 
   -- all bands are the pass
-  pub reached-all : (b : ℕ) (x y : X) → b ≡ 10 → Reached R B cs ps ss e prev curr b x y → R (passLists (steps e prev curr) cs ps ss) x y × B y 4096
-  reached-all b x y n r =
+  pub bands-all : (b : ℕ) (x y : X) → b ≡ 10 → WentOverBands R B cs ps ss e prev curr b x y → WentOver R B (passLists (steps e prev curr) cs ps ss) 4096 x y
+  bands-all b x y n r =
       let all = ap (perPlaceTo e (stepOf prev curr)) n ∙ place-all e (stepOf prev curr) in
-      (subst (λ (ts : List Step). R (passLists ts cs ps ss) x y) all (r .over), subst (B y) (ap length all ∙ place-whole e (stepOf prev curr)) (r .bound))
+      record {
+        over = subst (λ (ts : List Step). R (passLists ts cs ps ss) x y) all (r .over);
+        bound = subst (B y) (ap length all ∙ place-whole e (stepOf prev curr)) (r .bound);
+      }

@@ -32,6 +32,7 @@ largest-append : (a b : List ℤ) → largest (a ++ b) ≡ max (largest a) (larg
 largest-append [] b = omega arith
 largest-append (v ∷ a) b = omega (arith, largest-append a b)
 
+-- what is counted of some places and then of others is counted of both
 pub counts-placewise : Placewise Counts
 counts-placewise = record {
   none = λ x. record { count = omega arith; sum = omega arith; most = omega arith };
@@ -42,10 +43,12 @@ counts-placewise = record {
   };
 }
 
+-- a truth value counts at most 1
 pub one-le : (b : Bool) → oneIf b ≤ 1
 one-le true = omega arith
 one-le false = omega arith
 
+-- and what counts or not is at most itself
 pub only-le : (b : Bool) (m : ℕ) → onlyIf b m ≤ m
 only-le true m = omega arith
 only-le false m = omega arith
@@ -70,6 +73,7 @@ or-false : (a : Bool) → (a || false) ≡ a
 or-false true = refl
 or-false false = refl
 
+-- what is surveyed of some places and then of others is surveyed of both
 pub surveys-placewise : Placewise Surveys
 surveys-placewise = record {
   none = λ x. record { count = omega arith; sum = omega arith; bits = λ ns ms. refl; bad = λ ws us. refl };
@@ -167,11 +171,13 @@ band-few from to w s d r h j m n k a b e =
       bits = omega (arith, e, k .bits, mul-le-mul-left (to - from - s .count) j);
     }
 
+-- what some places can amount to, more places can
 pub few-on : (d : Total) (i j : ℕ) → i ≤ j → Few d i → Few d j
 few-on d i j h k = record { count = omega (arith, k .count); sum = omega (arith, k .sum); bits = omega (arith, k .bits) }
 
 -- ════ a whole survey ════
 
+-- it says whether a value of all is too large
 pub survey-bad : (l : Lists) (d : Total) → Surveys l noTotal d → d .bad ≡ anyTooLarge (l .widths) (l .values)
 unfolding anyTooLarge
 survey-bad l d s =
@@ -179,6 +185,7 @@ survey-bad l d s =
     let y = append-nil (l .values) in
     sym ((λ i. anyTooLarge (sym x i) (sym y i)) ∙ s .bad [] [] ∙ or-false (d .bad))
 
+-- and its raw bits, in whole bytes, are as many as the raw stream has
 pub survey-bytes : (l : Lists) (d : Total) → Surveys l noTotal d → (d .«raw_bits» + 7) / 8 ≡ length (rawStream (l .numberWidths) (l .numbers))
 unfolding bitsOfAll
 survey-bytes l d s =

@@ -11,14 +11,18 @@ use lib.Dec.{ltb}
 use lib.IntN.{ℤ, pos, negsuc, natAbs, _-ℤ_, +ℤ-invr}
 use lib.ListN.{length, set, length-append}
 use lib.Seq.{sets}
+use mir.Val.{SFits, toZ, ofZ}
+use mir.Syntax.{w8, w16}
+use mir.ValLaws.{toZ-ofZ}
 use Rattle.fixed.specs.Fixed.{clampI16, floorShift}
+use Rattle.answer.specs.Refusals.{firstOf}
 use Rattle.bits.specs.Written.{bitsOf, bitsOfAll, after, pack}
 use Rattle.bits.specs.Inner.{write, counted, padCount, padOut}
 use Rattle.bits.specs.declared.writer.BitWriter.{BitWriter}
 use Rattle.bits.specs.declared.writer.BitCount.{BitCount}
 use Rattle.bits.proofs.Puts.{after-append, write-append, after-sound, after-at, wrote-sound, wrote-at, length-bitsOf}
 use Rattle.bits.proofs.Packed.{counted-none, counted-two, length-pack, sets-append, padded}
-use Rattle.srl_encoder.specs.Encode.{valueBits, valueKp, valueZeros, firstOf}
+use Rattle.srl_encoder.specs.Encode.{valueBits, valueKp, valueZeros}
 use Rattle.srl_encoder.specs.Finish.{flush, streamBits}
 use Rattle.srl_encoder.specs.Inner.{valueState, valueWrite, valueMeasure, placeOf}
 use Rattle.srl_encoder.specs.declared.encoder.CallState.{CallState}
@@ -90,6 +94,7 @@ stream-some : (ws : List ℕ) (vs : List ℤ) → (length vs ≡ 0 → ⊥) → 
 stream-some ws [] h = absurd (h refl)
 stream-some ws (v ∷ vs) h = refl
 
+-- where there is none, no byte
 pub stream-none : (ws : List ℕ) (vs : List ℤ) → length vs ≡ 0 → srlStream ws vs ≡ []
 stream-none ws [] h = refl
 stream-none ws (v ∷ vs) h = absurd (omega arith)
@@ -163,6 +168,16 @@ stream-length l m h n =
     let rest = ap (λ p. p .«bit_count») e in
     omega (arith, some-length (l .widths) (l .values) n, at, rest)
 
+-- ════ a place's numbers, read in the code ════
+
+-- the difference of two coefficients that were read is that of the coefficients
+pub read-difference : (q : ℕ) (c p : ℤ) → SFits w16 c → SFits w16 p → srlDifference q (toZ w16 (ofZ w16 c)) (toZ w16 (ofZ w16 p)) ≡ srlDifference q c p
+read-difference q c p f g = λ i. srlDifference q (toZ-ofZ w16 c f i) (toZ-ofZ w16 p g i)
+
+-- and a sign that was read says which stream its place goes to
+pub read-source : (t : Step) (s : ℤ) → SFits w8 s → fromSrl t (toZ w8 (ofZ w8 s)) ≡ fromSrl t s
+read-source t s f = ap (fromSrl t) (toZ-ofZ w8 s f)
+
 -- ════ value by value ════
 
 -- a value before the rest, measured and stored
@@ -185,6 +200,7 @@ value-write w out c v ws us =
 
 -- ════ measuring, place by place ════
 
+-- what is measured of some places and then of others is measured of both
 pub measures-placewise : Placewise Measures
 measures-placewise = record {
   none = λ p. record { count = λ ws us. refl };
@@ -192,12 +208,14 @@ measures-placewise = record {
 }
 
 module _ (t : Step) (c p s : ℤ) (h : 1 ≤ t .width) where
+  -- a place with an SRL value: y is the measure after that value
   pub measures-srl : fromSrl t s ≡ true → (x y : Measured) → y ≡ valueMeasure (t .width) x (srlDifference (t .position) c p) → Measures (placeLists t c p s) x y
   measures-srl q x y e =
       let v = srlDifference (t .position) c p in
       subst (λ (l : Lists). Measures l x y) (sym (place-srl t c p s h q))
       (record { count = λ ws us. value-counted (t .width) x v ws us ∙ ap (λ m. endCount m ws us) (sym e) })
 
+  -- a place with raw bits has nothing to measure
   pub measures-raw : fromSrl t s ≡ false → (x : Measured) → Measures (placeLists t c p s) x x
   measures-raw q x = subst (λ (l : Lists). Measures l x x) (sym (place-raw t c p s h q)) (record { count = λ ws us. refl })
 
@@ -216,11 +234,13 @@ measurable-value w i x y q c p e m =
       few = omega (arith, m .few, value-zeros (x .zeros) v);
     })
 
+-- what can go on after some places can go on after more
 pub measurable-on : (p : Measured) (i j : ℕ) → i ≤ j → Measurable p i → Measurable p j
 measurable-on p i j h m = record { good = m .good; early = omega (arith, m .early); few = omega (arith, m .few) }
 
 -- ════ storing, place by place ════
 
+-- what is stored of some places and then of others is stored of both
 pub stores-placewise : Placewise Stores
 stores-placewise = record {
   none = λ x. record { srl-after = λ ws us. refl; srl-write = λ ws us. refl; raw-after = λ ns ms. refl; raw-write = λ ns ms. refl };
@@ -273,6 +293,7 @@ writable-value w i x y k q c p e m =
       raw-early = omega (arith, m .raw-early);
     })
 
+-- after a number too: l is the raw writer then
 pub writable-number : (w n i : ℕ) (x : CallState) (k l : BitWriter) → w ≤ 15 → l ≡ after k (bitsOf w n) → Writable (record { srl = x; raw = k }) i → Writable (record { srl = x; raw = l }) (i + 1)
 writable-number w n i x k l h e m = record {
   good = m .good;
@@ -281,5 +302,6 @@ writable-number w n i x k l h e m = record {
   raw-early = omega (arith, m .raw-early, wrote-at k (bitsOf w n) e, length-bitsOf w n);
 }
 
+-- writers that can go on after some places can go on after more
 pub writable-on : (k : Sinks) (i j : ℕ) → i ≤ j → Writable k i → Writable k j
 writable-on k i j h m = record { good = m .good; early = omega (arith, m .early); sound = m .sound; raw-early = omega (arith, m .raw-early) }

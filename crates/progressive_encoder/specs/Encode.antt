@@ -1,19 +1,18 @@
 -- An upgrade pass over one component, written (docs/SCOPE.md, "Upgrade pass"; MS-RDPEGFX 3.2.8.1.5.2): the bytes of both streams. The steps, and where a place's
 -- value goes, are the reader's too (`Steps` of `upgrade_steps`).
-use mathlib.Core.Bool.{Bool, cond, _&&_, _||_}
+use mathlib.Core.Path.{_≡_}
+use mathlib.Core.Bool.{Bool, _&&_}
 use mathlib.Core.List.{List, [], _∷_, _++_}
 use Prim.Native.Nat.{ℕ, zero, suc, _-_, _/_, _^_}
-use lib.Dec.{ltb}
 use lib.IntN.{ℤ, natAbs, _-ℤ_}
 use lib.ListN.{length}
 use Rattle.fixed.specs.Fixed.{clampI16, floorShift}
 use Rattle.bands.specs.Positions.{rowInDomain}
 use Rattle.bits.specs.Written.{bitsOfAll, pack}
-use Rattle.srl_rules.specs.Rules.{stored}
-use Rattle.srl_encoder.specs.Encode.{valueZeros, valueFault, firstOf}
+use Rattle.srl_encoder.specs.Encode.{valueZeros, valueFault}
 use Rattle.srl_encoder.specs.Finish.{streamBits}
 use Rattle.upgrade_steps.specs.Steps.{Step, Source, skipped, srl, raw, source, steps, srlWidths, rawWidths}
-use Rattle.answer.specs.Refusals.{longEnough}
+use Rattle.answer.specs.Refusals.{sliceTooShort, outOfDomain, unless, firstOf, longEnough, noRoom, stored}
 use Rattle.progressive_encoder.specs.declared.Written.{Written}
 use Rattle.progressive_encoder.specs.declared.Written.the-variants.{Bytes, Refused}
 
@@ -90,20 +89,18 @@ valuesFault z (w ∷ ws) (v ∷ vs) = firstOf (valueFault w z v) (valuesFault (v
 abbrev pub passFault : List Step → List ℤ → List ℤ → List ℤ → ℕ
 passFault ts cs ps ss = valuesFault 0 (srlWidths ts ss) (srlDifferences ts cs ps ss)
 
--- 7: "the answer exceeds an output slice"
+-- "7: the answer exceeds an output slice", of either stream
 abbrev pub noRoomFor : List ℕ → List ℕ → List ℕ → List ℕ → ℕ
 noRoomFor srlBs srlOut rawBs rawOut =
-    cond (ltb (length srlOut) (length srlBs) || ltb (length rawOut) (length rawBs)) 7 0
+    firstOf (noRoom (length srlOut) (length srlBs)) (noRoom (length rawOut) (length rawBs))
 
 -- "order: .. 1, 2, .. then 5 or 6 by the earlier value, 7"
 abbrev pub encodePassRefusal : List ℤ → List ℤ → List ℕ → List ℕ → List ℤ → Bool → List ℕ → List ℕ → ℕ
 encodePassRefusal cs ps prev curr ss e srlOut rawOut =
-    cond (longEnough cs && (longEnough ps && longEnough ss))
-    (cond (rowInDomain prev && rowInDomain curr)
+    firstOf (unless (longEnough cs && (longEnough ps && longEnough ss)) sliceTooShort)
+    (firstOf (unless (rowInDomain prev && rowInDomain curr) outOfDomain)
     (firstOf (passFault (steps e prev curr) cs ps ss)
-    (noRoomFor (srlBytes (steps e prev curr) cs ps ss) srlOut (rawBytes (steps e prev curr) cs ps ss) rawOut))
-    2)
-    1
+    (noRoomFor (srlBytes (steps e prev curr) cs ps ss) srlOut (rawBytes (steps e prev curr) cs ps ss) rawOut)))
 
 -- ════ what `encode_upgrade_pass` answers, and what it leaves in the two outputs ════
 
@@ -128,6 +125,14 @@ encodeSrlOut cs ps prev curr ss e srlOut rawOut =
 abbrev pub encodeRawOut : List ℤ → List ℤ → List ℕ → List ℕ → List ℤ → Bool → List ℕ → List ℕ → List ℕ
 encodeRawOut cs ps prev curr ss e srlOut rawOut =
     stored (encodePassRefusal cs ps prev curr ss e srlOut rawOut) (rawBytes (steps e prev curr) cs ps ss) rawOut
+
+-- what the call fixes: its answer, and both outputs
+pub record EncodesPass (cs ps : List ℤ) (prev curr : List ℕ) (ss : List ℤ) (e : Bool) (srlOut rawOut : List ℕ) (r : Written) (srlOut′ rawOut′ : List ℕ) : Type 0 where
+  pub answer : r ≡ encodePassAnswer cs ps prev curr ss e srlOut rawOut
+  pub srl : srlOut′ ≡ encodeSrlOut cs ps prev curr ss e srlOut rawOut
+  pub raw : rawOut′ ≡ encodeRawOut cs ps prev curr ss e srlOut rawOut
+
+-- ════ an answer by its parts ════
 
 -- the number and the counts of bytes of each case
 abbrev pub writtenNumber : Written → ℕ

@@ -8,12 +8,12 @@ use Prim.Native.Nat.{ℕ, zero, suc, _+_, _-_, _*_, _^_, _≤_, max}
 use lib.Dec.{ltb}
 use lib.IntN.{ℤ, natAbs}
 use lib.ListN.{length, drop, set, replicate}
+use lib.Seq.{sets}
 use Rattle.bits.specs.Written.{bitsOfAll, writer, after}
 use Rattle.bits.specs.Inner.{Sound, write, padCount, padOut, counted}
 use Rattle.bits.specs.declared.writer.BitWriter.{BitWriter}
 use Rattle.bits.specs.declared.writer.BitCount.{BitCount}
-use Rattle.srl_rules.specs.Rules.{stored}
-use Rattle.srl_encoder.specs.Encode.{firstOf}
+use Rattle.answer.specs.Refusals.{firstOf, stored}
 use Rattle.srl_encoder.specs.Finish.{flush, streamBits}
 use Rattle.srl_encoder.specs.Inner.{largest, placeOf, Good, GoodMeasure}
 use Rattle.srl_encoder.specs.declared.encoder.CallState.{CallState}
@@ -54,13 +54,22 @@ bandLists t from to cs ps ss = passLists (replicate (to - from) t) (drop from cs
 abbrev pub Long : {A : Type 0} → List A → Type 0
 Long l = 4096 ≤ length l
 
--- and so have all three, and some places lie in it
-pub record Lent (cs ps ss : List ℤ) (from to : ℕ) : Type 0 where
-  pub begins : from ≤ to
-  pub ends : to ≤ 4096
+-- and so have all three
+pub record Slices (cs ps ss : List ℤ) : Type 0 where
   pub coefficients : Long cs
   pub previous : Long ps
   pub sign : Long ss
+
+-- some places lie in them
+pub record Lent (cs ps ss : List ℤ) (from to : ℕ) : Type 0 where
+  pub begins : from ≤ to
+  pub ends : to ≤ 4096
+  pub slices : Slices cs ps ss
+
+-- a walk over what places give: R is what it does from x to y, and B what y can amount to after the first n places
+pub record WentOver {X : Type 0} (R : Lists → X → X → Type 0) (B : X → ℕ → Type 0) (l : Lists) (n : ℕ) (x y : X) : Type 0 where
+  pub over : R l x y
+  pub bound : B y n
 
 -- ════ surveying ════
 
@@ -94,6 +103,12 @@ pub record Counts (l : Lists) (x y : Survey) : Type 0 where
   pub count : y .count ≡ x .count + length (l .values)
   pub sum : y .sum ≡ x .sum + magnitudes (l .values)
   pub most : y .largest ≡ max (x .largest) (largest (l .values))
+
+-- those of a band that is not skipped, from none on: there are no more than its places, and each has sixteen bits
+pub record CountsBand (t : Step) (from to : ℕ) (cs ps ss : List ℤ) (r : Survey) : Type 0 where
+  pub counts : Counts (bandLists t from to cs ps ss) (surveyOf 0 0 0) r
+  pub few : r .count ≤ to - from
+  pub small : r .sum ≤ 32768 * (to - from)
 
 -- the same, with the raw bits and whether a value is too large
 pub record Surveys (l : Lists) (x y : Total) : Type 0 where
@@ -175,6 +190,10 @@ pub record Writable (k : Sinks) (n : ℕ) : Type 0 where
   pub sound : Sound (k .raw)
   pub raw-early : k .raw .at ≤ 16 * n
 
+-- and so can those of two outputs
+abbrev pub Ready : Outputs → ℕ → Type 0
+Ready o n = Writable (o .sinks) n
+
 -- the end of an SRL stream that has so many values: how many bytes the stream has, and the output
 abbrev pub endLength : ℕ → CallState → ℕ
 endLength zero c = 0
@@ -209,3 +228,15 @@ listsSrlOut l srlOut rawOut = stored (listsRefusal l srlOut rawOut) (srlStream (
 -- the raw output then
 abbrev pub listsRawOut : Lists → List ℕ → List ℕ → List ℕ
 listsRawOut l srlOut rawOut = stored (listsRefusal l srlOut rawOut) (rawStream (l .numberWidths) (l .numbers)) rawOut
+
+-- both streams are stored, where there is room for both
+pub record StoresStreams (l : Lists) (srlOut rawOut : List ℕ) (r : Written) (srlOut′ rawOut′ : List ℕ) : Type 0 where
+  pub answer : r ≡ written 0 (length (srlStream (l .widths) (l .values))) (length (rawStream (l .numberWidths) (l .numbers)))
+  pub srl : srlOut′ ≡ sets srlOut 0 (srlStream (l .widths) (l .values))
+  pub raw : rawOut′ ≡ sets rawOut 0 (rawStream (l .numberWidths) (l .numbers))
+
+-- both streams are refused or stored
+pub record WritesStreams (l : Lists) (srlOut rawOut : List ℕ) (r : Written) (srlOut′ rawOut′ : List ℕ) : Type 0 where
+  pub answer : r ≡ listsAnswer l srlOut rawOut
+  pub srl : srlOut′ ≡ listsSrlOut l srlOut rawOut
+  pub raw : rawOut′ ≡ listsRawOut l srlOut rawOut

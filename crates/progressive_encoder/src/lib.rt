@@ -2,8 +2,7 @@
 // Positions go in by value, a row of ten in band order; coefficients, signs and streams are slices that the caller lends.
 // A refusal has a number (docs/SCOPE.md, "Refusals") and alters nothing.
 
-ghost use mathlib.Core.Path.{_≡_};
-ghost use Rattle.progressive_encoder.specs.Encode.{encodePassAnswer, encodeSrlOut, encodeRawOut};
+ghost use Rattle.progressive_encoder.specs.Encode.{EncodesPass};
 
 mod writer;
 
@@ -25,19 +24,20 @@ pub fn encode_upgrade_pass(
     srl_out: &mut [u8],
     raw_out: &mut [u8],
 ) -> Written
-    ensures { λ r. ⌜ (r ≡ encodePassAnswer (now (coefficients .entry)) (now («prev_coefficients» .entry)) prev curr (now (sign .entry)) «use_reduce_extrapolate» (now («srl_out» .entry)) (now («raw_out» .entry))) × (now («srl_out» .exit) ≡ encodeSrlOut (now (coefficients .entry)) (now («prev_coefficients» .entry)) prev curr (now (sign .entry)) «use_reduce_extrapolate» (now («srl_out» .entry)) (now («raw_out» .entry))) × (now («raw_out» .exit) ≡ encodeRawOut (now (coefficients .entry)) (now («prev_coefficients» .entry)) prev curr (now (sign .entry)) «use_reduce_extrapolate» (now («srl_out» .entry)) (now («raw_out» .entry))) ⌝ }
+    ensures { λ r. ⌜ EncodesPass (now (coefficients .entry)) (now («prev_coefficients» .entry)) prev curr (now (sign .entry))
+        «use_reduce_extrapolate» (now («srl_out» .entry)) (now («raw_out» .entry)) r (now («srl_out» .exit)) (now («raw_out» .exit)) ⌝ }
 {
     if coefficients.len() < 4096 {
-        return Written::Refused(1);
+        return Written::Refused(answer::SLICE_TOO_SHORT);
     }
     if prev_coefficients.len() < 4096 {
-        return Written::Refused(1);
+        return Written::Refused(answer::SLICE_TOO_SHORT);
     }
     if sign.len() < 4096 {
-        return Written::Refused(1);
+        return Written::Refused(answer::SLICE_TOO_SHORT);
     }
     if !upgrade_steps::positions::rows_ok(prev, curr) {
-        return Written::Refused(2);
+        return Written::Refused(answer::OUT_OF_DOMAIN);
     }
     writer::write_pass(
         coefficients,

@@ -6,14 +6,13 @@ ghost use Prim.Native.Nat.{_+_, _-_, _*_, _/_, _^_, _≤_, _<_};
 ghost use lib.Dec.{ltb};
 ghost use lib.IntN.{pos};
 ghost use lib.ListN.{length};
-ghost use lib.Seq.{sets};
 ghost use Rattle.bands.specs.Positions.{rowInDomain};
 ghost use Rattle.srl_rules.specs.Inner.{Width};
 ghost use Rattle.srl_encoder.specs.Inner.{Good};
 ghost use Rattle.upgrade_steps.specs.Steps.{steps};
 ghost use Rattle.upgrade_steps.specs.Inner.{bandStep};
-ghost use Rattle.progressive_encoder.specs.Encode.{srlDifference, rawDifference, srlBytes, rawBytes, written};
-ghost use Rattle.progressive_encoder.specs.Inner.{passLists, placeLists, bandLists, Long, Lent, oneIf, onlyIf, surveyOf, Counts, Surveys, noTotal, Few, measuredOf, Measures, Measurable, sinksOf, freshSinks, outputs, Stores, Writable, endLength, endOut, listsAnswer, listsSrlOut, listsRawOut};
+ghost use Rattle.progressive_encoder.specs.Encode.{srlDifference, rawDifference, srlDifferences, srlBytes};
+ghost use Rattle.progressive_encoder.specs.Inner.{passLists, placeLists, bandLists, Slices, Lent, WentOver, oneIf, onlyIf, CountsBand, Surveys, noTotal, Few, measuredOf, Measures, Measurable, sinksOf, freshSinks, outputs, Stores, Writable, Ready, endLength, endOut, StoresStreams, WritesStreams};
 use crate::Written;
 
 // What a band has for the SRL stream: how many values, the sum of their magnitudes, and the largest.
@@ -106,7 +105,7 @@ fn survey_band(
     to: usize,
 ) -> Survey
     requires { ⌜ Lent (now coefficients) (now «prev_coefficients») (now sign) from to × (1 ≤ t .width) ⌝ }
-    ensures { λ r. ⌜ Counts (bandLists (bandStep t) from to (now (coefficients .entry)) (now («prev_coefficients» .entry)) (now (sign .entry))) (surveyOf 0 0 0) r × (r .count ≤ to - from) × (r .sum ≤ 32768 * (to - from)) ⌝ }
+    ensures { λ r. ⌜ CountsBand (bandStep t) from to (now (coefficients .entry)) (now («prev_coefficients» .entry)) (now (sign .entry)) r ⌝ }
 {
     let mut count: u32 = 0;
     let mut sum: u32 = 0;
@@ -139,7 +138,9 @@ fn survey_next(
     done: Total,
 ) -> Total
     requires { ⌜ Lent (now coefficients) (now «prev_coefficients») (now sign) from to × (t .width ≤ 15) × Few done from ⌝ }
-    ensures { λ r. ⌜ Surveys (bandLists (bandStep t) from to (now (coefficients .entry)) (now («prev_coefficients» .entry)) (now (sign .entry))) done r × Few r to ⌝ }
+    ensures { λ r. ⌜ WentOver Surveys Few
+        (bandLists (bandStep t) from to (now (coefficients .entry)) (now («prev_coefficients» .entry)) (now (sign .entry)))
+        to done r ⌝ }
 {
     if t.width == 0 {
         return done;
@@ -163,8 +164,10 @@ fn survey_bands(
     sign: &[i8],
     use_reduce_extrapolate: bool,
 ) -> Total
-    requires { ⌜ (rowInDomain prev ≡ true) × Long (now coefficients) × Long (now «prev_coefficients») × Long (now sign) ⌝ }
-    ensures { λ r. ⌜ Surveys (passLists (steps «use_reduce_extrapolate» prev curr) (now (coefficients .entry)) (now («prev_coefficients» .entry)) (now (sign .entry))) noTotal r × Few r 4096 ⌝ }
+    requires { ⌜ (rowInDomain prev ≡ true) × Slices (now coefficients) (now «prev_coefficients») (now sign) ⌝ }
+    ensures { λ r. ⌜ WentOver Surveys Few
+        (passLists (steps «use_reduce_extrapolate» prev curr) (now (coefficients .entry)) (now («prev_coefficients» .entry)) (now (sign .entry)))
+        4096 noTotal r ⌝ }
 {
     let mut done = Total {
         count: 0,
@@ -208,7 +211,7 @@ fn measure_place(
     i: usize,
 ) -> srl_encoder::encoder::Measured
     requires { ⌜ Width (t .width) × Measurable start i × (i < 4096) ⌝ }
-    ensures { λ r. ⌜ Measures (placeLists (bandStep t) c p s) start r × Measurable r (i + 1) ⌝ }
+    ensures { λ r. ⌜ WentOver Measures Measurable (placeLists (bandStep t) c p s) (i + 1) start r ⌝ }
 {
     if !upgrade_steps::from_srl(t, s) {
         return start;
@@ -220,7 +223,7 @@ fn measure_place(
     srl_encoder::encoder::measure_value(start, v, t.width)
 }
 
-// All places of a band that is not skipped. The loop keeps the parts of what is measured, as the reader's `upgrade_band` does.
+// One band more: of width 0 it is skipped. The loop keeps the parts of what is measured, as the reader's `upgrade_band` does.
 fn measure_band(
     coefficients: &[i16],
     prev_coefficients: &[i16],
@@ -230,9 +233,14 @@ fn measure_band(
     to: usize,
     start: srl_encoder::encoder::Measured,
 ) -> srl_encoder::encoder::Measured
-    requires { ⌜ Lent (now coefficients) (now «prev_coefficients») (now sign) from to × Width (t .width) × Measurable start from ⌝ }
-    ensures { λ r. ⌜ Measures (bandLists (bandStep t) from to (now (coefficients .entry)) (now («prev_coefficients» .entry)) (now (sign .entry))) start r × Measurable r to ⌝ }
+    requires { ⌜ Lent (now coefficients) (now «prev_coefficients») (now sign) from to × (t .width ≤ 15) × Measurable start from ⌝ }
+    ensures { λ r. ⌜ WentOver Measures Measurable
+        (bandLists (bandStep t) from to (now (coefficients .entry)) (now («prev_coefficients» .entry)) (now (sign .entry)))
+        to start r ⌝ }
 {
+    if t.width == 0 {
+        return start;
+    }
     let mut at = start.at;
     let mut bit_count = start.bit_count;
     let mut kp = start.kp;
@@ -252,25 +260,6 @@ fn measure_band(
     measured_of(at, bit_count, kp, zeros)
 }
 
-// One band more: of width 0 it is skipped.
-fn measure_next(
-    coefficients: &[i16],
-    prev_coefficients: &[i16],
-    sign: &[i8],
-    t: upgrade_steps::BandStep,
-    from: usize,
-    to: usize,
-    start: srl_encoder::encoder::Measured,
-) -> srl_encoder::encoder::Measured
-    requires { ⌜ Lent (now coefficients) (now «prev_coefficients») (now sign) from to × (t .width ≤ 15) × Measurable start from ⌝ }
-    ensures { λ r. ⌜ Measures (bandLists (bandStep t) from to (now (coefficients .entry)) (now («prev_coefficients» .entry)) (now (sign .entry))) start r × Measurable r to ⌝ }
-{
-    if t.width == 0 {
-        return start;
-    }
-    measure_band(coefficients, prev_coefficients, sign, t, from, to, start)
-}
-
 // The ten bands.
 fn measure_bands(
     coefficients: &[i16],
@@ -280,8 +269,10 @@ fn measure_bands(
     sign: &[i8],
     use_reduce_extrapolate: bool,
 ) -> srl_encoder::encoder::Measured
-    requires { ⌜ (rowInDomain prev ≡ true) × Long (now coefficients) × Long (now «prev_coefficients») × Long (now sign) ⌝ }
-    ensures { λ r. ⌜ Measures (passLists (steps «use_reduce_extrapolate» prev curr) (now (coefficients .entry)) (now («prev_coefficients» .entry)) (now (sign .entry))) (measuredOf 0 0 8 0) r × Measurable r 4096 ⌝ }
+    requires { ⌜ (rowInDomain prev ≡ true) × Slices (now coefficients) (now «prev_coefficients») (now sign) ⌝ }
+    ensures { λ r. ⌜ WentOver Measures Measurable
+        (passLists (steps «use_reduce_extrapolate» prev curr) (now (coefficients .entry)) (now («prev_coefficients» .entry)) (now (sign .entry)))
+        4096 (measuredOf 0 0 8 0) r ⌝ }
 {
     let mut cur = measured_of(0, 0, 8, 0);
     let mut b: usize = 0;
@@ -290,7 +281,7 @@ fn measure_bands(
         let place = upgrade_steps::span::band_span(use_reduce_extrapolate, b);
         let from = place.from;
         let to = place.to;
-        cur = measure_next(coefficients, prev_coefficients, sign, t, from, to, cur);
+        cur = measure_band(coefficients, prev_coefficients, sign, t, from, to, cur);
         b += 1;
     }
     cur
@@ -306,8 +297,11 @@ fn srl_length(
     use_reduce_extrapolate: bool,
     count: usize,
 ) -> usize
-    requires { ⌜ (rowInDomain prev ≡ true) × Long (now coefficients) × Long (now «prev_coefficients») × Long (now sign) × (count ≡ length (passLists (steps «use_reduce_extrapolate» prev curr) (now coefficients) (now «prev_coefficients») (now sign) .values)) ⌝ }
-    ensures { λ r. ⌜ r ≡ length (srlBytes (steps «use_reduce_extrapolate» prev curr) (now (coefficients .entry)) (now («prev_coefficients» .entry)) (now (sign .entry))) ⌝ }
+    requires { ⌜ (rowInDomain prev ≡ true)
+        × Slices (now coefficients) (now «prev_coefficients») (now sign)
+        × (count ≡ length (srlDifferences (steps «use_reduce_extrapolate» prev curr) (now coefficients) (now «prev_coefficients») (now sign))) ⌝ }
+    ensures { λ r. ⌜ r ≡ length
+        (srlBytes (steps «use_reduce_extrapolate» prev curr) (now (coefficients .entry)) (now («prev_coefficients» .entry)) (now (sign .entry))) ⌝ }
 {
     if count == 0 {
         return 0;
@@ -335,8 +329,13 @@ fn srl_exceeds(
     total: Total,
     room: usize,
 ) -> bool
-    requires { ⌜ (rowInDomain prev ≡ true) × Long (now coefficients) × Long (now «prev_coefficients») × Long (now sign) × Surveys (passLists (steps «use_reduce_extrapolate» prev curr) (now coefficients) (now «prev_coefficients») (now sign)) noTotal total × Few total 4096 ⌝ }
-    ensures { λ r. ⌜ r ≡ ltb room (length (srlBytes (steps «use_reduce_extrapolate» prev curr) (now (coefficients .entry)) (now («prev_coefficients» .entry)) (now (sign .entry)))) ⌝ }
+    requires { ⌜ (rowInDomain prev ≡ true)
+        × Slices (now coefficients) (now «prev_coefficients») (now sign)
+        × WentOver Surveys Few
+        (passLists (steps «use_reduce_extrapolate» prev curr) (now coefficients) (now «prev_coefficients») (now sign))
+        4096 noTotal total ⌝ }
+    ensures { λ r. ⌜ r ≡ ltb room
+        (length (srlBytes (steps «use_reduce_extrapolate» prev curr) (now (coefficients .entry)) (now («prev_coefficients» .entry)) (now (sign .entry)))) ⌝ }
 {
     let most = total.sum + 12 * total.count + 40;
     if most / 8 < room {
@@ -399,7 +398,9 @@ fn write_place(
     raw_out: &mut [u8],
 ) -> Sinks
     requires { ⌜ Width (t .width) × (t .position ≤ 15) × Writable start i × (i < 4096) ⌝ }
-    ensures { λ r. ⌜ Stores (placeLists (bandStep t) c p s) (outputs (now («srl_out» .entry)) (now («raw_out» .entry)) start) (outputs (now («srl_out» .exit)) (now («raw_out» .exit)) r) × Writable r (i + 1) ⌝ }
+    ensures { λ r. ⌜ WentOver Stores Ready (placeLists (bandStep t) c p s) (i + 1)
+        (outputs (now («srl_out» .entry)) (now («raw_out» .entry)) start)
+        (outputs (now («srl_out» .exit)) (now («raw_out» .exit)) r) ⌝ }
 {
     let a = start.srl;
     let k = start.raw;
@@ -428,7 +429,7 @@ fn write_place(
     }
 }
 
-// All places of a band that is not skipped. The loop keeps the writers' parts, as the reader's `upgrade_band` does.
+// One band more: of width 0 it is skipped. The loop keeps the writers' parts, as the reader's `upgrade_band` does.
 fn write_band(
     coefficients: &[i16],
     prev_coefficients: &[i16],
@@ -440,9 +441,16 @@ fn write_band(
     srl_out: &mut [u8],
     raw_out: &mut [u8],
 ) -> Sinks
-    requires { ⌜ Lent (now coefficients) (now «prev_coefficients») (now sign) from to × Width (t .width) × (t .position ≤ 15) × Writable start from ⌝ }
-    ensures { λ r. ⌜ Stores (bandLists (bandStep t) from to (now (coefficients .entry)) (now («prev_coefficients» .entry)) (now (sign .entry))) (outputs (now («srl_out» .entry)) (now («raw_out» .entry)) start) (outputs (now («srl_out» .exit)) (now («raw_out» .exit)) r) × Writable r to ⌝ }
+    requires { ⌜ Lent (now coefficients) (now «prev_coefficients») (now sign) from to × (t .width ≤ 15) × (t .position ≤ 15) × Writable start from ⌝ }
+    ensures { λ r. ⌜ WentOver Stores Ready
+        (bandLists (bandStep t) from to (now (coefficients .entry)) (now («prev_coefficients» .entry)) (now (sign .entry)))
+        to
+        (outputs (now («srl_out» .entry)) (now («raw_out» .entry)) start)
+        (outputs (now («srl_out» .exit)) (now («raw_out» .exit)) r) ⌝ }
 {
+    if t.width == 0 {
+        return start;
+    }
     let a = start.srl;
     let k = a.sink;
     let r = start.raw;
@@ -477,37 +485,6 @@ fn write_band(
     sinks_of(at, current, n, kp, zeros, raw_at, raw_current, raw_n)
 }
 
-// One band more: of width 0 it is skipped.
-fn write_next(
-    coefficients: &[i16],
-    prev_coefficients: &[i16],
-    sign: &[i8],
-    t: upgrade_steps::BandStep,
-    from: usize,
-    to: usize,
-    start: Sinks,
-    srl_out: &mut [u8],
-    raw_out: &mut [u8],
-) -> Sinks
-    requires { ⌜ Lent (now coefficients) (now «prev_coefficients») (now sign) from to × (t .width ≤ 15) × (t .position ≤ 15) × Writable start from ⌝ }
-    ensures { λ r. ⌜ Stores (bandLists (bandStep t) from to (now (coefficients .entry)) (now («prev_coefficients» .entry)) (now (sign .entry))) (outputs (now («srl_out» .entry)) (now («raw_out» .entry)) start) (outputs (now («srl_out» .exit)) (now («raw_out» .exit)) r) × Writable r to ⌝ }
-{
-    if t.width == 0 {
-        return start;
-    }
-    write_band(
-        coefficients,
-        prev_coefficients,
-        sign,
-        t,
-        from,
-        to,
-        start,
-        srl_out,
-        raw_out,
-    )
-}
-
 // The ten bands.
 fn write_bands(
     coefficients: &[i16],
@@ -519,8 +496,12 @@ fn write_bands(
     srl_out: &mut [u8],
     raw_out: &mut [u8],
 ) -> Sinks
-    requires { ⌜ (rowInDomain prev ≡ true) × (rowInDomain curr ≡ true) × Long (now coefficients) × Long (now «prev_coefficients») × Long (now sign) ⌝ }
-    ensures { λ r. ⌜ Stores (passLists (steps «use_reduce_extrapolate» prev curr) (now (coefficients .entry)) (now («prev_coefficients» .entry)) (now (sign .entry))) (outputs (now («srl_out» .entry)) (now («raw_out» .entry)) freshSinks) (outputs (now («srl_out» .exit)) (now («raw_out» .exit)) r) × Writable r 4096 ⌝ }
+    requires { ⌜ (rowInDomain prev ≡ true) × (rowInDomain curr ≡ true) × Slices (now coefficients) (now «prev_coefficients») (now sign) ⌝ }
+    ensures { λ r. ⌜ WentOver Stores Ready
+        (passLists (steps «use_reduce_extrapolate» prev curr) (now (coefficients .entry)) (now («prev_coefficients» .entry)) (now (sign .entry)))
+        4096
+        (outputs (now («srl_out» .entry)) (now («raw_out» .entry)) freshSinks)
+        (outputs (now («srl_out» .exit)) (now («raw_out» .exit)) r) ⌝ }
 {
     let mut cur = sinks_of(0, 0, 0, 8, 0, 0, 0, 0);
     let mut b: usize = 0;
@@ -529,7 +510,7 @@ fn write_bands(
         let place = upgrade_steps::span::band_span(use_reduce_extrapolate, b);
         let from = place.from;
         let to = place.to;
-        cur = write_next(
+        cur = write_band(
             coefficients,
             prev_coefficients,
             sign,
@@ -571,8 +552,13 @@ fn write_streams(
     srl_out: &mut [u8],
     raw_out: &mut [u8],
 ) -> Written
-    requires { ⌜ (rowInDomain prev ≡ true) × (rowInDomain curr ≡ true) × Long (now coefficients) × Long (now «prev_coefficients») × Long (now sign) × (count ≡ length (passLists (steps «use_reduce_extrapolate» prev curr) (now coefficients) (now «prev_coefficients») (now sign) .values)) ⌝ }
-    ensures { λ r. ⌜ (r ≡ written 0 (length (srlBytes (steps «use_reduce_extrapolate» prev curr) (now (coefficients .entry)) (now («prev_coefficients» .entry)) (now (sign .entry)))) (length (rawBytes (steps «use_reduce_extrapolate» prev curr) (now (coefficients .entry)) (now («prev_coefficients» .entry)) (now (sign .entry))))) × (now («srl_out» .exit) ≡ sets (now («srl_out» .entry)) 0 (srlBytes (steps «use_reduce_extrapolate» prev curr) (now (coefficients .entry)) (now («prev_coefficients» .entry)) (now (sign .entry)))) × (now («raw_out» .exit) ≡ sets (now («raw_out» .entry)) 0 (rawBytes (steps «use_reduce_extrapolate» prev curr) (now (coefficients .entry)) (now («prev_coefficients» .entry)) (now (sign .entry)))) ⌝ }
+    requires { ⌜ (rowInDomain prev ≡ true)
+        × (rowInDomain curr ≡ true)
+        × Slices (now coefficients) (now «prev_coefficients») (now sign)
+        × (count ≡ length (srlDifferences (steps «use_reduce_extrapolate» prev curr) (now coefficients) (now «prev_coefficients») (now sign))) ⌝ }
+    ensures { λ r. ⌜ StoresStreams
+        (passLists (steps «use_reduce_extrapolate» prev curr) (now (coefficients .entry)) (now («prev_coefficients» .entry)) (now (sign .entry)))
+        (now («srl_out» .entry)) (now («raw_out» .entry)) r (now («srl_out» .exit)) (now («raw_out» .exit)) ⌝ }
 {
     let done = write_bands(
         coefficients,
@@ -600,8 +586,10 @@ pub fn write_pass(
     srl_out: &mut [u8],
     raw_out: &mut [u8],
 ) -> Written
-    requires { ⌜ (rowInDomain prev ≡ true) × (rowInDomain curr ≡ true) × Long (now coefficients) × Long (now «prev_coefficients») × Long (now sign) ⌝ }
-    ensures { λ r. ⌜ (r ≡ listsAnswer (passLists (steps «use_reduce_extrapolate» prev curr) (now (coefficients .entry)) (now («prev_coefficients» .entry)) (now (sign .entry))) (now («srl_out» .entry)) (now («raw_out» .entry))) × (now («srl_out» .exit) ≡ listsSrlOut (passLists (steps «use_reduce_extrapolate» prev curr) (now (coefficients .entry)) (now («prev_coefficients» .entry)) (now (sign .entry))) (now («srl_out» .entry)) (now («raw_out» .entry))) × (now («raw_out» .exit) ≡ listsRawOut (passLists (steps «use_reduce_extrapolate» prev curr) (now (coefficients .entry)) (now («prev_coefficients» .entry)) (now (sign .entry))) (now («srl_out» .entry)) (now («raw_out» .entry))) ⌝ }
+    requires { ⌜ (rowInDomain prev ≡ true) × (rowInDomain curr ≡ true) × Slices (now coefficients) (now «prev_coefficients») (now sign) ⌝ }
+    ensures { λ r. ⌜ WritesStreams
+        (passLists (steps «use_reduce_extrapolate» prev curr) (now (coefficients .entry)) (now («prev_coefficients» .entry)) (now (sign .entry)))
+        (now («srl_out» .entry)) (now («raw_out» .entry)) r (now («srl_out» .exit)) (now («raw_out» .exit)) ⌝ }
 {
     let total = survey_bands(
         coefficients,
@@ -612,10 +600,10 @@ pub fn write_pass(
         use_reduce_extrapolate,
     );
     if total.bad {
-        return Written::Refused(5);
+        return Written::Refused(answer::MAGNITUDE_OUT_OF_RANGE);
     }
     if raw_out.len() < (total.raw_bits + 7) / 8 {
-        return Written::Refused(7);
+        return Written::Refused(answer::OUTPUT_TOO_SHORT);
     }
     if srl_exceeds(
         coefficients,
@@ -627,7 +615,7 @@ pub fn write_pass(
         total,
         srl_out.len(),
     ) {
-        return Written::Refused(7);
+        return Written::Refused(answer::OUTPUT_TOO_SHORT);
     }
     write_streams(
         coefficients,

@@ -14,7 +14,7 @@ use Rattle.progressive_encoder.proofs.encode_upgrade_pass.Tie as tie
 returns : tie.Need-returns
 returns c =
     let short = lt-leb 4096 (length (c .before .before .before .args .coefficients .now)) (c .if1 .taken) in
-    (simp short, simp short, simp short)
+    record { answer = simp short; srl = simp short; raw = simp short }
 
 -- past the first test there are coefficients enough
 coefficients : (c : tie.Else1) → longEnough (c .before .before .before .args .coefficients .now) ≡ true
@@ -24,7 +24,7 @@ returns-2 : tie.Need-returns-2
 returns-2 c =
     let long = coefficients (c .before) in
     let short = lt-leb 4096 (length (c .before .before .before .before .args .prev-coefficients .now)) (c .if2 .taken) in
-    (simp (long, short), simp (long, short), simp (long, short))
+    record { answer = simp (long, short); srl = simp (long, short); raw = simp (long, short) }
 
 -- past the second also previous ones
 previous : (c : tie.Else2) → longEnough (c .before .before .before .before .args .prev-coefficients .now) ≡ true
@@ -35,7 +35,7 @@ returns-3 c =
     let long = coefficients (c .before .before) in
     let long′ = previous (c .before) in
     let short = lt-leb 4096 (length (c .before .before .before .before .before .args .sign .now)) (c .if3 .taken) in
-    (simp (long, long′, short), simp (long, long′, short), simp (long, long′, short))
+    record { answer = simp (long, long′, short); srl = simp (long, long′, short); raw = simp (long, long′, short) }
 
 -- past the third there are signs enough
 signs : (c : tie.Else3) → longEnough (c .before .before .before .before .before .args .sign .now) ≡ true
@@ -48,7 +48,7 @@ returns-4 c =
     let long′ = previous (c .before .before .before) in
     let long″ = signs (c .before .before) in
     let high : (rowInDomain (a .prev) && rowInDomain (a .curr)) ≡ false = sym (c .before .rows-ok .ensures) ∙ not-true _ (c .if4 .taken) in
-    (simp (long, long′, long″, high), simp (long, long′, long″, high), simp (long, long′, long″, high))
+    record { answer = simp (long, long′, long″, high); srl = simp (long, long′, long″, high); raw = simp (long, long′, long″, high) }
 
 -- past the fourth the positions are in the domain
 low : (c : tie.Else4) → (rowInDomain (c .before .before .before .before .before .before .before .args .prev) && rowInDomain (c .before .before .before .before .before .before .before .args .curr)) ≡ true
@@ -56,8 +56,15 @@ low c = sym (c .before .rows-ok .ensures) ∙ not-false _ (c .if4 .left)
 
 write-pass-requires : tie.Need-write-pass-requires
 write-pass-requires c κs =
-    let r = both-true _ _ (low (c .before .before)) in
-    (r .0, r .1, omega (arith, c .before .before .before .before .before .before .if1 .left), omega (arith, c .before .before .before .before .before .if2 .left), omega (arith, c .before .before .before .before .if3 .left))
+    let r = both-true _ _ (low (c .before .before)) in (
+      r .0,
+      r .1,
+      record {
+        coefficients = omega (arith, c .before .before .before .before .before .before .if1 .left);
+        previous = omega (arith, c .before .before .before .before .before .if2 .left);
+        sign = omega (arith, c .before .before .before .before .if3 .left);
+      },
+    )
 
 returns-5 : tie.Need-returns-5
 returns-5 c =
@@ -66,7 +73,7 @@ returns-5 c =
     let long″ = signs (c .before .before .before .before .before .before .before .before .before) in
     let right = low (c .before .before .before .before .before .before .before) in
     let e = c .before .before .before .before .write-pass .ensures in
-    (simp (long, long′, long″, right) (e .0), simp (long, long′, long″, right) (e .1), simp (long, long′, long″, right) (e .2))
+    record { answer = simp (long, long′, long″, right) (e .answer); srl = simp (long, long′, long″, right) (e .srl); raw = simp (long, long′, long″, right) (e .raw) }
 
 pub encode-upgrade-pass-spec : {M : Type 1} → statement M
 encode-upgrade-pass-spec = tie.close (tie.spec returns returns-2 returns-3 (λ c κs. search needs) returns-4 write-pass-requires (λ c. search needs) (λ c. search needs) returns-5)

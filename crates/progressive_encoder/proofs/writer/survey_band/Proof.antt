@@ -4,15 +4,14 @@ use Prim.Native.Nat.{_+_, _-_, _*_, _≤_, max}
 use native.Mathlib.Omega.{arith}
 use lib.ListN.{getD}
 use lib.IntN.{ℤ, pos, natAbs}
-use mir.Syntax.{w8, w16}
-use mir.ValLaws.{toZ-ofZ}
+use mir.Syntax.{w16}
 use Rattle.fixed.proofs.Machine.{got}
 use Rattle.progressive_encoder.specs.Encode.{srlDifference}
 use Rattle.upgrade_steps.specs.Inner.{bandStep, fromSrl}
 use Rattle.progressive_encoder.specs.Inner.{bandLists, oneIf, onlyIf, surveyOf, Counts}
 use Rattle.progressive_encoder.proofs.Placewise.{band-none, place-next}
 use Rattle.progressive_encoder.proofs.Surveyed.{counts-placewise, place-counts, one-le, only-le}
-use Rattle.progressive_encoder.proofs.WrittenValues.{difference-small}
+use Rattle.progressive_encoder.proofs.WrittenValues.{difference-small, read-difference, read-source}
 use borrow.Author.Needs.{needs}
 use Rattle.progressive_encoder.proofs.writer.survey_band.Statement.{statement}
 use Rattle.progressive_encoder.proofs.writer.survey_band.Tie as tie
@@ -43,7 +42,7 @@ third c = getD (c .before .before .before .before .before .before .before .befor
 -- whether it has a value, and the value's magnitude
 counts : (c : tie.After-one-if Inv-loop μ-loop) → c .before .before .before .from-srl .result ≡ fromSrl (bandStep (c .before .before .before .before .before .before .before .before .before .before .args .t)) (third c)
 unfolding third
-counts c = c .before .before .before .from-srl .ensures ∙ ap (fromSrl (bandStep (c .before .before .before .before .before .before .before .before .before .before .args .t))) (toZ-ofZ w8 (third c) (record { sfits = c .before .before .before .before .from-srl-arg .given }))
+counts c = c .before .before .before .from-srl .ensures ∙ read-source (bandStep (c .before .before .before .before .before .before .before .before .before .before .args .t)) (third c) (record { sfits = c .before .before .before .before .from-srl-arg .given })
 
 size : (c : tie.After-one-if Inv-loop μ-loop) → c .before .before .magnitude .result ≡ natAbs (srlDifference (c .before .before .before .before .before .before .before .before .before .before .args .t .position) (first c) (second c))
 unfolding first second
@@ -51,7 +50,7 @@ size c =
     let q = c .before .before .before .before .before .before .before .before .before .before .args .t .position in
     let d = c .before .before .before .before .before .srl-difference in
     c .before .before .magnitude .ensures
-    ∙ ap natAbs (got w16 (d .ok) (d .ensures ∙ (λ i. srlDifference q (toZ-ofZ w16 (first c) (record { sfits = c .before .before .before .before .before .before .before .srl-difference-arg .given }) i) (toZ-ofZ w16 (second c) (record { sfits = c .before .before .before .before .before .before .srl-difference-arg2 .given }) i))))
+    ∙ ap natAbs (got w16 (d .ok) (d .ensures ∙ read-difference q (first c) (second c) (record { sfits = c .before .before .before .before .before .before .before .srl-difference-arg .given }) (record { sfits = c .before .before .before .before .before .before .srl-difference-arg2 .given })))
 
 one : (c : tie.After-one-if Inv-loop μ-loop) → c .one-if .result ≡ oneIf (fromSrl (bandStep (c .before .before .before .before .before .before .before .before .before .before .args .t)) (third c))
 one c = c .one-if .ensures ∙ ap oneIf (counts c)
@@ -97,7 +96,7 @@ returns c =
     let a = k .args in
     let l = c .before .loop in
     let e : l .i ≡ a .to = omega (arith, l .inv .1) in
-    (rw (sym e) (l .inv .4), omega (arith, l .inv .2), omega (arith, l .inv .3))
+    record { counts = rw (sym e) (l .inv .4); few = omega (arith, l .inv .2); small = omega (arith, l .inv .3) }
 
 pub survey-band-spec : {M : Type 1} → statement M
 survey-band-spec = tie.close (tie.spec Inv-loop μ-loop loop-holds (λ c. search needs) (λ c. search needs) (λ c. search needs) (λ c. search needs) (λ c κs. search needs) (λ c. search needs) (λ c κs. search needs) (λ c κs. search needs) (λ c κs. search needs) (λ c κs. search needs) add-count (λ c. search needs) add-sum (λ c κs. search needs) (λ c. search needs) (λ c. search needs) loop-again returns)

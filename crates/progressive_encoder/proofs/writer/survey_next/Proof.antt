@@ -15,10 +15,11 @@ use Rattle.progressive_encoder.proofs.writer.survey_next.Tie as tie
 returns : tie.Need-returns
 returns c =
     let k = c .before .before in
-    let a = k .args in (
-      band-skip Surveys surveys-placewise (a .coefficients .now) (a .prev-coefficients .now) (a .sign .now) (bandStep (a .t)) (a .from) (a .to) (k .pre .0) (c .if1 .taken) (a .done),
-      few-on (a .done) (a .from) (a .to) (k .pre .0 .begins) (k .pre .2),
-    )
+    let a = k .args in
+    record {
+      over = band-skip Surveys surveys-placewise (a .coefficients .now) (a .prev-coefficients .now) (a .sign .now) (bandStep (a .t)) (a .from) (a .to) (k .pre .0) (c .if1 .taken) (a .done);
+      bound = few-on (a .done) (a .from) (a .to) (k .pre .0 .begins) (k .pre .2);
+    }
 
 -- what the numbers take
 small : (c : tie.After-survey-band) → (c .before .before .before .args .to - c .before .before .before .args .from - c .survey-band .result .count) * c .before .before .before .args .t .width ≤ 15 * (c .before .before .before .args .to - c .before .before .before .args .from)
@@ -37,10 +38,11 @@ returns-2 c =
     let k = c .before .before .before .before .before .before .before .before .before .before .before in
     let a = k .args in
     let s = c .before .before .before .before .before .before .before .before .survey-band in
-    let bad = c .either .ensures ∙ ap (λ b. a .done .bad || b) (c .before .too-large .ensures) in (
-      band-surveys (bandStep (a .t)) (a .coefficients .now) (a .prev-coefficients .now) (a .sign .now) (a .from) (a .to) (k .pre .0) (omega (arith, c .before .before .before .before .before .before .before .before .before .if1 .left)) (s .result) (s .ensures .0) (a .done) _ refl refl refl bad,
-      band-few (a .from) (a .to) (a .t .width) (s .result) (a .done) _ (k .pre .0 .begins) (k .pre .1) (s .ensures .1) (s .ensures .2) (k .pre .2) refl refl refl,
-    )
+    let bad = c .either .ensures ∙ ap (λ b. a .done .bad || b) (c .before .too-large .ensures) in
+    record {
+      over = band-surveys (bandStep (a .t)) (a .coefficients .now) (a .prev-coefficients .now) (a .sign .now) (a .from) (a .to) (k .pre .0) (omega (arith, c .before .before .before .before .before .before .before .before .before .if1 .left)) (s .result) (s .ensures .counts) (a .done) _ refl refl refl bad;
+      bound = band-few (a .from) (a .to) (a .t .width) (s .result) (a .done) _ (k .pre .0 .begins) (k .pre .1) (s .ensures .few) (s .ensures .small) (k .pre .2) refl refl refl;
+    }
 
 pub survey-next-spec : {M : Type 1} → statement M
 survey-next-spec = tie.close (tie.spec returns (λ c κs. search needs) (λ c. search needs) (λ c. search needs) (λ c. search needs) (λ c. search needs) (λ c. search needs) (λ c. search needs) (λ c. search needs) mul-t17 add-t18 (λ c κs. search needs) (λ c κs. search needs) returns-2)

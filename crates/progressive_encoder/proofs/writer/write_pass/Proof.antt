@@ -1,11 +1,12 @@
 -- `progressive_encoder::writer::write_pass` meets its contract: each test is one of `listsRefusal`, and the bytes stored are those measured. Assumes nothing.
-use mathlib.Core.Path.{_≡_, refl, sym, ap, _∙_}
-use mathlib.Core.Bool.{Bool, true, false, cond, _||_}
+use mathlib.Core.Path.{_≡_, refl, sym, _∙_}
+use mathlib.Core.Bool.{Bool, true, false, cond}
 use Prim.Native.Nat.{_+_, _/_, _≤_}
 use native.Mathlib.Omega.{arith}
 use lib.Dec.{ltb}
 use lib.ListN.{length}
 use borrow.Author.Tests.{lt-ltb, le-ltb, ltb-false}
+use Rattle.answer.specs.Refusals.{magnitudeOutOfRange, outputTooShort, firstOf}
 use Rattle.upgrade_steps.specs.Steps.{steps}
 use Rattle.progressive_encoder.specs.Encode.{srlStream, rawStream}
 use Rattle.progressive_encoder.specs.Inner.{Lists, passLists, anyTooLarge}
@@ -22,27 +23,28 @@ given k = passLists (steps (k .args .use-reduce-extrapolate) (k .args .prev) (k 
 -- few values, one of which may be too large, and so many raw bytes
 few : (c : tie.After-survey-bands) → length (given (c .before .before .before) .values) ≤ 4096
 unfolding given
-few c = omega (arith, c .survey-bands .ensures .0 .count, c .survey-bands .ensures .1 .count)
+few c = omega (arith, c .survey-bands .ensures .over .count, c .survey-bands .ensures .bound .count)
 
 bad : (c : tie.After-survey-bands) → c .survey-bands .result .bad ≡ anyTooLarge (given (c .before .before .before) .widths) (given (c .before .before .before) .values)
 unfolding given
-bad c = survey-bad (given (c .before .before .before)) (c .survey-bands .result) (c .survey-bands .ensures .0)
+bad c = survey-bad (given (c .before .before .before)) (c .survey-bands .result) (c .survey-bands .ensures .over)
 
 bytes : (c : tie.After-survey-bands) → (c .survey-bands .result .«raw_bits» + 7) / 8 ≡ length (rawStream (given (c .before .before .before) .numberWidths) (given (c .before .before .before) .numbers))
 unfolding given
-bytes c = survey-bytes (given (c .before .before .before)) (c .survey-bands .result) (c .survey-bands .ensures .0)
+bytes c = survey-bytes (given (c .before .before .before)) (c .survey-bands .result) (c .survey-bands .ensures .over)
 
 returns : tie.Need-returns
 unfolding given
 returns c =
     let k = c .before .before .before .before in
     let a = k .args in
-    refused (given k) (a .srl-out .now) (a .raw-out .now) 5 (λ e. omega arith)
+    refused (given k) (a .srl-out .now) (a .raw-out .now) magnitudeOutOfRange (λ e. omega arith)
     (refusal-is (given k) (a .srl-out .now) (a .raw-out .now) (few (c .before)) (sym (c .if1 .taken) ∙ bad (c .before)) refl refl)
 
-or-true : (b : Bool) → (b || true) ≡ true
-or-true true = refl
-or-true false = refl
+-- no room for the raw stream, whatever the other has
+either-full : (b : Bool) → firstOf (cond b outputTooShort 0) outputTooShort ≡ outputTooShort
+either-full true = refl
+either-full false = refl
 
 returns-2 : tie.Need-returns-2
 unfolding given
@@ -51,9 +53,9 @@ returns-2 c =
     let a = k .args in
     let l = given k in
     let full = lt-ltb (length (a .raw-out .now)) (length (rawStream (l .numberWidths) (l .numbers))) (omega (arith, c .if2 .taken, bytes (c .before .before .before))) in
-    refused l (a .srl-out .now) (a .raw-out .now) 7 (λ e. omega arith)
+    refused l (a .srl-out .now) (a .raw-out .now) outputTooShort (λ e. omega arith)
     (refusal-is l (a .srl-out .now) (a .raw-out .now) (few (c .before .before .before)) (sym (c .before .before .if1 .left) ∙ bad (c .before .before .before)) refl (sym full)
-    ∙ ap (λ b. cond b 7 0) (or-true (ltb (length (a .srl-out .now)) (length (srlStream (l .widths) (l .values))))))
+    ∙ either-full (ltb (length (a .srl-out .now)) (length (srlStream (l .widths) (l .values)))))
 
 -- the raw stream has room
 room : (c : tie.Else2) → length (rawStream (given (c .before .before .before .before .before .before) .numberWidths) (given (c .before .before .before .before .before .before) .numbers)) ≤ length (c .before .before .before .before .before .before .args .raw-out .now)
@@ -65,7 +67,7 @@ unfolding given
 returns-3 c =
     let k = c .before .before .before .before .before .before .before .before in
     let a = k .args in
-    refused (given k) (a .srl-out .now) (a .raw-out .now) 7 (λ e. omega arith)
+    refused (given k) (a .srl-out .now) (a .raw-out .now) outputTooShort (λ e. omega arith)
     (refusal-is (given k) (a .srl-out .now) (a .raw-out .now) (few (c .before .before .before .before .before)) (sym (c .before .before .before .before .if1 .left) ∙ bad (c .before .before .before .before .before)) (sym (c .if3 .taken) ∙ c .before .srl-exceeds .ensures) refl)
 
 returns-4 : tie.Need-returns-4
@@ -73,12 +75,9 @@ unfolding given
 returns-4 c =
     let k = c .before .before .before .before .before .before .before .before .before .before .before .before .before .before .before in
     let a = k .args in
-    let w = c .before .before .before .before .write-streams .ensures in
     let e = sym (c .before .before .before .before .before .before .before .if3 .left) ∙ c .before .before .before .before .before .before .before .before .srl-exceeds .ensures in
-    let r = accepted (given k) (a .srl-out .now) (a .raw-out .now)
-    (refusal-is (given k) (a .srl-out .now) (a .raw-out .now) (few (c .before .before .before .before .before .before .before .before .before .before .before .before)) (sym (c .before .before .before .before .before .before .before .before .before .before .before .if1 .left) ∙ bad (c .before .before .before .before .before .before .before .before .before .before .before .before)) e (sym (le-ltb _ _ (room (c .before .before .before .before .before .before .before .before .before)))))
-    (ltb-false _ _ (sym e)) (room (c .before .before .before .before .before .before .before .before .before)) refl refl (w .1) (w .2) in
-    (w .0 ∙ r .0, r .1, r .2)
+    let none = refusal-is (given k) (a .srl-out .now) (a .raw-out .now) (few (c .before .before .before .before .before .before .before .before .before .before .before .before)) (sym (c .before .before .before .before .before .before .before .before .before .before .before .if1 .left) ∙ bad (c .before .before .before .before .before .before .before .before .before .before .before .before)) e (sym (le-ltb _ _ (room (c .before .before .before .before .before .before .before .before .before)))) in
+    accepted (given k) (a .srl-out .now) (a .raw-out .now) none (ltb-false _ _ (sym e)) (room (c .before .before .before .before .before .before .before .before .before)) (c .before .before .before .before .write-streams .ensures)
 
 pub write-pass-spec : {M : Type 1} → statement M
 write-pass-spec = tie.close (tie.spec (λ c κs. search needs) returns (λ c. search needs) returns-2 (λ c κs. search needs) returns-3 (λ c κs. search needs) (λ c. search needs) (λ c. search needs) returns-4)
