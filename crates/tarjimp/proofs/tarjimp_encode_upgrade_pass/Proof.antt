@@ -10,10 +10,10 @@ returns : tie.Need-returns
 returns c =
     let e = c .before .before .before .before .before .before .before .before .encode-upgrade-pass .ensures in
     record {
-      number = c .written-number .ensures ∙ ap writtenNumber (e .0);
-      written = ap₂ (λ n m. n ∷ m ∷ []) (c .before .before .before .srl-count .ensures ∙ ap srlCount (e .0)) (c .before .before .raw-count .ensures ∙ ap rawCount (e .0));
-      srl = e .1;
-      raw = e .2;
+      number = c .written-number .ensures ∙ ap writtenNumber (e .answer);
+      written = ap₂ (λ n m. n ∷ m ∷ []) (c .before .before .before .srl-count .ensures ∙ ap srlCount (e .answer)) (c .before .before .raw-count .ensures ∙ ap rawCount (e .answer));
+      srl = e .srl;
+      raw = e .raw;
     }
 
 pub tarjimp-encode-upgrade-pass-spec : {M : Type 1} → statement M
