@@ -69,8 +69,8 @@ fn figures(
 fn paint(t: tile::TileState, pictures: &mut [u8], picture: usize) -> u8
     requires { ⌜ (picture < 8) × (length (now pictures) ≡ 131072) ⌝ }
 {
-    let from = 16384 * picture;
-    let to = from + 16384;
+    let from = bands::PIXEL_BYTES * picture;
+    let to = from + bands::PIXEL_BYTES;
     answer::number_of(t.reconstruct_to_rgba(&mut pictures[from..to]))
 }
 
@@ -84,8 +84,8 @@ fn measured(
 ) -> report::Figures
     requires { ⌜ (picture < 8) × (length (now pictures) ≡ 131072) × (length (now reference) ≡ 16384) ⌝ }
 {
-    let from = 16384 * picture;
-    let to = from + 16384;
+    let from = bands::PIXEL_BYTES * picture;
+    let to = from + bands::PIXEL_BYTES;
     figures(t, &pictures[from..to], reference, bits, all_bits)
 }
 
@@ -399,7 +399,7 @@ fn with_reference(full: &[i16], folder: &[u8], reference: &[u8])
 fn with_panel(full: &[i16], folder: &[u8])
     requires { ⌜ (length (now full) ≡ 12288) × (length (now folder) ≤ 3072) ⌝ }
 {
-    let mut reference = [0u8; 16384];
+    let mut reference = [0u8; bands::PIXEL_BYTES];
     if !uncut(full, &mut reference) {
         return;
     }
@@ -418,7 +418,7 @@ pub fn demo(folder: &[u8])
     if !files::make_folder(folder) {
         return;
     }
-    let mut full = [0i16; 12288];
+    let mut full = [0i16; bands::COEFFICIENTS_PER_TILE];
     panel_picture::panel(&mut full);
     with_panel(&full, folder);
 }

@@ -6,12 +6,12 @@ ghost use lib.ListN.{length};
 pub fn loaded(full: &[i16], row: [u8; 10]) -> tile::Loaded
     requires { ⌜ length (now full) ≡ 12288 ⌝ }
 {
-    let mut y = [0i16; 4096];
-    let mut y_sign = [0i8; 4096];
-    let mut cb = [0i16; 4096];
-    let mut cb_sign = [0i8; 4096];
-    let mut cr = [0i16; 4096];
-    let mut cr_sign = [0i8; 4096];
+    let mut y = [0i16; bands::COEFFICIENTS_PER_COMPONENT];
+    let mut y_sign = [0i8; bands::COEFFICIENTS_PER_COMPONENT];
+    let mut cb = [0i16; bands::COEFFICIENTS_PER_COMPONENT];
+    let mut cb_sign = [0i8; bands::COEFFICIENTS_PER_COMPONENT];
+    let mut cr = [0i16; bands::COEFFICIENTS_PER_COMPONENT];
+    let mut cr_sign = [0i8; bands::COEFFICIENTS_PER_COMPONENT];
     panel_streams::cut_at(full, 0, row, &mut y, &mut y_sign);
     panel_streams::cut_at(full, 1, row, &mut cb, &mut cb_sign);
     panel_streams::cut_at(full, 2, row, &mut cr, &mut cr_sign);
@@ -38,12 +38,12 @@ fn decoded(
 ) -> tile::Upgraded
     requires { ⌜ (length (now srl) ≡ 49152) × (length (now raw) ≡ 49152) ⌝ }
 {
-    let y_srl = panel_streams::at_most(lengths[0], 16384);
-    let y_raw = panel_streams::at_most(lengths[1], 16384);
-    let cb_srl = 16384 + panel_streams::at_most(lengths[2], 16384);
-    let cb_raw = 16384 + panel_streams::at_most(lengths[3], 16384);
-    let cr_srl = 32768 + panel_streams::at_most(lengths[4], 16384);
-    let cr_raw = 32768 + panel_streams::at_most(lengths[5], 16384);
+    let y_srl = panel_streams::at_most(lengths[0], panel_streams::STREAM);
+    let y_raw = panel_streams::at_most(lengths[1], panel_streams::STREAM);
+    let cb_srl = panel_streams::STREAM + panel_streams::at_most(lengths[2], panel_streams::STREAM);
+    let cb_raw = panel_streams::STREAM + panel_streams::at_most(lengths[3], panel_streams::STREAM);
+    let cr_srl = 32768 + panel_streams::at_most(lengths[4], panel_streams::STREAM);
+    let cr_raw = 32768 + panel_streams::at_most(lengths[5], panel_streams::STREAM);
     t.decode_upgrade(
         &srl[..y_srl],
         &raw[..y_raw],

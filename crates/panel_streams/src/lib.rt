@@ -5,6 +5,9 @@ ghost use mathlib.Core.Path.{_≡_};
 ghost use Prim.Native.Nat.{_≤_};
 ghost use lib.ListN.{length};
 
+// The room for a stream.
+pub const STREAM: usize = 16384;
+
 // The positions after a stage, in band order. The bottom band is whole from the first cut on, since the writer sends nothing, or the
 // wrong way, for a negative value of the bottom (docs/DIFFERENCES.md). No magnitude outside it reaches 2 to the 7.
 pub fn positions(stage: usize) -> [u8; 10] {
@@ -20,8 +23,8 @@ pub fn positions(stage: usize) -> [u8; 10] {
 pub fn cut_at(full: &[i16], k: usize, row: [u8; 10], out: &mut [i16], signs: &mut [i8])
     requires { ⌜ (k ≤ 2) × (length (now full) ≡ 12288) × (4096 ≤ length (now out)) × (4096 ≤ length (now signs)) ⌝ }
 {
-    let from = 4096 * k;
-    let to = from + 4096;
+    let from = bands::COEFFICIENTS_PER_COMPONENT * k;
+    let to = from + bands::COEFFICIENTS_PER_COMPONENT;
     cut::cut_component(&full[from..to], row, out, signs);
 }
 
@@ -100,13 +103,13 @@ fn write_at(
         × (length (now srl) ≡ 49152)
         × (length (now raw) ≡ 49152) ⌝ }
 {
-    let mut target = [0i16; 4096];
-    let mut target_signs = [0i8; 4096];
+    let mut target = [0i16; bands::COEFFICIENTS_PER_COMPONENT];
+    let mut target_signs = [0i8; bands::COEFFICIENTS_PER_COMPONENT];
     cut_at(full, k, curr, &mut target, &mut target_signs);
-    let from = 4096 * k;
-    let to = from + 4096;
-    let at = 16384 * k;
-    let end = at + 16384;
+    let from = bands::COEFFICIENTS_PER_COMPONENT * k;
+    let to = from + bands::COEFFICIENTS_PER_COMPONENT;
+    let at = STREAM * k;
+    let end = at + STREAM;
     write(
         &target,
         &coefficients[from..to],
@@ -164,7 +167,7 @@ pub fn total(lengths: [usize; 6]) -> usize
     let mut sum: usize = 0;
     let mut i: usize = 0;
     while i < 6 {
-        sum += at_most(lengths[i], 16384);
+        sum += at_most(lengths[i], STREAM);
         i += 1;
     }
     sum
