@@ -103,10 +103,7 @@ fn show(
     pictures: &mut [u8],
 ) -> Run
     requires { ⌜
-        (picture < 8)
-        × (length (now file) ≤ 64)
-        × (length (now folder) ≤ 3072)
-        × (length (now reference) ≡ 16384)
+        (picture < 8) × (length (now file) ≤ 64) × (length (now folder) ≤ 3072) × (length (now reference) ≡ 16384)
         × (length (now pictures) ≡ 131072) ⌝ }
 {
     let refusal = paint(t, pictures, picture);
@@ -138,12 +135,8 @@ fn first(
     pictures: &mut [u8],
 ) -> Run
     requires { ⌜
-        (picture < 8)
-        × (length (now full) ≡ 12288)
-        × (length (now file) ≤ 64)
-        × (length (now folder) ≤ 3072)
-        × (length (now reference) ≡ 16384)
-        × (length (now pictures) ≡ 131072) ⌝ }
+        (picture < 8) × (length (now full) ≡ 12288) × (length (now file) ≤ 64) × (length (now folder) ≤ 3072)
+        × (length (now reference) ≡ 16384) × (length (now pictures) ≡ 131072) ⌝ }
 {
     let done = passes::loaded(full, panel_streams::positions(0));
     let answer = done.answer;
@@ -182,12 +175,8 @@ fn next(
     pictures: &mut [u8],
 ) -> Run
     requires { ⌜
-        (picture < 8)
-        × (length (now full) ≡ 12288)
-        × (length (now file) ≤ 64)
-        × (length (now folder) ≤ 3072)
-        × (length (now reference) ≡ 16384)
-        × (length (now pictures) ≡ 131072) ⌝ }
+        (picture < 8) × (length (now full) ≡ 12288) × (length (now file) ≤ 64) × (length (now folder) ≤ 3072)
+        × (length (now reference) ≡ 16384) × (length (now pictures) ≡ 131072) ⌝ }
 {
     if !before.is_good {
         return before;
@@ -227,13 +216,8 @@ fn opening(
     pictures: &mut [u8],
 ) -> Run
     requires { ⌜
-        (picture < 7)
-        × (length (now «cut_file») ≤ 64)
-        × (length (now «pass_file») ≤ 64)
-        × (length (now full) ≡ 12288)
-        × (length (now folder) ≤ 3072)
-        × (length (now reference) ≡ 16384)
-        × (length (now pictures) ≡ 131072) ⌝ }
+        (picture < 7) × (length (now «cut_file») ≤ 64) × (length (now «pass_file») ≤ 64) × (length (now full) ≡ 12288)
+        × (length (now folder) ≤ 3072) × (length (now reference) ≡ 16384) × (length (now pictures) ≡ 131072) ⌝ }
 {
     let a = first(full, run, cut_file, picture, folder, reference, pictures);
     next(
@@ -254,9 +238,7 @@ fn opening(
 // The second and the third pass of the whole stream.
 fn closing(before: Run, full: &[i16], folder: &[u8], reference: &[u8], pictures: &mut [u8]) -> Run
     requires { ⌜
-        (length (now full) ≡ 12288)
-        × (length (now folder) ≤ 3072)
-        × (length (now reference) ≡ 16384)
+        (length (now full) ≡ 12288) × (length (now folder) ≤ 3072) × (length (now reference) ≡ 16384)
         × (length (now pictures) ≡ 131072) ⌝ }
 {
     let run = b"whole";
@@ -293,9 +275,7 @@ fn closing(before: Run, full: &[i16], folder: &[u8], reference: &[u8], pictures:
 // All three passes arrive.
 fn whole(full: &[i16], folder: &[u8], reference: &[u8], pictures: &mut [u8]) -> Run
     requires { ⌜
-        (length (now full) ≡ 12288)
-        × (length (now folder) ≤ 3072)
-        × (length (now reference) ≡ 16384)
+        (length (now full) ≡ 12288) × (length (now folder) ≤ 3072) × (length (now reference) ≡ 16384)
         × (length (now pictures) ≡ 131072) ⌝ }
 {
     let f0 = b"whole-0-first-cut.png";
@@ -307,9 +287,7 @@ fn whole(full: &[i16], folder: &[u8], reference: &[u8], pictures: &mut [u8]) -> 
 // The stream ends half-way in the second pass.
 fn cut(full: &[i16], folder: &[u8], reference: &[u8], pictures: &mut [u8]) -> Run
     requires { ⌜
-        (length (now full) ≡ 12288)
-        × (length (now folder) ≤ 3072)
-        × (length (now reference) ≡ 16384)
+        (length (now full) ≡ 12288) × (length (now folder) ≤ 3072) × (length (now reference) ≡ 16384)
         × (length (now pictures) ≡ 131072) ⌝ }
 {
     let run = b"cut";
@@ -357,9 +335,7 @@ fn after_whole(
     pictures: &mut [u8],
 )
     requires { ⌜
-        (length (now full) ≡ 12288)
-        × (length (now folder) ≤ 3072)
-        × (length (now reference) ≡ 16384)
+        (length (now full) ≡ 12288) × (length (now folder) ≤ 3072) × (length (now reference) ≡ 16384)
         × (length (now pictures) ≡ 131072) ⌝ }
 {
     let b = cut(full, folder, reference, pictures);
@@ -374,9 +350,7 @@ fn after_whole(
 
 fn both_runs(full: &[i16], folder: &[u8], reference: &[u8], pictures: &mut [u8])
     requires { ⌜
-        (length (now full) ≡ 12288)
-        × (length (now folder) ≤ 3072)
-        × (length (now reference) ≡ 16384)
+        (length (now full) ≡ 12288) × (length (now folder) ≤ 3072) × (length (now reference) ≡ 16384)
         × (length (now pictures) ≡ 131072) ⌝ }
 {
     let a = whole(full, folder, reference, pictures);

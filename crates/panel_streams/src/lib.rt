@@ -96,12 +96,8 @@ fn write_at(
     raw: &mut [u8],
 ) -> Written
     requires { ⌜
-        (k ≤ 2)
-        × (length (now full) ≡ 12288)
-        × (length (now coefficients) ≡ 12288)
-        × (length (now signs) ≡ 12288)
-        × (length (now srl) ≡ 49152)
-        × (length (now raw) ≡ 49152) ⌝ }
+        (k ≤ 2) × (length (now full) ≡ 12288) × (length (now coefficients) ≡ 12288) × (length (now signs) ≡ 12288)
+        × (length (now srl) ≡ 49152) × (length (now raw) ≡ 49152) ⌝ }
 {
     let mut target = [0i16; bands::COEFFICIENTS_PER_COMPONENT];
     let mut target_signs = [0i8; bands::COEFFICIENTS_PER_COMPONENT];
@@ -143,11 +139,8 @@ pub fn write_all(
     raw: &mut [u8],
 ) -> Streams
     requires { ⌜
-        (length (now full) ≡ 12288)
-        × (length (now coefficients) ≡ 12288)
-        × (length (now signs) ≡ 12288)
-        × (length (now srl) ≡ 49152)
-        × (length (now raw) ≡ 49152) ⌝ }
+        (length (now full) ≡ 12288) × (length (now coefficients) ≡ 12288) × (length (now signs) ≡ 12288)
+        × (length (now srl) ≡ 49152) × (length (now raw) ≡ 49152) ⌝ }
 {
     let y = write_at(0, full, coefficients, signs, prev, curr, srl, raw);
     let cb = write_at(1, full, coefficients, signs, prev, curr, srl, raw);

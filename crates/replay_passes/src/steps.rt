@@ -198,13 +198,8 @@ fn streams_at(
     raw: &mut [u8],
 ) -> Lengths
     requires { ⌜
-        (at ≤ 65536)
-        × (i ≤ 255)
-        × (k ≤ 2)
-        × (length (now cs) ≡ 12288)
-        × (length (now ss) ≡ 12288)
-        × (length (now srl) ≡ 49152)
-        × (length (now raw) ≡ 49152) ⌝ }
+        (at ≤ 65536) × (i ≤ 255) × (k ≤ 2) × (length (now cs) ≡ 12288) × (length (now ss) ≡ 12288)
+        × (length (now srl) ≡ 49152) × (length (now raw) ≡ 49152) ⌝ }
 {
     let from = 16384 * k;
     let to = from + 16384;
@@ -238,11 +233,7 @@ pub fn all_streams(
     raw: &mut [u8],
 ) -> [usize; 6]
     requires { ⌜
-        (at ≤ 65536)
-        × (i ≤ 255)
-        × (length (now cs) ≡ 12288)
-        × (length (now ss) ≡ 12288)
-        × (length (now srl) ≡ 49152)
+        (at ≤ 65536) × (i ≤ 255) × (length (now cs) ≡ 12288) × (length (now ss) ≡ 12288) × (length (now srl) ≡ 49152)
         × (length (now raw) ≡ 49152) ⌝ }
 {
     let y = streams_at(c, at, i, 0, e, positions, rows[0], cs, ss, srl, raw);
