@@ -15,7 +15,7 @@ use Rattle.fixed.specs.Fixed.{clampI16, floorShift, isZero, signOf}
 use Rattle.fixed.proofs.Sign.{abs-minus, zero-is}
 use Rattle.bands.specs.Positions.{rowInDomain}
 use Rattle.bands.proofs.Spread.{place-whole}
-use Rattle.srl_encoder.specs.Encode.{firstOf}
+use Rattle.answer.specs.Refusals.{firstOf}
 use Rattle.srl.specs.Laws.{Legal, legal}
 use Rattle.upgrade_steps.specs.Steps.{Step, Source, skipped, srl, raw, source, sourceOf, steps, stepOf, srlWidth, srlWidths, rawWidth, rawWidths}
 use Rattle.answer.specs.Refusals.{longEnough}

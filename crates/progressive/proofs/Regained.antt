@@ -21,11 +21,12 @@ use Rattle.bits.specs.Written.{bitsOf, bitsOfAll, pack}
 use Rattle.bits.proofs.Holds.{Holds, holds-append, num-holds, pack-holds}
 use Rattle.bits.proofs.Puts.{length-bitsOf}
 use Rattle.srl_decoder.specs.Srl.{start, values}
-use Rattle.srl_encoder.specs.Encode.{valueZeros, valueFault, firstOf}
+use Rattle.answer.specs.Refusals.{firstOf}
+use Rattle.srl_encoder.specs.Encode.{valueZeros, valueFault}
 use Rattle.srl_encoder.specs.Finish.{streamBits}
 use Rattle.srl.specs.Laws.{Legal, legal}
 use Rattle.srl.proofs.Back.{value-legal}
-use Rattle.srl_encoder.proofs.EncodedValues.{first-none}
+use Rattle.answer.proofs.Numbers.{first-none}
 use Rattle.srl.proofs.Trip.{stream-values}
 use Rattle.upgrade_steps.specs.Steps.{Step, Source, skipped, srl, raw, source, sourceOf, steps, stepOf, srlWidths, rawWidths}
 use Rattle.answer.specs.Refusals.{longEnough}

@@ -8,9 +8,8 @@ use lib.Dec.{ltb}
 use lib.ListN.{length}
 use lib.Seq.{sets}
 use Rattle.bits.proofs.Packed.{sets-start}
-use Rattle.srl_rules.specs.Rules.{stored}
-use Rattle.srl_encoder.specs.Encode.{firstOf}
-use Rattle.srl_encoder.proofs.EncodedCalls.{stored-some}
+use Rattle.answer.specs.Refusals.{firstOf, stored}
+use Rattle.answer.proofs.Numbers.{stored-some}
 use Rattle.progressive_encoder.specs.Encode.{srlStream, rawStream, written}
 use Rattle.progressive_encoder.specs.Inner.{Lists, anyTooLarge, listsRefusal, listsAnswer, listsSrlOut, listsRawOut}
 use Rattle.progressive_encoder.specs.declared.Written.the-variants.{Bytes, Refused}

@@ -18,7 +18,8 @@ use Rattle.bits.specs.declared.writer.BitWriter.{BitWriter}
 use Rattle.bits.specs.declared.writer.BitCount.{BitCount}
 use Rattle.bits.proofs.Puts.{after-append, write-append, after-sound, after-at, wrote-sound, wrote-at, length-bitsOf}
 use Rattle.bits.proofs.Packed.{counted-none, counted-two, length-pack, sets-append, padded}
-use Rattle.srl_encoder.specs.Encode.{valueBits, valueKp, valueZeros, firstOf}
+use Rattle.answer.specs.Refusals.{firstOf}
+use Rattle.srl_encoder.specs.Encode.{valueBits, valueKp, valueZeros}
 use Rattle.srl_encoder.specs.Finish.{flush, streamBits}
 use Rattle.srl_encoder.specs.Inner.{valueState, valueWrite, valueMeasure, placeOf}
 use Rattle.srl_encoder.specs.declared.encoder.CallState.{CallState}

@@ -9,11 +9,10 @@ use lib.ListN.{length}
 use Rattle.fixed.specs.Fixed.{clampI16, floorShift}
 use Rattle.bands.specs.Positions.{rowInDomain}
 use Rattle.bits.specs.Written.{bitsOfAll, pack}
-use Rattle.srl_rules.specs.Rules.{stored}
-use Rattle.srl_encoder.specs.Encode.{valueZeros, valueFault, firstOf}
+use Rattle.srl_encoder.specs.Encode.{valueZeros, valueFault}
 use Rattle.srl_encoder.specs.Finish.{streamBits}
 use Rattle.upgrade_steps.specs.Steps.{Step, Source, skipped, srl, raw, source, steps, srlWidths, rawWidths}
-use Rattle.answer.specs.Refusals.{longEnough}
+use Rattle.answer.specs.Refusals.{firstOf, longEnough, stored}
 use Rattle.progressive_encoder.specs.declared.Written.{Written}
 use Rattle.progressive_encoder.specs.declared.Written.the-variants.{Bytes, Refused}
 

@@ -12,8 +12,7 @@ use Rattle.bits.specs.Written.{bitsOfAll, writer, after}
 use Rattle.bits.specs.Inner.{Sound, write, padCount, padOut, counted}
 use Rattle.bits.specs.declared.writer.BitWriter.{BitWriter}
 use Rattle.bits.specs.declared.writer.BitCount.{BitCount}
-use Rattle.srl_rules.specs.Rules.{stored}
-use Rattle.srl_encoder.specs.Encode.{firstOf}
+use Rattle.answer.specs.Refusals.{firstOf, stored}
 use Rattle.srl_encoder.specs.Finish.{flush, streamBits}
 use Rattle.srl_encoder.specs.Inner.{largest, placeOf, Good, GoodMeasure}
 use Rattle.srl_encoder.specs.declared.encoder.CallState.{CallState}

@@ -1,8 +1,8 @@
 -- The round trip: what calls of `encode` and `finish` wrote is read back by calls of `decode`, however both sides split the values.
 use mathlib.Core.Path.{_≡_, refl, sym, ap, ap₂, _∙_, subst}
-use mathlib.Core.Bool.{Bool, true, false, cond}
+use mathlib.Core.Bool.{Bool, true, false, _||_}
 use mathlib.Core.List.{List, [], _∷_, _++_, append-assoc, append-nil}
-use Prim.Native.Nat.{ℕ, zero, suc, _+_, _-_, _^_, _≤_, _<_}
+use Prim.Native.Nat.{ℕ, zero, suc, _-_, _^_, _≤_, _<_}
 use native.Mathlib.Decide.{decLt}
 use native.Mathlib.Omega.{arith}
 use borrow.Author.Tests.{lt-ltb, le-ltb}
@@ -15,13 +15,14 @@ use Rattle.bits.proofs.Past.{same, past, alike-held}
 use Rattle.bits.proofs.Places.{read-place}
 use Rattle.srl_decoder.specs.Srl.{Reader, reader, start, values, readerAfter}
 use Rattle.srl_decoder.specs.Decode.{startState, opened, closed, stateOk, decodeRefusal, decoded, decodeAnswer, decodeOut, decodedState}
-use Rattle.srl_rules.specs.Rules.{widthOk, noRoom, stored}
+use Rattle.answer.specs.Refusals.{invalidBitCount, unless, firstOf, stored}
+use Rattle.answer.proofs.Numbers.{first-none, passes, room-for}
+use Rattle.srl_rules.specs.Rules.{widthOk}
 use Rattle.srl_encoder.specs.Encode.{valueBits, valueKp, valueZeros, callBits, callKp, callZeros, callBytes, callAfter, freshWriter, valueFault, fault}
 use Rattle.srl_encoder.specs.Finish.{streamBits}
 use Rattle.srl.specs.Laws.{Legal, legal, Call, Ask, Accepted, streamFrom, given, widths, asked, room, readBack, RoundTrip}
 use Rattle.srl_decoder.specs.declared.SrlState.{SrlState}
 use Rattle.srl_encoder.specs.declared.SrlWriter.{SrlWriter}
-use Rattle.srl_encoder.proofs.EncodedValues.{first-none, passes}
 use Rattle.srl.proofs.Streamed.{allBits, stream-packed, accepted}
 use Rattle.srl_decoder.proofs.States.{after-mono, closed-ok}
 use Rattle.srl.proofs.Trip.{stream-values}
@@ -92,14 +93,11 @@ fine-rest : (w n : ℕ) {ws : List ℕ} → Fine (replicate n w ++ ws) → Fine 
 fine-rest w zero f = f
 fine-rest w (suc n) (fine h f) = fine-rest w n f
 
-room-for : (n : ℕ) → noRoom n n ≡ 0
-room-for n = simp (le-ltb n n (omega arith))
-
 -- no call is refused: its width is fine, or it asks for nothing
 no-refusal : (s : List ℕ) (st : SrlState) (w n : ℕ) (ws : List ℕ) → stateOk st ≡ true → Fine (replicate n w ++ ws) → decodeRefusal s st n n w ≡ 0
 no-refusal s st w zero ws h f = simp h (by (widthOk w))
   where
-    by : (b : Bool) → _≡_ {A = ℕ} (cond b 0 0) 0
+    by : (b : Bool) → firstOf (unless (b || true) invalidBitCount) 0 ≡ 0
     by true = refl
     by false = refl
 no-refusal s st w (suc n) ws h (fine g f) = simp (h, g) (room-for (suc n))

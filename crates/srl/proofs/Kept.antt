@@ -4,7 +4,7 @@ use Prim.Native.Nat.{ℕ, zero, suc}
 use lib.ListN.{length, replicate}
 use Rattle.srl_decoder.specs.Srl.{values, readerAfter}
 use Rattle.srl_decoder.specs.Decode.{opened, closed, decodeRefusal, decoded, decodedNumber, decodedCount, decodedState}
-use Rattle.srl_rules.specs.Rules.{stored}
+use Rattle.answer.specs.Refusals.{stored}
 use Rattle.srl_encoder.specs.Encode.{freshWriter, callBytes, callAfter, encodeRefusal, encoded, encodedNumber, encodedCount, encodedState}
 use Rattle.srl_encoder.specs.Finish.{finishBytes, finishRefusal, finished, finishedNumber, finishedCount, finishedState}
 use Rattle.srl_held.specs.Held.{outcome, outcomeNumber, outcomeCount}

@@ -8,7 +8,7 @@ ghost use Rattle.bits.specs.Bits.{bitAt, zeros, bitsRead};
 ghost use Rattle.bits.specs.Inner.{Top, Front};
 ghost use Rattle.srl_decoder.specs.Srl.{mostZeros, behind, codeWord, values, readerAfter};
 ghost use Rattle.srl_decoder.specs.Decode.{opened, closed, stateOk, dueAmong, decoded};
-ghost use Rattle.srl_rules.specs.Rules.{noRoom, stored};
+ghost use Rattle.answer.specs.Refusals.{noRoom, stored};
 ghost use Rattle.srl_rules.specs.Inner.{Width};
 ghost use Rattle.srl_decoder.specs.Inner.{Sound, shut, stateBy, heldReader, handed, readBehind, below, Brought, Clear};
 use crate::Decoded;
@@ -295,7 +295,7 @@ pub fn store_if_room(
     ensures { λ r. ⌜ (r ≡ decoded (noRoom (length (now (out .entry))) «num_values») «num_values» (closed (now (src .entry)) st (readerAfter (now (src .entry)) (replicate «num_values» «num_bits») (opened st))) st) × (now (out .exit) ≡ stored (noRoom (length (now (out .entry))) «num_values») (values (now (src .entry)) (replicate «num_values» «num_bits») (opened st)) (now (out .entry))) ⌝ }
 {
     if out.len() < num_values {
-        return Decoded::Refused(7, st);
+        return Decoded::Refused(answer::OUTPUT_TOO_SHORT, st);
     }
     let done = store_values(src, hold(src, st), out, num_values, num_bits);
     Decoded::Values(num_values, hand_back(src, st, done))

@@ -51,13 +51,13 @@ pub fn decode(
     ensures { λ r. ⌜ (r ≡ decodeAnswer (now (src .entry)) state (length (now (out .entry))) «num_values» «num_bits») × (now (out .exit) ≡ decodeOut (now (src .entry)) state (now (out .entry)) «num_values» «num_bits») ⌝ }
 {
     if !decoder::state_ok(state) {
-        return Decoded::Refused(8, state);
+        return Decoded::Refused(answer::IMPOSSIBLE_STATE, state);
     }
     if srl_rules::width_ok(num_bits) {
         return decoder::store_if_room(src, state, out, num_values, num_bits);
     }
     if decoder::any_due(src, state, num_values) {
-        return Decoded::Refused(4, state);
+        return Decoded::Refused(answer::INVALID_BIT_COUNT, state);
     }
     decoder::store_if_room(src, state, out, num_values, 1)
 }

@@ -15,15 +15,17 @@ use Rattle.bits.specs.Inner.{Sound, Room, write, padCount, padOut, counted}
 use Rattle.bits.specs.declared.writer.BitWriter.{BitWriter}
 use Rattle.bits.proofs.Puts.{after-sound, after-append, write-append, Wrote, wrote-sound, wrote-at}
 use Rattle.bits.proofs.Packed.{write-whole, after-whole, count-after, counted-two, sets-start, sets-append, pad-count, pad-out}
-use Rattle.srl_rules.specs.Rules.{widthOk, noRoom, stored}
-use Rattle.srl_encoder.specs.Encode.{valueBits, valueKp, valueZeros, callBits, callKp, callZeros, sink, bitsFrom, callBytes, callAfter, valueFault, firstOf, fault, writerOk, encodeRefusal, encoded, encodeAnswer, encodeOut}
+use Rattle.answer.specs.Refusals.{invalidBitCount, outputTooShort, impossibleState, unless, firstOf, noRoom, stored}
+use Rattle.answer.proofs.Numbers.{first-none, passes, stored-some}
+use Rattle.srl_rules.specs.Rules.{widthOk}
+use Rattle.srl_encoder.specs.Encode.{valueBits, valueKp, valueZeros, callBits, callKp, callZeros, sink, bitsFrom, callBytes, callAfter, valueFault, fault, writerOk, encodeRefusal, encoded, encodeAnswer, encodeOut}
 use Rattle.srl_encoder.specs.Finish.{flush, finishBytes}
 use Rattle.srl_encoder.specs.Inner.{callStart, measureStart, writerOf, valueState, valueWrite, callState, callWrite, placeOf, valueMeasure, callCount, GoodWriter}
 use Rattle.srl_encoder.specs.declared.SrlWriter.{SrlWriter}
 use Rattle.srl_encoder.specs.declared.Encoded.the-variants.{Bytes, Refused}
 use Rattle.srl_encoder.specs.declared.encoder.CallState.{CallState}
 use Rattle.srl_encoder.specs.declared.encoder.Measured.{Measured}
-use Rattle.srl_encoder.proofs.EncodedValues.{value-kp, first-none, passes}
+use Rattle.srl_encoder.proofs.EncodedValues.{value-kp}
 use Rattle.srl_encoder.proofs.Runs.{length-flush}
 use Rattle.srl_rules.proofs.Widths.{both}
 
@@ -104,19 +106,16 @@ pub encoded-some : (n m : ℕ) (next st : SrlWriter) → (n ≡ 0 → ⊥) → e
 encoded-some zero m next st h = absurd (h refl)
 encoded-some (suc n) m next st h = refl
 
-pub stored-some : (n : ℕ) (bytes out : List ℕ) → (n ≡ 0 → ⊥) → stored n bytes out ≡ out
-stored-some zero bytes out h = absurd (h refl)
-stored-some (suc n) bytes out h = refl
-
 module _ (st : SrlWriter) (vs : List ℤ) (out : List ℕ) (w : ℕ) where
   -- `encodeRefusal` by its two tests and the values' refusal
   abbrev refusal : Bool → Bool → ℕ → ℕ
-  refusal s q f = cond s (cond q (firstOf f (noRoom (length out) (length (callBytes w st vs)))) 4) 8
+  refusal s q f =
+      firstOf (unless s impossibleState) (firstOf (unless q invalidBitCount) (firstOf f (noRoom (length out) (length (callBytes w st vs)))))
 
-  pub refusal-state : writerOk st ≡ false → encodeRefusal st vs (length out) w ≡ 8
+  pub refusal-state : writerOk st ≡ false → encodeRefusal st vs (length out) w ≡ impossibleState
   refusal-state s = ap (λ b. refusal b (widthOk w) (fault w (st .«pending_zeros») vs)) s
 
-  pub refusal-width : writerOk st ≡ true → widthOk w ≡ false → encodeRefusal st vs (length out) w ≡ 4
+  pub refusal-width : writerOk st ≡ true → widthOk w ≡ false → encodeRefusal st vs (length out) w ≡ invalidBitCount
   refusal-width s q = ap (λ b. refusal b (widthOk w) (fault w (st .«pending_zeros») vs)) s ∙ ap (λ b. refusal true b (fault w (st .«pending_zeros») vs)) q
 
   pub refusal-rest : writerOk st ≡ true → widthOk w ≡ true → {f : ℕ} → f ≡ fault w (st .«pending_zeros») vs
@@ -128,8 +127,8 @@ module _ (st : SrlWriter) (vs : List ℤ) (out : List ℕ) (w : ℕ) where
 
   -- past the values' refusals it is that of the bytes measured
   pub refusal-room : writerOk st ≡ true → widthOk w ≡ true → {f : ℕ} → f ≡ fault w (st .«pending_zeros») vs → f ≡ 0
-      → {r : Bool} → r ≡ ltb (length out) (length (callBytes w st vs)) → encodeRefusal st vs (length out) w ≡ cond r 7 0
-  refusal-room s q e z m = refusal-rest s q (sym z ∙ e) ∙ ap (λ b. cond b 7 0) (sym m)
+      → {r : Bool} → r ≡ ltb (length out) (length (callBytes w st vs)) → encodeRefusal st vs (length out) w ≡ cond r outputTooShort 0
+  refusal-room s q e z m = refusal-rest s q (sym z ∙ e) ∙ ap (λ b. cond b outputTooShort 0) (sym m)
 
   pub refused : (n : ℕ) → (n ≡ 0 → ⊥) → encodeRefusal st vs (length out) w ≡ n → (Refused n st ≡ encodeAnswer st vs (length out) w) × (out ≡ encodeOut st vs out w)
   refused n h r = (

@@ -1,14 +1,15 @@
 -- Laws of a value that the encoder is given: its bits, what it leaves, its refusal. Assumes nothing.
 use mathlib.Core.Path.{_≡_, refl, ap, sym, _∙_}
-use mathlib.Core.Bool.{Bool, true, false, cond}
+use mathlib.Core.Bool.{true}
 use mathlib.Core.List.{_++_}
 use Prim.Native.Nat.{ℕ, zero, suc, _+_, _-_, _^_, _≤_, _<_}
 use native.Mathlib.Omega.{arith}
 use lib.Dec.{ltb}
 use lib.IntN.{ℤ, pos, negsuc, natAbs}
-use borrow.Author.Tests.{lt-ltb, le-ltb, ltb-true}
+use borrow.Author.Tests.{lt-ltb, le-ltb}
 use Rattle.fixed.specs.Fixed.{isNegative}
-use Rattle.srl_encoder.specs.Encode.{runBits, runKp, nonzeroBits, valueBits, valueKp, valueZeros, valueFault, firstOf}
+use Rattle.srl_encoder.specs.Encode.{runBits, runKp, nonzeroBits, valueBits, valueKp, valueZeros, valueFault}
+use Rattle.answer.specs.Refusals.{magnitudeOutOfRange, zeroRunTooLong, unless}
 use Rattle.srl_encoder.proofs.Runs.{runKp-le}
 
 -- a zero, and what is not a zero
@@ -41,29 +42,12 @@ value-zeros z (pos (suc m)) = omega arith
 value-zeros z (negsuc m) = omega arith
 
 -- refusals
-pub fault-nonzero : (v : ℤ) (w z m : ℕ) → m ≡ natAbs v → (m ≡ 0 → ⊥) → valueFault w z v ≡ cond (ltb (m - 1) (2 ^ w - 1)) 0 5
+pub fault-nonzero : (v : ℤ) (w z m : ℕ) → m ≡ natAbs v → (m ≡ 0 → ⊥) → valueFault w z v ≡ unless (ltb (m - 1) (2 ^ w - 1)) magnitudeOutOfRange
 fault-nonzero (pos zero) w z m e n = absurd (n e)
-fault-nonzero (pos (suc j)) w z m e n = let q : j ≡ m - 1 = omega arith in ap (λ x. cond (ltb x (2 ^ w - 1)) 0 5) q
-fault-nonzero (negsuc j) w z m e n = let q : j ≡ m - 1 = omega arith in ap (λ x. cond (ltb x (2 ^ w - 1)) 0 5) q
+fault-nonzero (pos (suc j)) w z m e n = let q : j ≡ m - 1 = omega arith in ap (λ x. unless (ltb x (2 ^ w - 1)) magnitudeOutOfRange) q
+fault-nonzero (negsuc j) w z m e n = let q : j ≡ m - 1 = omega arith in ap (λ x. unless (ltb x (2 ^ w - 1)) magnitudeOutOfRange) q
 
 pub fault-none : (v : ℤ) (w z m : ℕ) → m ≡ natAbs v → m ≤ 2 ^ w - 1 → (m ≡ 0 → z < 4096) → valueFault w z v ≡ 0
-fault-none (pos zero) w z m e l h = ap (λ b. cond b 0 6) (lt-ltb z 4096 (h e))
-fault-none (pos (suc j)) w z m e l h = ap (λ b. cond b 0 5) (lt-ltb j (2 ^ w - 1) (omega arith))
-fault-none (negsuc j) w z m e l h = ap (λ b. cond b 0 5) (lt-ltb j (2 ^ w - 1) (omega arith))
-
-pub firstOf-some : (n f : ℕ) → (n ≡ 0 → ⊥) → firstOf n f ≡ n
-firstOf-some zero f h = absurd (h refl)
-firstOf-some (suc n) f h = refl
-
--- neither of two refusals
-pub first-none : (n f : ℕ) → firstOf n f ≡ 0 → (n ≡ 0) × (f ≡ 0)
-first-none zero f e = (refl, e)
-first-none (suc n) f e = absurd (omega arith)
-
--- a test that gives no refusal, whichever number it would give
-pub passes : (m n k : ℕ) → _≡_ {A = ℕ} (cond (ltb m n) 0 (suc k)) 0 → m < n
-passes m n k = by (ltb m n) refl
-  where
-    by : (b : Bool) → ltb m n ≡ b → _≡_ {A = ℕ} (cond b 0 (suc k)) 0 → m < n
-    by true q e = ltb-true m n q
-    by false q e = absurd (omega arith)
+fault-none (pos zero) w z m e l h = ap (λ b. unless b zeroRunTooLong) (lt-ltb z 4096 (h e))
+fault-none (pos (suc j)) w z m e l h = ap (λ b. unless b magnitudeOutOfRange) (lt-ltb j (2 ^ w - 1) (omega arith))
+fault-none (negsuc j) w z m e l h = ap (λ b. unless b magnitudeOutOfRange) (lt-ltb j (2 ^ w - 1) (omega arith))

@@ -104,13 +104,13 @@ fn value_fault(zeros: usize, v: i16, num_bits: u8) -> u8
 {
     let m = fixed::magnitude(v);
     if srl_rules::max_magnitude(num_bits) < m {
-        return 5;
+        return answer::MAGNITUDE_OUT_OF_RANGE;
     }
     if zeros < MAX_ZERO_RUN {
         return 0;
     }
     if m == 0 {
-        return 6;
+        return answer::ZERO_RUN_TOO_LONG;
     }
     0
 }

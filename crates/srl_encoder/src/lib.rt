@@ -51,17 +51,17 @@ pub fn encode(values: &[i16], state: SrlWriter, out: &mut [u8], num_bits: u8) ->
     ensures { λ r. ⌜ (r ≡ encodeAnswer state (now (values .entry)) (length (now (out .entry))) «num_bits») × (now (out .exit) ≡ encodeOut state (now (values .entry)) (now (out .entry)) «num_bits») ⌝ }
 {
     if !encoder::writer_ok(state) {
-        return Encoded::Refused(8, state);
+        return Encoded::Refused(answer::IMPOSSIBLE_STATE, state);
     }
     if !srl_rules::width_ok(num_bits) {
-        return Encoded::Refused(4, state);
+        return Encoded::Refused(answer::INVALID_BIT_COUNT, state);
     }
     let f = encoder::values_fault(values, state.pending_zeros, num_bits);
     if f != 0 {
         return Encoded::Refused(f, state);
     }
     if encoder::exceeds(values, state, num_bits, out.len()) {
-        return Encoded::Refused(7, state);
+        return Encoded::Refused(answer::OUTPUT_TOO_SHORT, state);
     }
     let done = encoder::put_values(values, encoder::call_start(state), out, num_bits);
     let sink = done.sink;
@@ -73,11 +73,11 @@ pub fn finish(state: SrlWriter, out: &mut [u8]) -> Finished
     ensures { λ r. ⌜ (r ≡ finishAnswer state (length (now (out .entry)))) × (now (out .exit) ≡ finishOut state (now (out .entry))) ⌝ }
 {
     if !encoder::writer_ok(state) {
-        return Finished::Refused(8, state);
+        return Finished::Refused(answer::IMPOSSIBLE_STATE, state);
     }
     let need = encoder::end_length(state);
     if out.len() < need {
-        return Finished::Refused(7, state);
+        return Finished::Refused(answer::OUTPUT_TOO_SHORT, state);
     }
     encoder::put_end(out, state);
     Finished::Stream(need)

@@ -15,14 +15,16 @@ use Rattle.bits.specs.Inner.{Sound, Room, write, padCount, padOut}
 use Rattle.bits.specs.declared.writer.BitWriter.{BitWriter}
 use Rattle.bits.proofs.Puts.{Wrote, then, wrote-sound, wrote-at}
 use Rattle.bits.proofs.Packed.{pack-append, sets-append, sets-start, padded}
-use Rattle.srl_rules.specs.Rules.{widthOk, noRoom, stored}
-use Rattle.srl_encoder.specs.Encode.{freshWriter, bitsFrom, callBytes, callAfter, firstOf, fault}
+use Rattle.answer.specs.Refusals.{invalidBitCount, outputTooShort, unless, firstOf, noRoom, stored}
+use Rattle.answer.proofs.Numbers.{stored-some}
+use Rattle.srl_rules.specs.Rules.{widthOk}
+use Rattle.srl_encoder.specs.Encode.{freshWriter, bitsFrom, callBytes, callAfter, fault}
 use Rattle.srl_encoder.specs.Finish.{flush, finishBytes, finished}
 use Rattle.srl_encoder.specs.Inner.{callStart, callState, callWrite, GoodWriter, Good}
 use Rattle.srl_encoder.specs.declared.SrlWriter.{SrlWriter}
 use Rattle.srl_encoder.specs.declared.Finished.the-variants.{Stream, Refused}
 use Rattle.srl_encoder.specs.declared.encoder.CallState.{CallState}
-use Rattle.srl_encoder.proofs.EncodedCalls.{call-sink, call-good, stored-some}
+use Rattle.srl_encoder.proofs.EncodedCalls.{call-sink, call-good}
 use Rattle.srl_encoder.proofs.Runs.{length-flush}
 use Rattle.srl_held.specs.Stream.{streamBytes, streamRefusal, streamAnswer, streamOut}
 
@@ -110,17 +112,17 @@ finished-some (suc n) m st h = refl
 module _ (vs : List ℤ) (out : List ℕ) (w : ℕ) where
   -- `streamRefusal` by its test and the values' refusal
   abbrev refusal : Bool → ℕ → ℕ
-  refusal q f = cond q (firstOf f (noRoom (length out) (length (streamBytes w vs)))) 4
+  refusal q f = firstOf (unless q invalidBitCount) (firstOf f (noRoom (length out) (length (streamBytes w vs))))
 
-  pub refusal-width : widthOk w ≡ false → streamRefusal vs (length out) w ≡ 4
+  pub refusal-width : widthOk w ≡ false → streamRefusal vs (length out) w ≡ invalidBitCount
   refusal-width q = ap (λ b. refusal b (fault w 0 vs)) q
 
   pub refusal-rest : widthOk w ≡ true → {f : ℕ} → f ≡ fault w 0 vs → streamRefusal vs (length out) w ≡ firstOf f (noRoom (length out) (length (streamBytes w vs)))
   refusal-rest q e = ap (λ b. refusal b (fault w 0 vs)) q ∙ ap (refusal true) (sym e)
 
   -- past the values' refusals it is that of the bytes measured
-  pub refusal-room : widthOk w ≡ true → fault w 0 vs ≡ 0 → {r : Bool} → r ≡ ltb (length out) (length (streamBytes w vs)) → streamRefusal vs (length out) w ≡ cond r 7 0
-  refusal-room q z m = refusal-rest q (sym z) ∙ ap (λ b. cond b 7 0) (sym m)
+  pub refusal-room : widthOk w ≡ true → fault w 0 vs ≡ 0 → {r : Bool} → r ≡ ltb (length out) (length (streamBytes w vs)) → streamRefusal vs (length out) w ≡ cond r outputTooShort 0
+  refusal-room q z m = refusal-rest q (sym z) ∙ ap (λ b. cond b outputTooShort 0) (sym m)
 
   pub refused : {fresh : SrlWriter} (n : ℕ) → fresh ≡ freshWriter → (n ≡ 0 → ⊥) → streamRefusal vs (length out) w ≡ n
       → (Refused n fresh ≡ streamAnswer vs (length out) w) × (out ≡ streamOut vs out w)

@@ -143,14 +143,14 @@ pub fn encode_srl(values: &[i16], out: &mut [u8], num_bits: u8) -> srl_encoder::
 {
     let fresh = srl_encoder::SrlWriter::new();
     if !srl_rules::width_ok(num_bits) {
-        return srl_encoder::Finished::Refused(4, fresh);
+        return srl_encoder::Finished::Refused(answer::INVALID_BIT_COUNT, fresh);
     }
     let f = srl_encoder::encoder::values_fault(values, 0, num_bits);
     if f != 0 {
         return srl_encoder::Finished::Refused(f, fresh);
     }
     if stream_exceeds(values, num_bits, out.len()) {
-        return srl_encoder::Finished::Refused(7, fresh);
+        return srl_encoder::Finished::Refused(answer::OUTPUT_TOO_SHORT, fresh);
     }
     let n = put_stream(values, out, num_bits);
     srl_encoder::Finished::Stream(n)

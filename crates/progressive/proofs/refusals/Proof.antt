@@ -3,7 +3,7 @@ use mathlib.Core.Path.{_≡_, refl, ap}
 use Prim.Native.Nat.{ℕ, zero, suc}
 use lib.ListN.{length}
 use Rattle.answer.proofs.Numbers.{number-answered, kept}
-use Rattle.srl_rules.specs.Rules.{stored}
+use Rattle.answer.specs.Refusals.{stored}
 use Rattle.upgrade_steps.specs.Steps.{steps}
 use Rattle.progressive_decoder.specs.Upgrade.{upgradedCoefficients, upgradedSigns, decodePassRefusal}
 use Rattle.progressive_encoder.specs.Encode.{srlBytes, rawBytes, encodePassRefusal, written, writtenNumber, srlCount, rawCount}
