@@ -1,4 +1,5 @@
 -- What a call of `decode` answers and stores, for every state, stream, output, count and width (docs/SCOPE.md, "SRL", "Refusals").
+use mathlib.Core.Path.{_≡_}
 use mathlib.Core.Bool.{Bool, true, false, cond, not, _&&_, _||_}
 use mathlib.Core.List.{List}
 use Prim.Native.Nat.{ℕ, zero, suc}
@@ -26,6 +27,16 @@ opened st = reader (bitsRead (st .reader)) (st .kp) (st .«zero_run_remaining»)
 -- the state that a reader is, where st was handed in
 abbrev pub closed : List ℕ → SrlState → Reader → SrlState
 closed s st r = record { reader = placeAt s (st .reader) (r .read); kp = r .kp; «zero_run_remaining» = r .run; «nonzero_pending» = r .pending }
+
+-- ════ the next n values, all of one width ════
+
+-- the values
+abbrev pub valuesFrom : List ℕ → SrlState → ℕ → ℕ → List ℤ
+valuesFrom s st n w = values s (replicate n w) (opened st)
+
+-- the state after them
+abbrev pub stateAfter : List ℕ → SrlState → ℕ → ℕ → SrlState
+stateAfter s st n w = closed s st (readerAfter s (replicate n w) (opened st))
 
 -- ════ refusals ════
 
@@ -61,12 +72,16 @@ decoded (suc k) n next st = Refused (suc k) st
 
 -- what `decode` answers
 abbrev pub decodeAnswer : List ℕ → SrlState → ℕ → ℕ → ℕ → Decoded
-decodeAnswer s st room n w =
-    decoded (decodeRefusal s st room n w) n (closed s st (readerAfter s (replicate n w) (opened st))) st
+decodeAnswer s st room n w = decoded (decodeRefusal s st room n w) n (stateAfter s st n w) st
 
 -- what `out` holds after it
 abbrev pub decodeOut : List ℕ → SrlState → List ℤ → ℕ → ℕ → List ℤ
-decodeOut s st out n w = stored (decodeRefusal s st (length out) n w) (values s (replicate n w) (opened st)) out
+decodeOut s st out n w = stored (decodeRefusal s st (length out) n w) (valuesFrom s st n w) out
+
+-- what the call fixes: its answer, and the output
+pub record DecodesSrl (s : List ℕ) (st : SrlState) (o : List ℤ) (n w : ℕ) (r : Decoded) (o′ : List ℤ) : Type 0 where
+  pub answer : r ≡ decodeAnswer s st (length o) n w
+  pub out : o′ ≡ decodeOut s st o n w
 
 -- the number of each case
 abbrev pub decodedNumber : Decoded → ℕ

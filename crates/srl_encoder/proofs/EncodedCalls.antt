@@ -11,14 +11,14 @@ use lib.ListN.{length, drop, set, length-append}
 use lib.Seq.{sets}
 use borrow.Author.Tests.{ltb-true, leb-true}
 use Rattle.bits.specs.Written.{pack, after}
-use Rattle.bits.specs.Inner.{Sound, Room, write, padCount, padOut, counted}
+use Rattle.bits.specs.Inner.{Sound, Room, write, Wrote, padCount, padOut, counted}
 use Rattle.bits.specs.declared.writer.BitWriter.{BitWriter}
-use Rattle.bits.proofs.Puts.{after-sound, after-append, write-append, Wrote, wrote-sound, wrote-at}
+use Rattle.bits.proofs.Puts.{after-sound, after-append, write-append, wrote-sound, wrote-at}
 use Rattle.bits.proofs.Packed.{write-whole, after-whole, count-after, counted-two, sets-start, sets-append, pad-count, pad-out}
 use Rattle.answer.specs.Refusals.{invalidBitCount, outputTooShort, impossibleState, unless, firstOf, noRoom, stored}
 use Rattle.answer.proofs.Numbers.{first-none, passes, stored-some}
 use Rattle.srl_rules.specs.Rules.{widthOk}
-use Rattle.srl_encoder.specs.Encode.{valueBits, valueKp, valueZeros, callBits, callKp, callZeros, sink, bitsFrom, callBytes, callAfter, valueFault, fault, writerOk, encodeRefusal, encoded, encodeAnswer, encodeOut}
+use Rattle.srl_encoder.specs.Encode.{valueBits, valueKp, valueZeros, callBits, callKp, callZeros, sink, bitsFrom, callBytes, callAfter, valueFault, fault, writerOk, encodeRefusal, encoded, EncodesSrl}
 use Rattle.srl_encoder.specs.Finish.{flush, finishBytes}
 use Rattle.srl_encoder.specs.Inner.{callStart, measureStart, writerOf, valueState, valueWrite, callState, callWrite, placeOf, valueMeasure, callCount, GoodWriter}
 use Rattle.srl_encoder.specs.declared.SrlWriter.{SrlWriter}
@@ -130,23 +130,23 @@ module _ (st : SrlWriter) (vs : List ℤ) (out : List ℕ) (w : ℕ) where
       → {r : Bool} → r ≡ ltb (length out) (length (callBytes w st vs)) → encodeRefusal st vs (length out) w ≡ cond r outputTooShort 0
   refusal-room s q e z m = refusal-rest s q (sym z ∙ e) ∙ ap (λ b. cond b outputTooShort 0) (sym m)
 
-  pub refused : (n : ℕ) → (n ≡ 0 → ⊥) → encodeRefusal st vs (length out) w ≡ n → (Refused n st ≡ encodeAnswer st vs (length out) w) × (out ≡ encodeOut st vs out w)
-  refused n h r = (
-    sym (ap (λ x. encoded x (length (callBytes w st vs)) (callAfter w st vs) st) r ∙ encoded-some n (length (callBytes w st vs)) (callAfter w st vs) st h),
-    sym (ap (λ x. stored x (callBytes w st vs) out) r ∙ stored-some n (callBytes w st vs) out h),
-  )
+  pub refused : (n : ℕ) → (n ≡ 0 → ⊥) → encodeRefusal st vs (length out) w ≡ n → EncodesSrl st vs out w (Refused n st) out
+  refused n h r = record {
+    answer = sym (ap (λ x. encoded x (length (callBytes w st vs)) (callAfter w st vs) st) r ∙ encoded-some n (length (callBytes w st vs)) (callAfter w st vs) st h);
+    out = sym (ap (λ x. stored x (callBytes w st vs) out) r ∙ stored-some n (callBytes w st vs) out h);
+  }
 
   -- where it is none: c is the state at the start, d the one after the values, o the output then
   pub accepted : encodeRefusal st vs (length out) w ≡ 0 → length (callBytes w st vs) ≤ length out
       → {c d : CallState} {next : SrlWriter} {o : List ℕ} → c ≡ callStart st → d ≡ callState w c vs → o ≡ callWrite w out c vs → next ≡ writerOf d
-      → (Bytes (d .sink .at) next ≡ encodeAnswer st vs (length out) w) × (o ≡ encodeOut st vs out w)
-  accepted r h {d = d} cs ds os ns = (
-    ap (Bytes (d .sink .at)) ns
+      → EncodesSrl st vs out w (Bytes (d .sink .at) next) o
+  accepted r h {d = d} cs ds os ns = record {
+    answer = ap (Bytes (d .sink .at)) ns
         ∙ ap (λ x. Bytes (x .sink .at) (writerOf x)) (ds ∙ ap (λ x. callState w x vs) cs)
         ∙ ap (λ n. Bytes n (callAfter w st vs)) (call-sink w st vs)
-        ∙ sym (ap (λ x. encoded x (length (callBytes w st vs)) (callAfter w st vs) st) r),
-    os ∙ ap (λ x. callWrite w out x vs) cs ∙ call-out w out st vs h ∙ sym (ap (λ x. stored x (callBytes w st vs) out) r),
-  )
+        ∙ sym (ap (λ x. encoded x (length (callBytes w st vs)) (callAfter w st vs) st) r);
+    out = os ∙ ap (λ x. callWrite w out x vs) cs ∙ call-out w out st vs h ∙ sym (ap (λ x. stored x (callBytes w st vs) out) r);
+  }
 
 -- ════ the end of a stream ════
 

@@ -1,4 +1,5 @@
 -- The SRL encoder (docs/SCOPE.md, "SRL"; MS-RDPEGFX 3.1.8.1.5): the bits of each value, and what a call of `encode` answers and stores; `Finish` has the end of a stream.
+use mathlib.Core.Path.{_≡_}
 use mathlib.Core.Bool.{Bool, true, false, cond, _&&_}
 use mathlib.Core.List.{List, [], _∷_, _++_}
 use Prim.Native.Nat.{ℕ, zero, suc, _+_, _-_, _/_, _^_, min}
@@ -136,6 +137,11 @@ encodeAnswer st vs room w = encoded (encodeRefusal st vs room w) (length (callBy
 -- what `out` holds after it
 abbrev pub encodeOut : SrlWriter → List ℤ → List ℕ → ℕ → List ℕ
 encodeOut st vs out w = stored (encodeRefusal st vs (length out) w) (callBytes w st vs) out
+
+-- what the call fixes: its answer, and the output
+pub record EncodesSrl (st : SrlWriter) (vs : List ℤ) (o : List ℕ) (w : ℕ) (r : Encoded) (o′ : List ℕ) : Type 0 where
+  pub answer : r ≡ encodeAnswer st vs (length o) w
+  pub out : o′ ≡ encodeOut st vs o w
 
 -- the number of each case
 abbrev pub encodedNumber : Encoded → ℕ

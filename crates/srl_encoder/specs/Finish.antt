@@ -1,4 +1,5 @@
 -- The end of an SRL stream: what `finish` answers and stores (docs/SCOPE.md, "SRL", "Refusals").
+use mathlib.Core.Path.{_≡_}
 use mathlib.Core.Bool.{Bool}
 use mathlib.Core.List.{List, [], _∷_, _++_}
 use Prim.Native.Nat.{ℕ, zero, suc}
@@ -42,6 +43,11 @@ finishAnswer st room = finished (finishRefusal st room) (length (finishBytes st)
 -- what `out` holds after it
 abbrev pub finishOut : SrlWriter → List ℕ → List ℕ
 finishOut st out = stored (finishRefusal st (length out)) (finishBytes st) out
+
+-- what the call fixes: its answer, and the output
+pub record FinishesSrl (st : SrlWriter) (o : List ℕ) (r : Finished) (o′ : List ℕ) : Type 0 where
+  pub answer : r ≡ finishAnswer st (length o)
+  pub out : o′ ≡ finishOut st o
 
 -- the number of each case
 abbrev pub finishedNumber : Finished → ℕ

@@ -81,6 +81,14 @@ valueWrite w out c v = write out (c .sink) (valueBits w (c .kp) (c .zeros) v)
 abbrev pub callWrite : ℕ → List ℕ → CallState → List ℤ → List ℕ
 callWrite w out c vs = write out (c .sink) (callBits w (c .kp) (c .zeros) vs)
 
+-- a value was written: d is the state after it, o the output
+abbrev pub WroteValue : ℕ → List ℕ → CallState → ℤ → CallState → List ℕ → Type 0
+WroteValue w out c v d o = (d ≡ valueState w c v) × (o ≡ valueWrite w out c v)
+
+-- some values were
+abbrev pub WroteValues : ℕ → List ℕ → CallState → List ℤ → CallState → List ℕ → Type 0
+WroteValues w out c vs d o = (d ≡ callState w c vs) × (o ≡ callWrite w out c vs)
+
 -- ════ measuring ════
 
 -- it starts as a call does

@@ -3,9 +3,8 @@
 // (docs/SCOPE.md, "Refusals"), hands back the state and alters nothing.
 
 ghost use mathlib.Core.Path.{_≡_};
-ghost use lib.ListN.{length};
-ghost use Rattle.srl_encoder.specs.Encode.{freshWriter, encodeAnswer, encodeOut};
-ghost use Rattle.srl_encoder.specs.Finish.{finishAnswer, finishOut};
+ghost use Rattle.srl_encoder.specs.Encode.{freshWriter, EncodesSrl};
+ghost use Rattle.srl_encoder.specs.Finish.{FinishesSrl};
 
 pub mod encoder;
 
@@ -48,7 +47,7 @@ impl SrlWriter {
 
 // Writes the whole bytes that the values complete, from the start of `out`.
 pub fn encode(values: &[i16], state: SrlWriter, out: &mut [u8], num_bits: u8) -> Encoded
-    ensures { λ r. ⌜ (r ≡ encodeAnswer state (now (values .entry)) (length (now (out .entry))) «num_bits») × (now (out .exit) ≡ encodeOut state (now (values .entry)) (now (out .entry)) «num_bits») ⌝ }
+    ensures { λ r. ⌜ EncodesSrl state (now (values .entry)) (now (out .entry)) «num_bits» r (now (out .exit)) ⌝ }
 {
     if !encoder::writer_ok(state) {
         return Encoded::Refused(answer::IMPOSSIBLE_STATE, state);
@@ -70,7 +69,7 @@ pub fn encode(values: &[i16], state: SrlWriter, out: &mut [u8], num_bits: u8) ->
 
 // Writes the end of the stream from the start of `out`: the pending zeros, the padding and a byte 0.
 pub fn finish(state: SrlWriter, out: &mut [u8]) -> Finished
-    ensures { λ r. ⌜ (r ≡ finishAnswer state (length (now (out .entry)))) × (now (out .exit) ≡ finishOut state (now (out .entry))) ⌝ }
+    ensures { λ r. ⌜ FinishesSrl state (now (out .entry)) r (now (out .exit)) ⌝ }
 {
     if !encoder::writer_ok(state) {
         return Finished::Refused(answer::IMPOSSIBLE_STATE, state);

@@ -11,9 +11,9 @@ use lib.ListN.{length, set, length-append}
 use lib.Seq.{sets}
 use borrow.Author.Tests.{lt-ltb, le-ltb, ltb-true, ltb-false}
 use Rattle.bits.specs.Written.{pack, writer, after}
-use Rattle.bits.specs.Inner.{Sound, Room, write, padCount, padOut}
+use Rattle.bits.specs.Inner.{Sound, Room, write, Wrote, padCount, padOut}
 use Rattle.bits.specs.declared.writer.BitWriter.{BitWriter}
-use Rattle.bits.proofs.Puts.{Wrote, then, wrote-sound, wrote-at}
+use Rattle.bits.proofs.Puts.{then, wrote-sound, wrote-at}
 use Rattle.bits.proofs.Packed.{pack-append, sets-append, sets-start, padded}
 use Rattle.answer.specs.Refusals.{invalidBitCount, outputTooShort, unless, firstOf, noRoom, stored}
 use Rattle.answer.proofs.Numbers.{stored-some}
@@ -26,7 +26,7 @@ use Rattle.srl_encoder.specs.declared.Finished.the-variants.{Stream, Refused}
 use Rattle.srl_encoder.specs.declared.encoder.CallState.{CallState}
 use Rattle.srl_encoder.proofs.EncodedCalls.{call-sink, call-good}
 use Rattle.srl_encoder.proofs.Runs.{length-flush}
-use Rattle.srl_held.specs.Stream.{streamBytes, streamRefusal, streamAnswer, streamOut}
+use Rattle.srl_held.specs.Stream.{streamBytes, streamRefusal, EncodesStream}
 
 -- the first state is good
 pub fresh-good : GoodWriter freshWriter
@@ -125,16 +125,16 @@ module _ (vs : List ℤ) (out : List ℕ) (w : ℕ) where
   refusal-room q z m = refusal-rest q (sym z) ∙ ap (λ b. cond b outputTooShort 0) (sym m)
 
   pub refused : {fresh : SrlWriter} (n : ℕ) → fresh ≡ freshWriter → (n ≡ 0 → ⊥) → streamRefusal vs (length out) w ≡ n
-      → (Refused n fresh ≡ streamAnswer vs (length out) w) × (out ≡ streamOut vs out w)
-  refused n e h r = (
-    ap (Refused n) e ∙ sym (ap (λ x. finished x (length (streamBytes w vs)) freshWriter) r ∙ finished-some n (length (streamBytes w vs)) freshWriter h),
-    sym (ap (λ x. stored x (streamBytes w vs) out) r ∙ stored-some n (streamBytes w vs) out h),
-  )
+      → EncodesStream vs out w (Refused n fresh) out
+  refused n e h r = record {
+    answer = ap (Refused n) e ∙ sym (ap (λ x. finished x (length (streamBytes w vs)) freshWriter) r ∙ finished-some n (length (streamBytes w vs)) freshWriter h);
+    out = sym (ap (λ x. stored x (streamBytes w vs) out) r ∙ stored-some n (streamBytes w vs) out h);
+  }
 
   pub accepted : {n : ℕ} {o : List ℕ} → streamRefusal vs (length out) w ≡ 0 → length (streamBytes w vs) ≤ length out
       → n ≡ length (streamBytes w vs) → o ≡ sets out 0 (streamBytes w vs)
-      → (Stream n ≡ streamAnswer vs (length out) w) × (o ≡ streamOut vs out w)
-  accepted r h a b = (
-    ap Stream a ∙ sym (ap (λ x. finished x (length (streamBytes w vs)) freshWriter) r),
-    b ∙ sets-start (streamBytes w vs) out h ∙ sym (ap (λ x. stored x (streamBytes w vs) out) r),
-  )
+      → EncodesStream vs out w (Stream n) o
+  accepted r h a b = record {
+    answer = ap Stream a ∙ sym (ap (λ x. finished x (length (streamBytes w vs)) freshWriter) r);
+    out = b ∙ sets-start (streamBytes w vs) out h ∙ sym (ap (λ x. stored x (streamBytes w vs) out) r);
+  }

@@ -1,4 +1,5 @@
 -- A whole SRL stream, written in one call: what it holds, and what the call answers and stores (docs/SCOPE.md, "SRL", "Refusals").
+use mathlib.Core.Path.{_≡_}
 use mathlib.Core.List.{List, _++_}
 use Prim.Native.Nat.{ℕ}
 use lib.IntN.{ℤ}
@@ -25,3 +26,8 @@ streamAnswer vs room w = finished (streamRefusal vs room w) (length (streamBytes
 -- what `out` holds after it: "[a refusal] alters no lent element"; "on acceptance, elements past the answer are untouched"
 abbrev pub streamOut : List ℤ → List ℕ → ℕ → List ℕ
 streamOut vs out w = stored (streamRefusal vs (length out) w) (streamBytes w vs) out
+
+-- what the call fixes: its answer, and the output
+pub record EncodesStream (vs : List ℤ) (o : List ℕ) (w : ℕ) (r : Finished) (o′ : List ℕ) : Type 0 where
+  pub answer : r ≡ streamAnswer vs (length o) w
+  pub out : o′ ≡ streamOut vs o w
