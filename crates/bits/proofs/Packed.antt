@@ -14,7 +14,7 @@ use borrow.Author.Tests.{eqb-true, eqb-false}
 use Rattle.bits.specs.Bits.{bitOf}
 use Rattle.bits.proofs.Numbers.{Bytes, bit-le}
 use Rattle.bits.specs.Written.{whole, pack, writer, after}
-use Rattle.bits.specs.Inner.{write, padCount, padOut, countOf, counted}
+use Rattle.bits.specs.Inner.{write, padCount, padOut, writerCount, counted}
 use Rattle.bits.specs.declared.writer.BitWriter.{BitWriter}
 use Rattle.bits.specs.declared.writer.BitCount.{BitCount}
 
@@ -113,16 +113,16 @@ sets-start vs l h = sets-eq vs l 0 (omega arith) ∙ ap (λ n. vs ++ drop n l) (
 -- ════ measuring ════
 
 -- the place after some bits is known by their number
-pub count-after : (k : BitWriter) (bs : List Bool) → k .«bit_count» ≤ 7 → countOf (after k bs) ≡ counted (countOf k) (length bs)
+pub count-after : (k : BitWriter) (bs : List Bool) → k .«bit_count» ≤ 7 → writerCount (after k bs) ≡ counted (writerCount k) (length bs)
 count-after k [] h =
     let a : k .at ≡ k .at + (k .«bit_count» + 0) / 8 = omega arith in
     let n : k .«bit_count» ≡ (k .«bit_count» + 0) % 8 = omega arith in
     λ i. record { at = a i; «bit_count» = n i }
 count-after k (b ∷ bs) h = by (eqb (k .«bit_count») 7) refl (λ x. count-after x bs)
   where
-    by : (e : Bool) → eqb (k .«bit_count») 7 ≡ e → ((x : BitWriter) → x .«bit_count» ≤ 7 → countOf (after x bs) ≡ counted (countOf x) (length bs))
-        → countOf (after (cond e (writer (k .at + 1) 0 0) (writer (k .at) (k .current * 2 + bitOf b) (k .«bit_count» + 1))) bs)
-        ≡ counted (countOf k) (suc (length bs))
+    by : (e : Bool) → eqb (k .«bit_count») 7 ≡ e → ((x : BitWriter) → x .«bit_count» ≤ 7 → writerCount (after x bs) ≡ counted (writerCount x) (length bs))
+        → writerCount (after (cond e (writer (k .at + 1) 0 0) (writer (k .at) (k .current * 2 + bitOf b) (k .«bit_count» + 1))) bs)
+        ≡ counted (writerCount k) (suc (length bs))
     by true q ih =
         let s : k .«bit_count» ≡ 7 = eqb-true _ _ q in
         let a : k .at + 1 + (0 + length bs) / 8 ≡ k .at + (k .«bit_count» + suc (length bs)) / 8 = omega arith in

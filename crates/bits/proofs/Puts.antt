@@ -12,7 +12,7 @@ use lib.Pow.{pow-pos, shr-shr, mod-pow-add, high, split}
 use borrow.Author.Tests.{eqb-false, ne-eqb}
 use Rattle.bits.specs.Bits.{odd, bitOf}
 use Rattle.bits.specs.Written.{bitsOf, writer, step, after}
-use Rattle.bits.specs.Inner.{Sound, put, write, Wrote}
+use Rattle.bits.specs.Inner.{Sound, putBit, write, Wrote}
 use Rattle.bits.specs.declared.writer.BitWriter.{BitWriter}
 use Rattle.bits.proofs.Numbers.{bit-le, odd-bit}
 
@@ -57,7 +57,7 @@ after-append k (x ∷ a) b = after-append (step k x) a b
 
 pub write-append : (out : List ℕ) (k : BitWriter) (a b : List Bool) → write out k (a ++ b) ≡ write (write out k a) (after k a) b
 write-append out k [] b = refl
-write-append out k (x ∷ a) b = write-append (put out k x) (step k x) a b
+write-append out k (x ∷ a) b = write-append (putBit out k x) (step k x) a b
 
 -- two writes in a row are one write of both
 pub then : (out : List ℕ) (k : BitWriter) (a b : List Bool) {x y : BitWriter} {o p : List ℕ} → Wrote out k a x o → Wrote o x b y p → Wrote out k (a ++ b) y p

@@ -9,7 +9,7 @@ use borrow.Author.Tests.{lt-ltb, le-ltb}
 use lib.IntN.{ℤ, pos, negsuc, natAbs}
 use lib.ListN.{length, replicate, length-replicate, drop-of-length-le}
 use lib.Pow.{pow-pos}
-use Rattle.bits.specs.Bits.{bitsRead, placeAt, held}
+use Rattle.bits.specs.Bits.{bitsRead, readerMoved, held}
 use Rattle.bits.proofs.Holds.{Holds, pack-holds}
 use Rattle.bits.proofs.Past.{same, past, alike-held}
 use Rattle.bits.proofs.Places.{read-place}
@@ -119,10 +119,10 @@ closed-alike s st r h = by (decLt (st .reader .«byte_idx») (length s))
   where
     by : Dec (st .reader .«byte_idx» < length s) → AlikeReader s (opened (closed s st r)) r
     by (yes l) =
-        let e : bitsRead (placeAt s (st .reader) (r .read)) ≡ held s (r .read) = ap bitsRead (simp (lt-ltb _ _ l)) ∙ read-place (held s (r .read)) in
+        let e : bitsRead (readerMoved s (st .reader) (r .read)) ≡ held s (r .read) = ap bitsRead (simp (lt-ltb _ _ l)) ∙ read-place (held s (r .read)) in
         subst (λ (n : ℕ). AlikeReader s (reader n (r .kp) (r .run) (r .pending)) r) (sym e) (alike (alike-held s (r .read)))
     by (no l) =
-        let e : bitsRead (placeAt s (st .reader) (r .read)) ≡ bitsRead (st .reader) = ap bitsRead (simp (le-ltb (st .reader .«byte_idx») (length s) (omega arith))) in
+        let e : bitsRead (readerMoved s (st .reader) (r .read)) ≡ bitsRead (st .reader) = ap bitsRead (simp (le-ltb (st .reader .«byte_idx») (length s) (omega arith))) in
         subst (λ (n : ℕ). AlikeReader s (reader n (r .kp) (r .run) (r .pending)) r) (sym e) (alike (past (omega arith) (omega arith)))
 
 back-reads : (s : List ℕ) (asks : List Ask) (st : SrlState) (r : Reader) → stateOk st ≡ true → Fine (asked asks) → AlikeReader s (opened st) r → readBack s st asks ≡ values s (asked asks) r

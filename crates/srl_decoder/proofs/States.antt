@@ -7,7 +7,7 @@ use native.Mathlib.Omega.{arith}
 use lib.Dec.{leb, ltb}
 use lib.ListN.{length}
 use borrow.Author.Tests.{leb-true, le-leb}
-use Rattle.bits.specs.Bits.{placeOf, placeAt, held}
+use Rattle.bits.specs.Bits.{placeOf, readerMoved, held}
 use Rattle.bits.specs.declared.reader.BitReader.{BitReader}
 use Rattle.srl_decoder.specs.Srl.{Reader, readied, past, nextReader, readerAfter}
 use Rattle.srl_decoder.specs.Decode.{opened, closed, stateOk}
@@ -55,7 +55,7 @@ after-bounded s (w ∷ ws) r h =
     let z = ready-short s (r .read) (r .kp) (r .run) (r .pending) (h .0) (h .1) in
     after-bounded s ws (nextReader s w r) (past-kp s w (readied s r) k, past-run s w (readied s r) z)
 
-place-bit : (s : List ℕ) (r : BitReader) (n : ℕ) → r .«bit_idx» ≤ 7 → placeAt s r n .«bit_idx» ≤ 7
+place-bit : (s : List ℕ) (r : BitReader) (n : ℕ) → r .«bit_idx» ≤ 7 → readerMoved s r n .«bit_idx» ≤ 7
 place-bit s r n h = by (ltb (r .«byte_idx») (length s))
   where
     by : (b : Bool) → cond b (placeOf (held s n)) r .«bit_idx» ≤ 7

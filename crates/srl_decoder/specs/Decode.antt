@@ -6,7 +6,7 @@ use Prim.Native.Nat.{ℕ, zero, suc}
 use lib.Dec.{leb}
 use lib.IntN.{ℤ}
 use lib.ListN.{length, replicate}
-use Rattle.bits.specs.Bits.{bitsRead, placeAt}
+use Rattle.bits.specs.Bits.{bitsRead, readerMoved}
 use Rattle.answer.specs.Refusals.{invalidBitCount, impossibleState, unless, firstOf, noRoom, stored}
 use Rattle.srl_rules.specs.Rules.{widthOk}
 use Rattle.srl_decoder.specs.Srl.{Reader, reader, readied, nextReader, values, readerAfter}
@@ -26,7 +26,7 @@ opened st = reader (bitsRead (st .reader)) (st .kp) (st .«zero_run_remaining»)
 
 -- the state that a reader is, where st was handed in
 abbrev pub closed : List ℕ → SrlState → Reader → SrlState
-closed s st r = record { reader = placeAt s (st .reader) (r .read); kp = r .kp; «zero_run_remaining» = r .run; «nonzero_pending» = r .pending }
+closed s st r = record { reader = readerMoved s (st .reader) (r .read); kp = r .kp; «zero_run_remaining» = r .run; «nonzero_pending» = r .pending }
 
 -- ════ the next n values, all of one width ════
 

@@ -10,7 +10,7 @@ ghost use Rattle.srl_decoder.specs.Srl.{mostZeros, behind, codeWord, rea
 ghost use Rattle.srl_decoder.specs.Decode.{opened, valuesFrom, stateAfter, stateOk, dueAmong, decoded};
 ghost use Rattle.answer.specs.Refusals.{noRoom, stored};
 ghost use Rattle.srl_rules.specs.Inner.{Width};
-ghost use Rattle.srl_decoder.specs.Inner.{Sound, shut, stateBy, heldReader, handed, readBehind, below, Brought, Clear};
+ghost use Rattle.srl_decoder.specs.Inner.{SoundState, shut, stateBy, heldReader, handed, readBehind, below, Brought, Clear};
 use crate::Decoded;
 use crate::SrlState;
 
@@ -72,7 +72,7 @@ fn one_code(a: u64, kp: u8) -> CodesRead
 
 // One code word.
 fn code_word(src: &[u8], st: SrlState) -> SrlState
-    requires { ⌜ Sound st ⌝ }
+    requires { ⌜ SoundState st ⌝ }
     ensures { λ r. ⌜ r ≡ shut (codeWord (now (src .entry)) (bitsRead (st .reader)) (st .kp)) ⌝ }
 {
     let reader = st.reader;

@@ -20,7 +20,7 @@ use Rattle.answer.proofs.Numbers.{first-none, passes, stored-some}
 use Rattle.srl_rules.specs.Rules.{widthOk}
 use Rattle.srl_encoder.specs.Encode.{valueBits, valueKp, valueZeros, callBits, callKp, callZeros, sink, bitsFrom, callBytes, callAfter, valueFault, fault, writerOk, encodeRefusal, encoded, EncodesSrl}
 use Rattle.srl_encoder.specs.Finish.{flush, finishBytes}
-use Rattle.srl_encoder.specs.Inner.{callStart, measureStart, writerOf, valueState, valueWrite, callState, callWrite, placeOf, valueMeasure, callCount, GoodWriter}
+use Rattle.srl_encoder.specs.Inner.{callStart, measureStart, writerOf, valueState, valueWrite, callState, callWrite, bitCountOf, valueMeasure, callCount, GoodWriter}
 use Rattle.srl_encoder.specs.declared.SrlWriter.{SrlWriter}
 use Rattle.srl_encoder.specs.declared.Encoded.the-variants.{Bytes, Refused}
 use Rattle.srl_encoder.specs.declared.encoder.CallState.{CallState}
@@ -52,7 +52,7 @@ pub count-step : (w : ℕ) (p : Measured) (v : ℤ) (vs : List ℤ) → callCoun
 count-step w p v vs =
     let a = valueBits w (p .kp) (p .zeros) v in
     let b = callBits w (valueKp (p .kp) (p .zeros) v) (valueZeros (p .zeros) v) vs in
-    ap (λ n. counted (placeOf p) n .at) (length-append a b) ∙ ap (λ x. x .at) (sym (counted-two (placeOf p) (length a) (length b)))
+    ap (λ n. counted (bitCountOf p) n .at) (length-append a b) ∙ ap (λ x. x .at) (sym (counted-two (bitCountOf p) (length a) (length b)))
 
 pub count-none : (w : ℕ) (p : Measured) → p .«bit_count» ≤ 7 → callCount w p [] ≡ p .at
 count-none w p h = omega arith

@@ -95,23 +95,23 @@ WroteValues w out c vs d o = (d ≡ callState w c vs) × (o ≡ callWrite w out 
 abbrev pub measureStart : SrlWriter → Measured
 measureStart st = record { at = 0; «bit_count» = st .«bit_count»; kp = st .kp; zeros = st .«pending_zeros» }
 
--- the place alone
-abbrev pub placeOf : Measured → BitCount
-placeOf p = record { at = p .at; «bit_count» = p .«bit_count» }
+-- the count of bytes and bits alone
+abbrev pub bitCountOf : Measured → BitCount
+bitCountOf p = record { at = p .at; «bit_count» = p .«bit_count» }
 
 -- after a value
 abbrev pub valueMeasure : ℕ → Measured → ℤ → Measured
 valueMeasure w p v =
     record {
-      at = counted (placeOf p) (length (valueBits w (p .kp) (p .zeros) v)) .at;
-      «bit_count» = counted (placeOf p) (length (valueBits w (p .kp) (p .zeros) v)) .«bit_count»;
+      at = counted (bitCountOf p) (length (valueBits w (p .kp) (p .zeros) v)) .at;
+      «bit_count» = counted (bitCountOf p) (length (valueBits w (p .kp) (p .zeros) v)) .«bit_count»;
       kp = valueKp (p .kp) (p .zeros) v;
       zeros = valueZeros (p .zeros) v;
     }
 
 -- how many bytes are complete after some values
 abbrev pub callCount : ℕ → Measured → List ℤ → ℕ
-callCount w p vs = counted (placeOf p) (length (callBits w (p .kp) (p .zeros) vs)) .at
+callCount w p vs = counted (bitCountOf p) (length (callBits w (p .kp) (p .zeros) vs)) .at
 
 -- ════ what the inner functions ask of a state ════
 
