@@ -32,6 +32,7 @@ write-whole (b ∷ bs) out j cur n = by (eqb n 7) (write-whole bs)
         ih (set out j (cur * 2 + bitOf b)) (j + 1) 0 0 ∙ ap (λ i. sets (set out j (cur * 2 + bitOf b)) i (whole 0 0 bs)) (add-one j)
     by false ih = ih out j (cur * 2 + bitOf b) (n + 1)
 
+-- a writer counts the whole bytes that the bits make
 pub after-whole : (bs : List Bool) (j cur n : ℕ) → after (writer j cur n) bs .at ≡ j + length (whole cur n bs)
 after-whole [] j cur n = sym (add-zero j)
 after-whole (b ∷ bs) j cur n = by (eqb n 7) (after-whole bs)
@@ -68,6 +69,7 @@ module _ (f : List Bool) (out : List ℕ) (j cur n : ℕ) where
   unfolding k
   all = ap (pack cur n) (sym (append-nil f)) ∙ pack-append f [] j cur n
 
+  -- with the padding a writer counts all bytes of `pack`
   pub pad-count : padCount (after (writer j cur n) f) ≡ j + length (pack cur n f)
   unfolding k
   pad-count = by (eqb (k .«bit_count») 0) ∙ ap (λ l. j + length l) (sym all)
@@ -76,6 +78,7 @@ module _ (f : List Bool) (out : List ℕ) (j cur n : ℕ) where
       by true = omega (arith, after-whole f j cur n, length-append (whole cur n f) [])
       by false = omega (arith, after-whole f j cur n, length-append (whole cur n f) ((k .current * 2 ^ (8 - k .«bit_count»)) ∷ []))
 
+  -- with the padding the output holds all bytes of `pack`
   pub pad-out : padOut (write out (writer j cur n) f) (after (writer j cur n) f) ≡ sets out j (pack cur n f)
   unfolding k
   pad-out = by (eqb (k .«bit_count») 0) ∙ ap (sets out j) (sym all)
@@ -155,6 +158,7 @@ counted-two p m n =
     let b : ((p .«bit_count» + m) % 8 + n) % 8 ≡ (p .«bit_count» + (m + n)) % 8 = omega arith in
     λ i. record { at = a i; «bit_count» = b i }
 
+-- no bits leave a count as it is
 pub counted-none : (p : BitCount) → p .«bit_count» ≤ 7 → p ≡ counted p 0
 counted-none p h =
     let a : p .at ≡ p .at + (p .«bit_count» + 0) / 8 = omega arith in
@@ -168,9 +172,11 @@ pub bytes-cons : (b : ℕ) (s : List ℕ) → b < 256 → Bytes s → Bytes (b �
 bytes-cons b s h k zero = h
 bytes-cons b s h k (suc i) = k i
 
+-- the empty list is one of bytes
 pub bytes-none : Bytes []
 bytes-none i = omega arith
 
+-- two lists of bytes, one behind the other, are bytes
 pub bytes-append : (a b : List ℕ) → Bytes a → Bytes b → Bytes (a ++ b)
 bytes-append [] b h k = k
 bytes-append (x ∷ a) b h k = bytes-cons x (a ++ b) (h 0) (bytes-append a b (λ i. h (suc i)) k)

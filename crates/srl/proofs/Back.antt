@@ -30,6 +30,7 @@ use Rattle.srl_decoder.proofs.Values.{AlikeReader, alike, reader-trans, values-
 
 -- ════ accepted calls ════
 
+-- a value that the encoder does not refuse is legal at its width
 pub value-legal : (w z : ℕ) (v : ℤ) → valueFault w z v ≡ 0 → natAbs v < 2 ^ w
 value-legal w z (pos zero) e = pow-pos w
 value-legal w z (pos (suc m)) e = omega (arith, passes m (2 ^ w - 1) 4 e)
@@ -66,6 +67,7 @@ calls-stream kp z (c ∷ cs) =
 
 -- ════ all values, read one by one ════
 
+-- the values of calls that were all accepted, read one by one from the stream that they wrote, are those that were given
 pub stream-reads : (cs : List Call) → Accepted freshWriter cs → values (streamFrom freshWriter cs) (widths cs) start ≡ given cs
 stream-reads cs a =
     let s = streamFrom freshWriter cs in
@@ -138,6 +140,7 @@ back-reads s (a ∷ asks) st r h f k =
     (reader-trans s (closed-alike s st after (after-mono s ws (opened st))) (v .1)) in
     ap₂ (λ (x y : List ℤ). x ++ y) (out-is s st a e ∙ v .0) (ap (λ (t : SrlState). readBack s t asks) next ∙ ih) ∙ sym (values-append s ws (asked asks) r)
 
+-- the round trip, however both sides split the values into calls
 pub trip : RoundTrip
 trip = record {
   back = λ cs asks a e.

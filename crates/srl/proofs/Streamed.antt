@@ -25,6 +25,7 @@ abbrev pub allBits : ℕ → ℕ → List Call → List Bool
 allBits kp z [] = flush kp z
 allBits kp z (c ∷ cs) = callBits (c .width) kp z (c .given) ++ allBits (callKp kp z (c .given)) (callZeros z (c .given)) cs
 
+-- the bytes of calls and of `finish`, one after another, are their bits packed, and a byte 0
 pub stream-packed : (st : SrlWriter) (cs : List Call)
     → streamFrom st cs ≡ pack (st .current) (st .«bit_count») (allBits (st .kp) (st .«pending_zeros») cs) ++ (0 ∷ [])
 stream-packed st [] = refl
@@ -47,6 +48,7 @@ accepted st vs room w e =
     let value = first-none (fault w (st .«pending_zeros») vs) (noRoom room (length (callBytes w st vs))) (width .1) in
     (unless-none (writerOk st) 7 (state .0), unless-none (widthOk w) 3 (width .0), value .0)
 
+-- a state that `encode` hands back with bytes is one that it accepts
 pub resumes : EncoderResumes
 resumes = record {
   again = λ st vs room w e.

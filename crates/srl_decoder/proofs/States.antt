@@ -15,6 +15,7 @@ use Rattle.srl_decoder.specs.declared.SrlState.{SrlState}
 use Rattle.srl_rules.proofs.Widths.{both}
 use Rattle.srl_decoder.proofs.Codes.{ready-near, ready-mono, ready-short, past-kp}
 
+-- what the test of a state says
 pub stateOk-sound : (st : SrlState) → stateOk st ≡ true → (st .reader .«bit_idx» ≤ 7) × (st .kp ≤ 80) × (st .«zero_run_remaining» ≤ 1024)
 stateOk-sound st h =
     let k = both (leb (st .kp) 80) _ h in
@@ -31,6 +32,7 @@ past-mono s w r = by (r .run)
     by zero = omega arith
     by (suc run) = omega arith
 
+-- a reader does not go back over some values
 pub after-mono : (s ws : List ℕ) (r : Reader) → r .read ≤ readerAfter s ws r .read
 unfolding readerAfter
 after-mono s [] r = omega arith
@@ -62,6 +64,7 @@ place-bit s r n h = by (ltb (r .«byte_idx») (length s))
     by true = omega arith
     by false = h
 
+-- the state after some values passes the test
 pub closed-ok : (s : List ℕ) (st : SrlState) (ws : List ℕ) → stateOk st ≡ true → stateOk (closed s st (readerAfter s ws (opened st))) ≡ true
 unfolding Bounded
 closed-ok s st ws h =

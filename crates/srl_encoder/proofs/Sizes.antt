@@ -27,6 +27,7 @@ nonzero-length w kp z m b h =
     let n : m + 1 - 1 ≡ m = omega arith in
     omega (arith, length-append (runBits (suc z) kp z) (nonzeroBits w b m), length-run (suc z) kp z h, rw n at (nonzero-le w (m + 1) b (omega arith)))
 
+-- the bits that a value writes, with the zeros that it leaves pending
 pub value-length : (w kp z : ℕ) (v : ℤ) → kp ≤ 80 → length (valueBits w kp z v) + valueZeros z v ≤ z + natAbs v + 12
 value-length w kp z (pos zero) h = omega arith
 value-length w kp z (pos (suc m)) h = omega (arith, nonzero-length w kp z m false h)

@@ -44,6 +44,7 @@ module _ (w : ℕ) (vs : List ℤ) where
 
   -- ════ the bytes ════
 
+  -- a stream is as long as its values and its end
   pub stream-length : length (streamBytes w vs) ≡ length (callBytes w freshWriter vs) + length (finishBytes last)
   stream-length = length-append (callBytes w freshWriter vs) (finishBytes last)
 
@@ -71,6 +72,7 @@ module _ (w : ℕ) (vs : List ℤ) where
   -- ════ what the inner functions ask, where no value is refused ════
 
   module _ (ok : fault w 0 vs ≡ 0) where
+    -- the state after the values is one that an encoder has
     pub last-good : GoodWriter last
     last-good = call-good w freshWriter vs fresh-good ok
 
@@ -114,9 +116,11 @@ module _ (vs : List ℤ) (out : List ℕ) (w : ℕ) where
   abbrev refusal : Bool → ℕ → ℕ
   refusal q f = firstOf (unless q invalidBitCount) (firstOf f (noRoom (length out) (length (streamBytes w vs))))
 
+  -- a width that no nonzero value can have is refused first
   pub refusal-width : widthOk w ≡ false → streamRefusal vs (length out) w ≡ invalidBitCount
   refusal-width q = ap (λ b. refusal b (fault w 0 vs)) q
 
+  -- past it the refusal is that of the values, or else of the room
   pub refusal-rest : widthOk w ≡ true → {f : ℕ} → f ≡ fault w 0 vs → streamRefusal vs (length out) w ≡ firstOf f (noRoom (length out) (length (streamBytes w vs)))
   refusal-rest q e = ap (λ b. refusal b (fault w 0 vs)) q ∙ ap (refusal true) (sym e)
 
@@ -124,6 +128,7 @@ module _ (vs : List ℤ) (out : List ℕ) (w : ℕ) where
   pub refusal-room : widthOk w ≡ true → fault w 0 vs ≡ 0 → {r : Bool} → r ≡ ltb (length out) (length (streamBytes w vs)) → streamRefusal vs (length out) w ≡ cond r outputTooShort 0
   refusal-room q z m = refusal-rest q (sym z) ∙ ap (λ b. cond b outputTooShort 0) (sym m)
 
+  -- what a refused call fixes
   pub refused : {fresh : SrlWriter} (n : ℕ) → fresh ≡ freshWriter → (n ≡ 0 → ⊥) → streamRefusal vs (length out) w ≡ n
       → EncodesStream vs out w (Refused n fresh) out
   refused n e h r = record {
@@ -131,6 +136,7 @@ module _ (vs : List ℤ) (out : List ℕ) (w : ℕ) where
     out = sym (ap (λ x. stored x (streamBytes w vs) out) r ∙ stored-some n (streamBytes w vs) out h);
   }
 
+  -- what an accepted call fixes: n and o are the count and the output
   pub accepted : {n : ℕ} {o : List ℕ} → streamRefusal vs (length out) w ≡ 0 → length (streamBytes w vs) ≤ length out
       → n ≡ length (streamBytes w vs) → o ≡ sets out 0 (streamBytes w vs)
       → EncodesStream vs out w (Stream n) o
