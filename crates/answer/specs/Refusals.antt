@@ -1,7 +1,7 @@
 -- Answers and refusals (docs/SCOPE.md, "Refusals"). A definition of each call gives the number of its refusal, 0 where there is none; the
 -- rest follows from that number.
 use mathlib.Core.Path.{_≡_}
-use mathlib.Core.Bool.{Bool, true, false, cond}
+use mathlib.Core.Bool.{Bool, cond}
 use mathlib.Core.List.{List, _++_}
 use Prim.Native.Nat.{ℕ, zero, suc}
 use lib.Dec.{leb, ltb}
@@ -47,8 +47,7 @@ impossibleState = 8
 
 -- the refusal with a number, unless a test holds
 abbrev pub unless : Bool → ℕ → ℕ
-unless true n = 0
-unless false n = n
+unless b n = cond b 0 n
 
 -- the first of two: "order: 8, 1, 2, 3, 4, then 5 or 6 by the earlier value, 7"
 abbrev pub firstOf : ℕ → ℕ → ℕ

@@ -21,6 +21,7 @@ abbrev pub Holds : List ℕ → ℕ → List Bool → Type 0
 Holds s n [] = Unit {0}
 Holds s n (b ∷ bs) = (bitAt s n ≡ b) × Holds s (suc n) bs
 
+-- two lists of bits stand in a stream one after another where both together do
 pub holds-append : (s : List ℕ) (n : ℕ) (a b : List Bool) → Holds s n (a ++ b) → Holds s n a × Holds s (n + length a) b
 holds-append s n [] b h = (tt, subst (λ (i : ℕ). Holds s i b) (sym (add-zero n)) h)
 holds-append s n (x ∷ a) b h =

@@ -15,6 +15,7 @@ use Rattle.bits.specs.Bits.{odd, bitOf, bitAt, num}
 abbrev pub Bytes : List ℕ → Type 0
 Bytes s = (i : ℕ) → getD s i 0 < 256
 
+-- a bit is at most 1
 pub bit-le : (b : Bool) → bitOf b ≤ 1
 bit-le true = omega arith
 bit-le false = omega arith
@@ -32,6 +33,7 @@ pub bit-past : (s : List ℕ) (n : ℕ) → 8 * length s ≤ n → bitAt s n ≡
 bit-past s n h =
     ap (λ (x : ℕ). odd (x / 2 ^ (7 - n % 8))) (List·getD-eq-default s 0 {n = n / 8} (omega arith)) ∙ ap odd (zero-div (2 ^ (7 - n % 8)))
 
+-- the number of no bits is 0
 pub num-none : (s : List ℕ) (n : ℕ) → num s n 0 ≡ 0
 unfolding num
 num-none s n = refl

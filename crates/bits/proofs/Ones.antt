@@ -9,6 +9,7 @@ use lib.ListN.{length}
 use Rattle.bits.specs.Bits.{bitAt, zeros}
 use Rattle.bits.proofs.Numbers.{bit-past}
 
+-- there are at most as many zeros as are looked at
 pub zeros-le : (s : List ℕ) (n l : ℕ) → zeros s n l ≤ l
 unfolding zeros
 zeros-le s n zero = omega arith
@@ -55,16 +56,18 @@ zeros-on s n (suc m) k e = by (bitAt s n) refl e (zeros-on s (suc n) m k)
         ∙ ap (λ (i : ℕ). suc (m + zeros s i k)) {x = suc n + m} {y = n + suc m} (omega arith)
         ∙ sym (suc-add m (zeros s (n + suc m) k))
 
--- z zeros are counted from n on: what is counted in all where the stream ends there, where a 1 follows, and where more zeros do
+-- z zeros up to the end of the stream, and so all that are asked for
 pub zeros-end : (s : List ℕ) (n z limit : ℕ) → zeros s n z ≡ z → z ≤ limit → 8 * length s ≤ n + z → zeros s n limit ≡ limit
 zeros-end s n z limit e h g =
     let q : limit ≡ z + (limit - z) = omega arith in
     ap (zeros s n) q ∙ zeros-on s n z (limit - z) e ∙ ap (λ (k : ℕ). z + k) (zeros-past s (n + z) (limit - z) g) ∙ sym q
 
+-- a 1 among the next bits ends the zeros counted so far
 pub zeros-stop : (s : List ℕ) (n z part limit : ℕ) → zeros s n z ≡ z → z + part ≤ limit → zeros s (n + z) part < part → z + zeros s (n + z) part ≡ zeros s n limit
 zeros-stop s n z part limit e h l =
     let q : limit ≡ z + (part + (limit - (z + part))) = omega arith in
     sym (ap (zeros s n) q ∙ zeros-on s n z (part + (limit - (z + part))) e ∙ ap (λ (k : ℕ). z + k) (zeros-part s (n + z) part (limit - (z + part)) l))
 
+-- next bits without a 1 are zeros more
 pub zeros-go : (s : List ℕ) (n z part : ℕ) → zeros s n z ≡ z → part ≤ zeros s (n + z) part → zeros s n (z + part) ≡ z + part
 zeros-go s n z part e l = zeros-on s n z part e ∙ omega (arith, zeros-le s (n + z) part)

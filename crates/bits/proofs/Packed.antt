@@ -14,7 +14,7 @@ use borrow.Author.Tests.{eqb-true, eqb-false}
 use Rattle.bits.specs.Bits.{bitOf}
 use Rattle.bits.proofs.Numbers.{Bytes, bit-le}
 use Rattle.bits.specs.Written.{whole, pack, writer, after}
-use Rattle.bits.specs.Inner.{write, padCount, padOut, countOf, counted}
+use Rattle.bits.specs.Inner.{write, padCount, padOut, writerCount, counted}
 use Rattle.bits.specs.declared.writer.BitWriter.{BitWriter}
 use Rattle.bits.specs.declared.writer.BitCount.{BitCount}
 
@@ -32,6 +32,7 @@ write-whole (b ∷ bs) out j cur n = by (eqb n 7) (write-whole bs)
         ih (set out j (cur * 2 + bitOf b)) (j + 1) 0 0 ∙ ap (λ i. sets (set out j (cur * 2 + bitOf b)) i (whole 0 0 bs)) (add-one j)
     by false ih = ih out j (cur * 2 + bitOf b) (n + 1)
 
+-- a writer counts the whole bytes that the bits make
 pub after-whole : (bs : List Bool) (j cur n : ℕ) → after (writer j cur n) bs .at ≡ j + length (whole cur n bs)
 after-whole [] j cur n = sym (add-zero j)
 after-whole (b ∷ bs) j cur n = by (eqb n 7) (after-whole bs)
@@ -68,6 +69,7 @@ module _ (f : List Bool) (out : List ℕ) (j cur n : ℕ) where
   unfolding k
   all = ap (pack cur n) (sym (append-nil f)) ∙ pack-append f [] j cur n
 
+  -- with the padding a writer counts all bytes of `pack`
   pub pad-count : padCount (after (writer j cur n) f) ≡ j + length (pack cur n f)
   unfolding k
   pad-count = by (eqb (k .«bit_count») 0) ∙ ap (λ l. j + length l) (sym all)
@@ -76,6 +78,7 @@ module _ (f : List Bool) (out : List ℕ) (j cur n : ℕ) where
       by true = omega (arith, after-whole f j cur n, length-append (whole cur n f) [])
       by false = omega (arith, after-whole f j cur n, length-append (whole cur n f) ((k .current * 2 ^ (8 - k .«bit_count»)) ∷ []))
 
+  -- with the padding the output holds all bytes of `pack`
   pub pad-out : padOut (write out (writer j cur n) f) (after (writer j cur n) f) ≡ sets out j (pack cur n f)
   unfolding k
   pad-out = by (eqb (k .«bit_count») 0) ∙ ap (sets out j) (sym all)
@@ -113,16 +116,16 @@ sets-start vs l h = sets-eq vs l 0 (omega arith) ∙ ap (λ n. vs ++ drop n l) (
 -- ════ measuring ════
 
 -- the place after some bits is known by their number
-pub count-after : (k : BitWriter) (bs : List Bool) → k .«bit_count» ≤ 7 → countOf (after k bs) ≡ counted (countOf k) (length bs)
+pub count-after : (k : BitWriter) (bs : List Bool) → k .«bit_count» ≤ 7 → writerCount (after k bs) ≡ counted (writerCount k) (length bs)
 count-after k [] h =
     let a : k .at ≡ k .at + (k .«bit_count» + 0) / 8 = omega arith in
     let n : k .«bit_count» ≡ (k .«bit_count» + 0) % 8 = omega arith in
     λ i. record { at = a i; «bit_count» = n i }
 count-after k (b ∷ bs) h = by (eqb (k .«bit_count») 7) refl (λ x. count-after x bs)
   where
-    by : (e : Bool) → eqb (k .«bit_count») 7 ≡ e → ((x : BitWriter) → x .«bit_count» ≤ 7 → countOf (after x bs) ≡ counted (countOf x) (length bs))
-        → countOf (after (cond e (writer (k .at + 1) 0 0) (writer (k .at) (k .current * 2 + bitOf b) (k .«bit_count» + 1))) bs)
-        ≡ counted (countOf k) (suc (length bs))
+    by : (e : Bool) → eqb (k .«bit_count») 7 ≡ e → ((x : BitWriter) → x .«bit_count» ≤ 7 → writerCount (after x bs) ≡ counted (writerCount x) (length bs))
+        → writerCount (after (cond e (writer (k .at + 1) 0 0) (writer (k .at) (k .current * 2 + bitOf b) (k .«bit_count» + 1))) bs)
+        ≡ counted (writerCount k) (suc (length bs))
     by true q ih =
         let s : k .«bit_count» ≡ 7 = eqb-true _ _ q in
         let a : k .at + 1 + (0 + length bs) / 8 ≡ k .at + (k .«bit_count» + suc (length bs)) / 8 = omega arith in
@@ -155,6 +158,7 @@ counted-two p m n =
     let b : ((p .«bit_count» + m) % 8 + n) % 8 ≡ (p .«bit_count» + (m + n)) % 8 = omega arith in
     λ i. record { at = a i; «bit_count» = b i }
 
+-- no bits leave a count as it is
 pub counted-none : (p : BitCount) → p .«bit_count» ≤ 7 → p ≡ counted p 0
 counted-none p h =
     let a : p .at ≡ p .at + (p .«bit_count» + 0) / 8 = omega arith in
@@ -168,9 +172,11 @@ pub bytes-cons : (b : ℕ) (s : List ℕ) → b < 256 → Bytes s → Bytes (b �
 bytes-cons b s h k zero = h
 bytes-cons b s h k (suc i) = k i
 
+-- the empty list is one of bytes
 pub bytes-none : Bytes []
 bytes-none i = omega arith
 
+-- two lists of bytes, one behind the other, are bytes
 pub bytes-append : (a b : List ℕ) → Bytes a → Bytes b → Bytes (a ++ b)
 bytes-append [] b h k = k
 bytes-append (x ∷ a) b h k = bytes-cons x (a ++ b) (h 0) (bytes-append a b (λ i. h (suc i)) k)

@@ -12,7 +12,7 @@ use lib.Pow.{pow-pos, shr-shr, mod-pow-add, high, split}
 use borrow.Author.Tests.{eqb-false, ne-eqb}
 use Rattle.bits.specs.Bits.{odd, bitOf}
 use Rattle.bits.specs.Written.{bitsOf, writer, step, after}
-use Rattle.bits.specs.Inner.{Sound, put, write}
+use Rattle.bits.specs.Inner.{Sound, putBit, write, Wrote}
 use Rattle.bits.specs.declared.writer.BitWriter.{BitWriter}
 use Rattle.bits.proofs.Numbers.{bit-le, odd-bit}
 
@@ -26,6 +26,7 @@ byte-fits k b h = rw (add-one (k .«bit_count»), pow-suc 2 (k .«bit_count»)) 
 abbrev stepBy : BitWriter → Bool → Bool → BitWriter
 stepBy k b e = cond e (writer (k .at + 1) 0 0) (writer (k .at) (k .current * 2 + bitOf b) (k .«bit_count» + 1))
 
+-- a bit more leaves fewer than 8 bits waiting, as a number
 pub step-sound : (k : BitWriter) (b : Bool) → Sound k → Sound (step k b)
 step-sound k b h = by (eqb (k .«bit_count») 7) refl
   where
@@ -37,6 +38,7 @@ step-at : (k : BitWriter) (b e : Bool) → (k .at ≤ stepBy k b e .at) × (step
 step-at k b true = (omega arith, omega arith)
 step-at k b false = (omega arith, omega arith)
 
+-- some bits leave fewer than 8 bits waiting, as a number
 pub after-sound : (k : BitWriter) (bs : List Bool) → Sound k → Sound (after k bs)
 after-sound k [] h = h
 after-sound k (b ∷ bs) h = after-sound (step k b) bs (step-sound k b h)
@@ -51,17 +53,15 @@ after-at k (b ∷ bs) =
 
 -- ════ bits in a row ════
 
+-- the writer after bits in a row
 pub after-append : (k : BitWriter) (a b : List Bool) → after k (a ++ b) ≡ after (after k a) b
 after-append k [] b = refl
 after-append k (x ∷ a) b = after-append (step k x) a b
 
+-- the output after bits in a row
 pub write-append : (out : List ℕ) (k : BitWriter) (a b : List Bool) → write out k (a ++ b) ≡ write (write out k a) (after k a) b
 write-append out k [] b = refl
-write-append out k (x ∷ a) b = write-append (put out k x) (step k x) a b
-
--- what each function that writes promises: x and o are the writer and the output after the bits bs
-abbrev pub Wrote : List ℕ → BitWriter → List Bool → BitWriter → List ℕ → Type 0
-Wrote out k bs x o = (x ≡ after k bs) × (o ≡ write out k bs)
+write-append out k (x ∷ a) b = write-append (putBit out k x) (step k x) a b
 
 -- two writes in a row are one write of both
 pub then : (out : List ℕ) (k : BitWriter) (a b : List Bool) {x y : BitWriter} {o p : List ℕ} → Wrote out k a x o → Wrote o x b y p → Wrote out k (a ++ b) y p
@@ -74,14 +74,17 @@ then out k a b {x = x} {o = o} d e = (
 pub renamed : (out : List ℕ) (k : BitWriter) {a b : List Bool} {x : BitWriter} {o : List ℕ} → a ≡ b → Wrote out k a x o → Wrote out k b x o
 renamed out k q d = (d .0 ∙ ap (after k) q, d .1 ∙ ap (write out k) q)
 
+-- a writer that wrote some bits keeps fewer than 8, as a number
 pub wrote-sound : (k : BitWriter) (bs : List Bool) {x : BitWriter} → x ≡ after k bs → Sound k → Sound x
 wrote-sound k bs e h = subst Sound (sym e) (after-sound k bs h)
 
+-- a writer that wrote some bits has at most as many bytes more
 pub wrote-at : (k : BitWriter) (bs : List Bool) {x : BitWriter} → x ≡ after k bs → x .at ≤ k .at + length bs
 wrote-at k bs e = subst (λ x. x .at ≤ k .at + length bs) (sym e) (after-at k bs .1)
 
 -- ════ the bits of a number ════
 
+-- the low k bits of a number are k bits
 pub length-bitsOf : (k z : ℕ) → length (bitsOf k z) ≡ k
 length-bitsOf zero z = refl
 length-bitsOf (suc k) z = simp (length-append, length-bitsOf k (z / 2)) (omega arith)
@@ -116,9 +119,11 @@ bits-join i m hi lo h =
     ∙ ap (λ y. bitsOf i y ++ bitsOf m (hi * 2 ^ m + lo)) (high hi m h)
     ∙ ap (λ l. bitsOf i hi ++ l) (bits-low m hi lo)
 
+-- the low bits of a number are those of its remainder
 pub bits-mod : (m x : ℕ) → bitsOf m (x % 2 ^ m) ≡ bitsOf m x
 bits-mod m x = sym (ap (bitsOf m) (sym (split x m)) ∙ bits-low m (x / 2 ^ m) (x % 2 ^ m))
 
+-- the bits of 0 are zeros
 pub bits-zero : (n : ℕ) → bitsOf n 0 ≡ replicate n false
 bits-zero zero = refl
 bits-zero (suc n) = ap (λ l. l ++ (false ∷ [])) (bits-zero n) ∙ replicate-append-replicate n 1 false ∙ ap (λ m. replicate m false) (add-one n)
@@ -185,6 +190,7 @@ fills k n x h e =
 
 -- ════ zeros, a byte at a time ════
 
+-- zeros are those of two parts in a row
 pub zeros-two : (n i j : ℕ) → n ≡ i + j → replicate n false ≡ replicate i false ++ replicate j false
 zeros-two n i j e = ap (λ m. replicate m false) e ∙ sym (replicate-append-replicate i j false)
 

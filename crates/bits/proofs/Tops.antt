@@ -20,6 +20,7 @@ use Rattle.bits.proofs.Ones.{zeros-min}
 shifted : (h l m e k : ℕ) → (h * 2 ^ m + l) * 2 ^ e * 2 ^ k ≡ h * 2 ^ (m + (e + k)) + l * 2 ^ (e + k)
 shifted h l m e k = simp (pow-add, add-mul, mul-assoc)
 
+-- a shift left drops bits of a word that holds bits at its top
 pub top-skip : (v k a : ℕ) (s : List ℕ) (n : ℕ) → Top v a s n → k ≤ v → Top (v - k) ((a * 2 ^ k) % 2 ^ 64) s (n + k)
 top-skip v k a s n t h = record { fits = omega (arith, t .fits); is = go (v - k) (64 - v) (omega arith) (omega (arith, t .fits)) }
   where
@@ -33,6 +34,7 @@ top-skip v k a s n t h = record { fits = omega (arith, t .fits); is = go (v - k)
         ∙ low (num s n k) 64 bound
         ∙ ap (λ (j : ℕ). num s (n + k) m * 2 ^ j) (omega arith)
 
+-- what a word still begins with after a shift left
 pub front-skip : (v k have a : ℕ) (s : List ℕ) (n : ℕ) → Top v a s n → k + have ≤ v → Front have ((a * 2 ^ k) % 2 ^ 64) s (n + k)
 front-skip v k have a s n t h = record { all = v - k; enough = omega arith; top = top-skip v k a s n t (omega arith) }
 
@@ -41,6 +43,7 @@ front-skip v k have a s n t h = record { all = v - k; enough = omega arith; top 
 taken : (h l d e : ℕ) → (h * 2 ^ d + l) * 2 ^ e ≡ h * 2 ^ (d + e) + l * 2 ^ e
 taken h l d e = simp (pow-add, add-mul, mul-assoc)
 
+-- a shift right gives the number that the first bits are
 pub top-take : (v w a : ℕ) (s : List ℕ) (n : ℕ) → Top v a s n → w ≤ v → a / 2 ^ (64 - w) ≡ num s n w
 top-take v w a s n t h = go (v - w) (64 - v) (omega arith) (omega (arith, t .fits))
   where
@@ -56,6 +59,7 @@ num-one : (s : List ℕ) (n : ℕ) → num s n 1 ≡ bitOf (bitAt s n)
 unfolding num
 num-one s n = omega arith
 
+-- a word below 2^63 begins with a 0
 pub first-zero : (v a : ℕ) (s : List ℕ) (n : ℕ) → Top v a s n → 1 ≤ v → a < 2 ^ 63 → bitAt s n ≡ false
 first-zero v a s n t h l = by (bitAt s n) (sym (num-one s n) ∙ sym (top-take v 1 a s n t h))
   where
@@ -63,6 +67,7 @@ first-zero v a s n t h l = by (bitAt s n) (sym (num-one s n) ∙ sym (top-take v
     by true e = absurd (omega arith)
     by false e = refl
 
+-- a word from 2^63 on begins with a 1
 pub first-one : (v a : ℕ) (s : List ℕ) (n : ℕ) → Top v a s n → 1 ≤ v → 2 ^ 63 ≤ a → bitAt s n ≡ true
 first-one v a s n t h l = by (bitAt s n) (sym (num-one s n) ∙ sym (top-take v 1 a s n t h))
   where
@@ -70,6 +75,7 @@ first-one v a s n t h l = by (bitAt s n) (sym (num-one s n) ∙ sym (top-take v 
     by true e = refl
     by false e = absurd (omega arith)
 
+-- the first bit of a word is its comparison with 2^63
 pub first-bit : (v a : ℕ) (s : List ℕ) (n : ℕ) → Top v a s n → 1 ≤ v → bitAt s n ≡ leb (2 ^ 63) a
 first-bit v a s n t h = by (leb (2 ^ 63) a) refl
   where
@@ -99,6 +105,7 @@ lead (suc w) s n = by (bitAt s n) refl (lead w s (suc n))
     by false e (none z x) = let q = at false e in none (omega (arith, q .0)) (omega (arith, q .1))
     by false e (some m z lo hi) = let q = at false e in some m (omega (arith, q .0)) (omega (arith, q .1)) (omega (arith, q .1))
 
+-- leading zeros, as far as the word goes, are zeros before a 1
 pub top-zeros : (v l a : ℕ) (s : List ℕ) (n : ℕ) → Top v a s n → l ≤ v → min l (leadingZeros 64 a) ≡ zeros s n l
 top-zeros v l a s n t h = go (lead v s n)
   where
@@ -121,6 +128,7 @@ top-zeros v l a s n t h = go (lead v s n)
 
 -- ---- the word of eight bytes, from a bit of the first on
 
+-- the 64 bits from a byte on, shifted to a bit of it
 pub top-window : (a : ℕ) (s : List ℕ) (n k : ℕ) → a ≡ num s n 64 → k ≤ 7 → Top (64 - k) ((a * 2 ^ k) % 2 ^ 64) s (n + k)
 top-window a s n k e h = top-skip 64 k a s n (record { fits = omega arith; is = e ∙ omega arith }) (omega arith)
 
@@ -142,5 +150,6 @@ ends-at s n (suc l) z e h = by (bitAt s n) refl z e h (ends-at s (suc n) l)
         let m : n + suc z ≡ suc n + z = omega arith in
         (ap (λ (b : Bool). cond b 0 (suc (zeros s (suc n) z))) q ∙ ap suc (r .0), ap (bitAt s) m ∙ r .1)
 
+-- behind the leading zeros stands a 1
 pub top-one : (v a z : ℕ) (s : List ℕ) (n : ℕ) → Top v a s n → z ≡ leadingZeros 64 a → z < v → (zeros s n z ≡ z) × (bitAt s (n + z) ≡ true)
 top-one v a z s n t e h = ends-at s n (suc z) z (sym (top-zeros v (suc z) a s n t (omega arith)) ∙ omega arith) (omega arith)

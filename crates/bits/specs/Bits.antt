@@ -54,5 +54,5 @@ abbrev pub held : List ℕ → ℕ → ℕ
 held s n = min n (8 * length s)
 
 -- the place of a reader that was handed in at r and has read up to bit n; one that was at or past the end stays as it is
-abbrev pub placeAt : List ℕ → BitReader → ℕ → BitReader
-placeAt s r n = cond (ltb (r .«byte_idx») (length s)) (placeOf (held s n)) r
+abbrev pub readerMoved : List ℕ → BitReader → ℕ → BitReader
+readerMoved s r n = cond (ltb (r .«byte_idx») (length s)) (placeOf (held s n)) r

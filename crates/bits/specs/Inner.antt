@@ -8,7 +8,7 @@ use lib.Dec.{eqb}
 use lib.ListN.{set}
 use Rattle.bits.specs.declared.writer.BitWriter.{BitWriter}
 use Rattle.bits.specs.declared.writer.BitCount.{BitCount}
-use Rattle.bits.specs.Written.{step}
+use Rattle.bits.specs.Written.{step, after}
 
 -- the top v bits of the word a are the v bits from bit n of the stream on, and its other bits are 0
 pub record Top (v a : ℕ) (s : List ℕ) (n : ℕ) : Type 0 where
@@ -29,14 +29,18 @@ Sound k = (k .«bit_count» ≤ 7) × (k .current < 2 ^ k .«bit_count»)
 abbrev pub Room : BitWriter → ℕ → Type 0
 Room k n = k .at + n < 2 ^ 64
 
--- the output after it: a byte more where it is the eighth
-abbrev pub put : List ℕ → BitWriter → Bool → List ℕ
-put out k b = cond (eqb (k .«bit_count») 7) (set out (k .at) (k .current * 2 + bitOf b)) out
+-- the output after one bit: a byte more where it is the eighth
+abbrev pub putBit : List ℕ → BitWriter → Bool → List ℕ
+putBit out k b = cond (eqb (k .«bit_count») 7) (set out (k .at) (k .current * 2 + bitOf b)) out
 
--- the output after them
+-- the output after some bits
 abbrev pub write : List ℕ → BitWriter → List Bool → List ℕ
 write out k [] = out
-write out k (b ∷ bs) = write (put out k b) (step k b) bs
+write out k (b ∷ bs) = write (putBit out k b) (step k b) bs
+
+-- bits were written: x is the writer after them, o the output
+abbrev pub Wrote : List ℕ → BitWriter → List Bool → BitWriter → List ℕ → Type 0
+Wrote out k bs x o = (x ≡ after k bs) × (o ≡ write out k bs)
 
 -- the unfinished bits padded with zeros: how many bytes there are then
 abbrev pub padCount : BitWriter → ℕ
@@ -46,10 +50,10 @@ padCount k = cond (eqb (k .«bit_count») 0) (k .at) (k .at + 1)
 abbrev pub padOut : List ℕ → BitWriter → List ℕ
 padOut out k = cond (eqb (k .«bit_count») 0) out (set out (k .at) (k .current * 2 ^ (8 - k .«bit_count»)))
 
--- a writer's place
-abbrev pub countOf : BitWriter → BitCount
-countOf k = record { at = k .at; «bit_count» = k .«bit_count» }
+-- how far a writer is, without its bits
+abbrev pub writerCount : BitWriter → BitCount
+writerCount k = record { at = k .at; «bit_count» = k .«bit_count» }
 
--- the place after n bits
+-- the same after n more bits
 abbrev pub counted : BitCount → ℕ → BitCount
 counted p n = record { at = p .at + (p .«bit_count» + n) / 8; «bit_count» = (p .«bit_count» + n) % 8 }

@@ -214,7 +214,11 @@ pub fn count_zeros(src: &[u8], r: BitReader, limit: u32) -> u32
 
 // How many zeros stand before a 1 behind the first bit, where `a` begins with `have` bits from that one on. Most often they end in it.
 pub fn zeros_behind_first(src: &[u8], r: BitReader, a: u64, have: u32, limit: u32) -> u32
-    requires { ⌜ (r .«bit_idx» ≤ 7) × (r .«byte_idx» < 2 ^ 63 + 2 ^ 61) × (1 ≤ have) × Front have a (now src) (bitsRead r) ⌝ }
+    requires { ⌜
+        (r .«bit_idx» ≤ 7)
+        × (r .«byte_idx» < 2 ^ 63 + 2 ^ 61)
+        × (1 ≤ have)
+        × Front have a (now src) (bitsRead r) ⌝ }
     ensures { λ z. ⌜ z ≡ zeros (now (src .entry)) (bitsRead r + 1) limit ⌝ }
 {
     let part = at_most(limit, have - 1);

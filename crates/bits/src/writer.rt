@@ -1,11 +1,12 @@
 // The writer: bits go into a slice that the caller lends. A byte past the slice's end is counted and not stored.
 ghost use mathlib.Core.Path.{_≡_};
 ghost use mathlib.Core.Bool.{false};
+ghost use mathlib.Core.List.{[], _∷_};
 ghost use Prim.Native.Nat.{_+_, _*_, _%_, _^_, _≤_, _<_};
 ghost use lib.ListN.{set, replicate};
 ghost use Rattle.bits.specs.Bits.{bitOf};
-ghost use Rattle.bits.specs.Written.{bitsOf, writer, step, after};
-ghost use Rattle.bits.specs.Inner.{Sound, Room, put, write, padCount, padOut, counted};
+ghost use Rattle.bits.specs.Written.{bitsOf, writer};
+ghost use Rattle.bits.specs.Inner.{Sound, Room, write, Wrote, padCount, padOut, counted};
 
 // Where bits go: `at` whole bytes are written, and `bit_count` bits, the number `current`, wait for the next byte.
 pub struct BitWriter {
@@ -39,7 +40,7 @@ pub fn bit_of(b: bool) -> u8
 // One bit.
 pub fn put_bit(out: &mut [u8], k: BitWriter, b: bool) -> BitWriter
     requires { ⌜ Sound k × Room k 1 ⌝ }
-    ensures { λ r. ⌜ (r ≡ step k b) × (now (out .exit) ≡ put (now (out .entry)) k b) ⌝ }
+    ensures { λ r. ⌜ Wrote (now (out .entry)) k (b ∷ []) r (now (out .exit)) ⌝ }
 {
     let byte = k.current * 2 + bit_of(b);
     let at = k.at;
@@ -79,7 +80,7 @@ fn joined(k: BitWriter, value: usize, n: u8) -> usize
 // The low n bits of a number, at the start of a byte: a byte of them where there are 8, and the rest waits.
 fn put_start(out: &mut [u8], at: usize, value: usize, n: u8) -> BitWriter
     requires { ⌜ (n ≤ 15) × (at + 1 < 2 ^ 64) ⌝ }
-    ensures { λ r. ⌜ (r ≡ after (writer at 0 0) (bitsOf n value)) × (now (out .exit) ≡ write (now (out .entry)) (writer at 0 0) (bitsOf n value)) ⌝ }
+    ensures { λ r. ⌜ Wrote (now (out .entry)) (writer at 0 0) (bitsOf n value) r (now (out .exit)) ⌝ }
 {
     if n < 8 {
         return BitWriter {
@@ -100,7 +101,7 @@ fn put_start(out: &mut [u8], at: usize, value: usize, n: u8) -> BitWriter
 // The low n bits of a number, highest first.
 pub fn put_bits(out: &mut [u8], k: BitWriter, value: usize, n: u8) -> BitWriter
     requires { ⌜ Sound k × Room k 2 × (n ≤ 16) ⌝ }
-    ensures { λ r. ⌜ (r ≡ after k (bitsOf n value)) × (now (out .exit) ≡ write (now (out .entry)) k (bitsOf n value)) ⌝ }
+    ensures { λ r. ⌜ Wrote (now (out .entry)) k (bitsOf n value) r (now (out .exit)) ⌝ }
 {
     let word = joined(k, value, n);
     let at = k.at;
@@ -132,7 +133,7 @@ fn put_zero_bytes(out: &mut [u8], at: usize, count: usize)
 // n zeros.
 pub fn put_zeros(out: &mut [u8], k: BitWriter, n: usize) -> BitWriter
     requires { ⌜ Sound k × Room k (n + 2) ⌝ }
-    ensures { λ r. ⌜ (r ≡ after k (replicate n false)) × (now (out .exit) ≡ write (now (out .entry)) k (replicate n false)) ⌝ }
+    ensures { λ r. ⌜ Wrote (now (out .entry)) k (replicate n false) r (now (out .exit)) ⌝ }
 {
     if n <= 16 {
         return put_bits(out, k, 0, n as u8);

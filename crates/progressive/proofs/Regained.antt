@@ -25,7 +25,7 @@ use Rattle.srl_encoder.specs.Encode.{valueZeros, valueFault}
 use Rattle.srl_encoder.specs.Finish.{streamBits}
 use Rattle.srl.specs.Laws.{Legal, legal}
 use Rattle.srl.proofs.Back.{value-legal}
-use Rattle.srl_encoder.proofs.EncodedValues.{first-none}
+use Rattle.answer.proofs.Numbers.{first-none}
 use Rattle.srl.proofs.Trip.{stream-values}
 use Rattle.upgrade_steps.specs.Steps.{Step, Source, skipped, srl, raw, source, sourceOf, steps, stepOf, srlWidths, rawWidths}
 use Rattle.answer.specs.Refusals.{sliceTooShort, outOfDomain, unless, firstOf, longEnough}

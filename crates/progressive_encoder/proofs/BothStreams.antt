@@ -8,7 +8,7 @@ use lib.Dec.{ltb}
 use lib.ListN.{length}
 use Rattle.bits.proofs.Packed.{sets-start}
 use Rattle.answer.specs.Refusals.{magnitudeOutOfRange, outputTooShort, firstOf, noRoom, stored}
-use Rattle.srl_encoder.proofs.EncodedCalls.{stored-some}
+use Rattle.answer.proofs.Numbers.{stored-some}
 use Rattle.progressive_encoder.specs.Encode.{srlStream, rawStream, written}
 use Rattle.progressive_encoder.specs.Inner.{Lists, anyTooLarge, listsRefusal, StoresStreams, WritesStreams}
 use Rattle.progressive_encoder.specs.declared.Written.{Written}

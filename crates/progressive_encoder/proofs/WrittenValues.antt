@@ -24,7 +24,7 @@ use Rattle.bits.proofs.Puts.{after-append, write-append, after-sound, after-at,
 use Rattle.bits.proofs.Packed.{counted-none, counted-two, length-pack, sets-append, padded}
 use Rattle.srl_encoder.specs.Encode.{valueBits, valueKp, valueZeros}
 use Rattle.srl_encoder.specs.Finish.{flush, streamBits}
-use Rattle.srl_encoder.specs.Inner.{valueState, valueWrite, valueMeasure, placeOf}
+use Rattle.srl_encoder.specs.Inner.{valueState, valueWrite, valueMeasure, bitCountOf}
 use Rattle.srl_encoder.specs.declared.encoder.CallState.{CallState}
 use Rattle.srl_encoder.specs.declared.encoder.Measured.{Measured}
 use Rattle.srl_encoder.proofs.EncodedValues.{value-kp, value-zeros}
@@ -163,7 +163,7 @@ unfolding streamBits
 stream-length l m h n =
     let x = append-nil (l .widths) in
     let y = append-nil (l .values) in
-    let e : endCount (measuredOf 0 0 8 0) (l .widths) (l .values) ≡ counted (placeOf m) (length (flush (m .kp) (m .zeros))) = (λ i. endCount (measuredOf 0 0 8 0) (sym x i) (sym y i)) ∙ h .count [] [] in
+    let e : endCount (measuredOf 0 0 8 0) (l .widths) (l .values) ≡ counted (bitCountOf m) (length (flush (m .kp) (m .zeros))) = (λ i. endCount (measuredOf 0 0 8 0) (sym x i) (sym y i)) ∙ h .count [] [] in
     let at = ap (λ p. p .at) e in
     let rest = ap (λ p. p .«bit_count») e in
     omega (arith, some-length (l .widths) (l .values) n, at, rest)
@@ -186,7 +186,7 @@ unfolding streamBits
 value-counted w p v ws us =
     let a = valueBits w (p .kp) (p .zeros) v in
     let b = streamBits (valueKp (p .kp) (p .zeros) v) (valueZeros (p .zeros) v) ws us in
-    ap (counted (placeOf p)) (length-append a b) ∙ sym (counted-two (placeOf p) (length a) (length b))
+    ap (counted (bitCountOf p)) (length-append a b) ∙ sym (counted-two (bitCountOf p) (length a) (length b))
 
 value-after : (w : ℕ) (c : CallState) (v : ℤ) (ws : List ℕ) (us : List ℤ) → streamAfter c (w ∷ ws) (v ∷ us) ≡ streamAfter (valueState w c v) ws us
 unfolding streamBits
@@ -221,7 +221,7 @@ module _ (t : Step) (c p s : ℤ) (h : 1 ≤ t .width) where
 
 -- a value 0 takes no bits, and one more zero is pending
 pub measured-zero : (w : ℕ) (p : Measured) → p .«bit_count» ≤ 7 → measuredOf (p .at) (p .«bit_count») (p .kp) (p .zeros + 1) ≡ valueMeasure w p (pos 0)
-measured-zero w p h = ap (λ (n : BitCount). measuredOf (n .at) (n .«bit_count») (p .kp) (p .zeros + 1)) (counted-none (placeOf p) h)
+measured-zero w p h = ap (λ (n : BitCount). measuredOf (n .at) (n .«bit_count») (p .kp) (p .zeros + 1)) (counted-none (bitCountOf p) h)
 
 -- what is measured can go on
 pub measurable-value : (w i : ℕ) (x y : Measured) (q : ℕ) (c p : ℤ) → y ≡ valueMeasure w x (srlDifference q c p) → Measurable x i → Measurable y (i + 1)

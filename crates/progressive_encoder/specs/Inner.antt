@@ -15,7 +15,7 @@ use Rattle.bits.specs.declared.writer.BitWriter.{BitWriter}
 use Rattle.bits.specs.declared.writer.BitCount.{BitCount}
 use Rattle.answer.specs.Refusals.{firstOf, stored}
 use Rattle.srl_encoder.specs.Finish.{flush, streamBits}
-use Rattle.srl_encoder.specs.Inner.{largest, placeOf, Good, GoodMeasure}
+use Rattle.srl_encoder.specs.Inner.{largest, bitCountOf, Good, GoodMeasure}
 use Rattle.srl_encoder.specs.declared.encoder.CallState.{CallState}
 use Rattle.srl_encoder.specs.declared.encoder.Measured.{Measured}
 use Rattle.upgrade_steps.specs.Steps.{Step, srlWidths, rawWidths}
@@ -135,7 +135,7 @@ measuredOf at n kp z = record { at = at; «bit_count» = n; kp = kp; zeros = z }
 
 -- the place after the rest of an SRL stream, measured from here
 abbrev pub endCount : Measured → List ℕ → List ℤ → BitCount
-endCount p ws vs = counted (placeOf p) (length (streamBits (p .kp) (p .zeros) ws vs))
+endCount p ws vs = counted (bitCountOf p) (length (streamBits (p .kp) (p .zeros) ws vs))
 
 -- the values of some places are measured
 pub record Measures (l : Lists) (p q : Measured) : Type 0 where

@@ -1,27 +1,28 @@
 -- The round trip: what calls of `encode` and `finish` wrote is read back by calls of `decode`, however both sides split the values.
 use mathlib.Core.Path.{_≡_, refl, sym, ap, ap₂, _∙_, subst}
-use mathlib.Core.Bool.{Bool, true, false, cond}
+use mathlib.Core.Bool.{Bool, true, false, _||_}
 use mathlib.Core.List.{List, [], _∷_, _++_, append-assoc, append-nil}
-use Prim.Native.Nat.{ℕ, zero, suc, _+_, _-_, _^_, _≤_, _<_}
+use Prim.Native.Nat.{ℕ, zero, suc, _-_, _^_, _≤_, _<_}
 use native.Mathlib.Decide.{decLt}
 use native.Mathlib.Omega.{arith}
 use borrow.Author.Tests.{lt-ltb, le-ltb}
 use lib.IntN.{ℤ, pos, negsuc, natAbs}
 use lib.ListN.{length, replicate, length-replicate, drop-of-length-le}
 use lib.Pow.{pow-pos}
-use Rattle.bits.specs.Bits.{bitsRead, placeAt, held}
+use Rattle.bits.specs.Bits.{bitsRead, readerMoved, held}
 use Rattle.bits.proofs.Holds.{Holds, pack-holds}
 use Rattle.bits.proofs.Past.{same, past, alike-held}
 use Rattle.bits.proofs.Places.{read-place}
 use Rattle.srl_decoder.specs.Srl.{Reader, reader, start, values, readerAfter}
 use Rattle.srl_decoder.specs.Decode.{startState, opened, closed, stateOk, decodeRefusal, decoded, decodeAnswer, decodeOut, decodedState}
-use Rattle.srl_rules.specs.Rules.{widthOk, noRoom, stored}
+use Rattle.answer.specs.Refusals.{invalidBitCount, unless, firstOf, stored}
+use Rattle.answer.proofs.Numbers.{first-none, passes, room-for}
+use Rattle.srl_rules.specs.Rules.{widthOk}
 use Rattle.srl_encoder.specs.Encode.{valueBits, valueKp, valueZeros, callBits, callKp, callZeros, callBytes, callAfter, freshWriter, valueFault, fault}
 use Rattle.srl_encoder.specs.Finish.{streamBits}
 use Rattle.srl.specs.Laws.{Legal, legal, Call, Ask, Accepted, streamFrom, given, widths, asked, room, readBack, RoundTrip}
 use Rattle.srl_decoder.specs.declared.SrlState.{SrlState}
 use Rattle.srl_encoder.specs.declared.SrlWriter.{SrlWriter}
-use Rattle.srl_encoder.proofs.EncodedValues.{first-none, passes}
 use Rattle.srl.proofs.Streamed.{allBits, stream-packed, accepted}
 use Rattle.srl_decoder.proofs.States.{after-mono, closed-ok}
 use Rattle.srl.proofs.Trip.{stream-values}
@@ -29,6 +30,7 @@ use Rattle.srl_decoder.proofs.Values.{AlikeReader, alike, reader-trans, values-
 
 -- ════ accepted calls ════
 
+-- a value that the encoder does not refuse is legal at its width
 pub value-legal : (w z : ℕ) (v : ℤ) → valueFault w z v ≡ 0 → natAbs v < 2 ^ w
 value-legal w z (pos zero) e = pow-pos w
 value-legal w z (pos (suc m)) e = omega (arith, passes m (2 ^ w - 1) 4 e)
@@ -65,6 +67,7 @@ calls-stream kp z (c ∷ cs) =
 
 -- ════ all values, read one by one ════
 
+-- the values of calls that were all accepted, read one by one from the stream that they wrote, are those that were given
 pub stream-reads : (cs : List Call) → Accepted freshWriter cs → values (streamFrom freshWriter cs) (widths cs) start ≡ given cs
 stream-reads cs a =
     let s = streamFrom freshWriter cs in
@@ -92,14 +95,11 @@ fine-rest : (w n : ℕ) {ws : List ℕ} → Fine (replicate n w ++ ws) → Fine 
 fine-rest w zero f = f
 fine-rest w (suc n) (fine h f) = fine-rest w n f
 
-room-for : (n : ℕ) → noRoom n n ≡ 0
-room-for n = simp (le-ltb n n (omega arith))
-
 -- no call is refused: its width is fine, or it asks for nothing
 no-refusal : (s : List ℕ) (st : SrlState) (w n : ℕ) (ws : List ℕ) → stateOk st ≡ true → Fine (replicate n w ++ ws) → decodeRefusal s st n n w ≡ 0
 no-refusal s st w zero ws h f = simp h (by (widthOk w))
   where
-    by : (b : Bool) → _≡_ {A = ℕ} (cond b 0 0) 0
+    by : (b : Bool) → firstOf (unless (b || true) invalidBitCount) 0 ≡ 0
     by true = refl
     by false = refl
 no-refusal s st w (suc n) ws h (fine g f) = simp (h, g) (room-for (suc n))
@@ -121,10 +121,10 @@ closed-alike s st r h = by (decLt (st .reader .«byte_idx») (length s))
   where
     by : Dec (st .reader .«byte_idx» < length s) → AlikeReader s (opened (closed s st r)) r
     by (yes l) =
-        let e : bitsRead (placeAt s (st .reader) (r .read)) ≡ held s (r .read) = ap bitsRead (simp (lt-ltb _ _ l)) ∙ read-place (held s (r .read)) in
+        let e : bitsRead (readerMoved s (st .reader) (r .read)) ≡ held s (r .read) = ap bitsRead (simp (lt-ltb _ _ l)) ∙ read-place (held s (r .read)) in
         subst (λ (n : ℕ). AlikeReader s (reader n (r .kp) (r .run) (r .pending)) r) (sym e) (alike (alike-held s (r .read)))
     by (no l) =
-        let e : bitsRead (placeAt s (st .reader) (r .read)) ≡ bitsRead (st .reader) = ap bitsRead (simp (le-ltb (st .reader .«byte_idx») (length s) (omega arith))) in
+        let e : bitsRead (readerMoved s (st .reader) (r .read)) ≡ bitsRead (st .reader) = ap bitsRead (simp (le-ltb (st .reader .«byte_idx») (length s) (omega arith))) in
         subst (λ (n : ℕ). AlikeReader s (reader n (r .kp) (r .run) (r .pending)) r) (sym e) (alike (past (omega arith) (omega arith)))
 
 back-reads : (s : List ℕ) (asks : List Ask) (st : SrlState) (r : Reader) → stateOk st ≡ true → Fine (asked asks) → AlikeReader s (opened st) r → readBack s st asks ≡ values s (asked asks) r
@@ -140,6 +140,7 @@ back-reads s (a ∷ asks) st r h f k =
     (reader-trans s (closed-alike s st after (after-mono s ws (opened st))) (v .1)) in
     ap₂ (λ (x y : List ℤ). x ++ y) (out-is s st a e ∙ v .0) (ap (λ (t : SrlState). readBack s t asks) next ∙ ih) ∙ sym (values-append s ws (asked asks) r)
 
+-- the round trip, however both sides split the values into calls
 pub trip : RoundTrip
 trip = record {
   back = λ cs asks a e.

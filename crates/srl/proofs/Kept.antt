@@ -1,10 +1,11 @@
 -- Number, count and state of each answer, and that a refusal leaves the output as it was: by the number that the definitions go by. Assumes nothing.
 use mathlib.Core.Path.{_≡_, refl, ap}
+use mathlib.Core.List.{List, []}
 use Prim.Native.Nat.{ℕ, zero, suc}
-use lib.ListN.{length, replicate}
-use Rattle.srl_decoder.specs.Srl.{values, readerAfter}
-use Rattle.srl_decoder.specs.Decode.{opened, closed, decodeRefusal, decoded, decodedNumber, decodedCount, decodedState}
-use Rattle.srl_rules.specs.Rules.{stored}
+use lib.IntN.{ℤ}
+use lib.ListN.{length}
+use Rattle.srl_decoder.specs.Decode.{valuesFrom, stateAfter, decodeRefusal, decoded, decodedNumber, decodedCount, decodedState}
+use Rattle.answer.specs.Refusals.{stored}
 use Rattle.srl_encoder.specs.Encode.{freshWriter, callBytes, callAfter, encodeRefusal, encoded, encodedNumber, encodedCount, encodedState}
 use Rattle.srl_encoder.specs.Finish.{finishBytes, finishRefusal, finished, finishedNumber, finishedCount, finishedState}
 use Rattle.srl_held.specs.Held.{outcome, outcomeNumber, outcomeCount}
@@ -14,77 +15,63 @@ use Rattle.srl_decoder.specs.declared.SrlState.{SrlState}
 use Rattle.srl_decoder.specs.declared.Decoded.{Decoded}
 use Rattle.srl_decoder.specs.declared.Decoded.the-variants as D
 use Rattle.srl_encoder.specs.declared.SrlWriter.{SrlWriter}
+use Rattle.srl_encoder.specs.declared.Encoded.{Encoded}
+use Rattle.srl_encoder.specs.declared.Finished.{Finished}
 
--- the number of the case that a number stands for
-decoded-number : (k n : ℕ) (next st : SrlState) → decodedNumber (decoded k n next st) ≡ k
-decoded-number zero n next st = refl
-decoded-number (suc k) n next st = refl
+-- ════ any call: its answer goes by the number of its refusal ════
 
-encoded-number : (k n : ℕ) (next st : SrlWriter) → encodedNumber (encoded k n next st) ≡ k
-encoded-number zero n next st = refl
-encoded-number (suc k) n next st = refl
+module _ {R : Type 0} (answer : ℕ → R) where
+  -- the number of an answer is that of its refusal, where it is so for none and for each
+  number-is : (number : R → ℕ) → number (answer 0) ≡ 0 → ((k : ℕ) → number (answer (suc k)) ≡ suc k) → (r : ℕ) → number (answer r) ≡ r
+  number-is number none some zero = none
+  number-is number none some (suc k) = some k
 
-finished-number : (k n : ℕ) (st : SrlWriter) → finishedNumber (finished k n st) ≡ k
-finished-number zero n st = refl
-finished-number (suc k) n st = refl
+  -- count and state of an answer, and an output then, where the number of its refusal is known: a refusal's, or 0
+  known : {S A : Type 0} (count : R → ℕ) (state : R → S) (xs out : List A) {r m : ℕ} → r ≡ m
+      → (count (answer r) ≡ count (answer m)) × (state (answer r) ≡ state (answer m)) × (stored r xs out ≡ stored m xs out)
+  known count state xs out e = (ap (λ (n : ℕ). count (answer n)) e, ap (λ (n : ℕ). state (answer n)) e, ap (λ (n : ℕ). stored n xs out) e)
 
+-- ════ each call's answer, by that number ════
+
+abbrev decodes : List ℕ → SrlState → ℕ → ℕ → ℕ → Decoded
+decodes s st n w r = decoded r n (stateAfter s st n w) st
+
+abbrev encodes : SrlWriter → List ℤ → ℕ → ℕ → Encoded
+encodes st vs w r = encoded r (length (callBytes w st vs)) (callAfter w st vs) st
+
+abbrev finishes : SrlWriter → List ℕ → ℕ → Finished
+finishes st bytes r = finished r (length bytes) st
+
+-- a refused call gives the refusal's number, no count and the state handed in, and leaves the output; an accepted one the count and state of the definitions
 pub kept : Refusals
 kept = record {
-  decode-number = λ s st room n w. decoded-number (decodeRefusal s st room n w) n (closed s st (readerAfter s (replicate n w) (opened st))) st;
-  decode-kept = λ s st out n w k e.
-      let next = closed s st (readerAfter s (replicate n w) (opened st)) in (
-        ap (λ (r : ℕ). decodedCount (decoded r n next st)) e,
-        ap (λ (r : ℕ). decodedState (decoded r n next st)) e,
-        ap (λ (r : ℕ). stored r (values s (replicate n w) (opened st)) out) e,
-      );
-  decode-done = λ s st room n w e.
-      let next = closed s st (readerAfter s (replicate n w) (opened st)) in (
-        ap (λ (r : ℕ). decodedCount (decoded r n next st)) e,
-        ap (λ (r : ℕ). decodedState (decoded r n next st)) e,
-      );
-  encode-number = λ st vs room w. encoded-number (encodeRefusal st vs room w) (length (callBytes w st vs)) (callAfter w st vs) st;
-  encode-kept = λ st vs out w k e. (
-    ap (λ (r : ℕ). encodedCount (encoded r (length (callBytes w st vs)) (callAfter w st vs) st)) e,
-    ap (λ (r : ℕ). encodedState (encoded r (length (callBytes w st vs)) (callAfter w st vs) st)) e,
-    ap (λ (r : ℕ). stored r (callBytes w st vs) out) e,
-  );
-  encode-done = λ st vs room w e. (
-    ap (λ (r : ℕ). encodedCount (encoded r (length (callBytes w st vs)) (callAfter w st vs) st)) e,
-    ap (λ (r : ℕ). encodedState (encoded r (length (callBytes w st vs)) (callAfter w st vs) st)) e,
-  );
-  finish-number = λ st room. finished-number (finishRefusal st room) (length (finishBytes st)) st;
-  finish-kept = λ st out k e. (
-    ap (λ (r : ℕ). finishedCount (finished r (length (finishBytes st)) st)) e,
-    ap (λ (r : ℕ). finishedState (finished r (length (finishBytes st)) st)) e,
-    ap (λ (r : ℕ). stored r (finishBytes st) out) e,
-  );
-  finish-done = λ st room e. (
-    ap (λ (r : ℕ). finishedCount (finished r (length (finishBytes st)) st)) e,
-    ap (λ (r : ℕ). finishedState (finished r (length (finishBytes st)) st)) e,
-  );
+  decode-number = λ s st room n w. number-is (decodes s st n w) decodedNumber refl (λ k. refl) (decodeRefusal s st room n w);
+  decode-kept = λ s st out n w k e. known (decodes s st n w) decodedCount decodedState (valuesFrom s st n w) out e;
+  decode-done = λ s st room n w e. let a = known (decodes s st n w) decodedCount decodedState (valuesFrom s st n w) [] e in (a .0, a .1);
+  encode-number = λ st vs room w. number-is (encodes st vs w) encodedNumber refl (λ k. refl) (encodeRefusal st vs room w);
+  encode-kept = λ st vs out w k e. known (encodes st vs w) encodedCount encodedState (callBytes w st vs) out e;
+  encode-done = λ st vs room w e. let a = known (encodes st vs w) encodedCount encodedState (callBytes w st vs) [] e in (a .0, a .1);
+  finish-number = λ st room. number-is (finishes st (finishBytes st)) finishedNumber refl (λ k. refl) (finishRefusal st room);
+  finish-kept = λ st out k e. known (finishes st (finishBytes st)) finishedCount finishedState (finishBytes st) out e;
+  finish-done = λ st room e. let a = known (finishes st (finishBytes st)) finishedCount finishedState (finishBytes st) [] e in (a .0, a .1);
 }
 
--- an answer without its state has its number and its count
+-- an answer without its state has its number
 outcome-number : (r : Decoded) → outcomeNumber (outcome r) ≡ decodedNumber r
 outcome-number (D.Values n st) = refl
 outcome-number (D.Refused k st) = refl
 
+-- and its count
 outcome-count : (r : Decoded) → outcomeCount (outcome r) ≡ decodedCount r
 outcome-count (D.Values n st) = refl
 outcome-count (D.Refused k st) = refl
 
+-- the same of a decoder that holds its stream, and of a whole stream
 pub held-kept : HeldRefusals
 held-kept = record {
   held-number = outcome-number;
   held-count = outcome-count;
-  stream-number = λ vs room w. finished-number (streamRefusal vs room w) (length (streamBytes w vs)) freshWriter;
-  stream-kept = λ vs out w k e. (
-    ap (λ (r : ℕ). finishedCount (finished r (length (streamBytes w vs)) freshWriter)) e,
-    ap (λ (r : ℕ). finishedState (finished r (length (streamBytes w vs)) freshWriter)) e,
-    ap (λ (r : ℕ). stored r (streamBytes w vs) out) e,
-  );
-  stream-done = λ vs room w e. (
-    ap (λ (r : ℕ). finishedCount (finished r (length (streamBytes w vs)) freshWriter)) e,
-    ap (λ (r : ℕ). finishedState (finished r (length (streamBytes w vs)) freshWriter)) e,
-  );
+  stream-number = λ vs room w. number-is (finishes freshWriter (streamBytes w vs)) finishedNumber refl (λ k. refl) (streamRefusal vs room w);
+  stream-kept = λ vs out w k e. known (finishes freshWriter (streamBytes w vs)) finishedCount finishedState (streamBytes w vs) out e;
+  stream-done = λ vs room w e. let a = known (finishes freshWriter (streamBytes w vs)) finishedCount finishedState (streamBytes w vs) [] e in (a .0, a .1);
 }

@@ -27,5 +27,6 @@ unfolding values
 values-legal s r Wide.none = Legal.none
 values-legal s r (wide {w = w} h l) = legal (value-legal s w (readied s r .read) (readied s r .run) h) (values-legal s (nextReader s w r) l)
 
+-- every value that is read is legal at its width
 pub magnitudes : DecodedMagnitudes
 magnitudes = record { bounded = λ s ws r h. values-legal s r h }

@@ -1,6 +1,6 @@
 -- Calls of `encode` in a row, and `finish`: what they write together, and the states between them. Assumes nothing.
 use mathlib.Core.Path.{_≡_, refl, ap, sym, _∙_}
-use mathlib.Core.Bool.{Bool, true, false, cond}
+use mathlib.Core.Bool.{Bool, true}
 use mathlib.Core.List.{List, [], _∷_, _++_, append-assoc}
 use Prim.Native.Nat.{ℕ}
 use native.Mathlib.Omega.{arith}
@@ -9,13 +9,14 @@ use lib.ListN.{length}
 use borrow.Author.Tests.{lt-ltb, le-leb}
 use Rattle.bits.specs.Written.{pack}
 use Rattle.bits.proofs.Packed.{pack-append}
-use Rattle.srl_rules.specs.Rules.{widthOk, noRoom}
-use Rattle.srl_encoder.specs.Encode.{callBits, callKp, callZeros, bitsFrom, callBytes, callAfter, writerOk, firstOf, fault, encodeRefusal}
+use Rattle.answer.specs.Refusals.{noRoom}
+use Rattle.answer.proofs.Numbers.{first-none, unless-none}
+use Rattle.srl_rules.specs.Rules.{widthOk}
+use Rattle.srl_encoder.specs.Encode.{callBits, callKp, callZeros, bitsFrom, callBytes, callAfter, writerOk, fault, encodeRefusal}
 use Rattle.srl_encoder.specs.Finish.{flush}
 use Rattle.srl.specs.Laws.{Call, streamFrom, EncoderResumes}
 use Rattle.srl_encoder.specs.declared.SrlWriter.{SrlWriter}
 use Rattle.srl_encoder.proofs.EncodedCalls.{writerOk-good, call-good}
-use Rattle.srl_encoder.proofs.EncodedValues.{first-none}
 
 -- ════ the stream ════
 
@@ -24,6 +25,7 @@ abbrev pub allBits : ℕ → ℕ → List Call → List Bool
 allBits kp z [] = flush kp z
 allBits kp z (c ∷ cs) = callBits (c .width) kp z (c .given) ++ allBits (callKp kp z (c .given)) (callZeros z (c .given)) cs
 
+-- the bytes of calls and of `finish`, one after another, are their bits packed, and a byte 0
 pub stream-packed : (st : SrlWriter) (cs : List Call)
     → streamFrom st cs ≡ pack (st .current) (st .«bit_count») (allBits (st .kp) (st .«pending_zeros») cs) ++ (0 ∷ [])
 stream-packed st [] = refl
@@ -38,15 +40,15 @@ stream-packed st (c ∷ cs) =
 -- ════ the state after an accepted call ════
 
 -- an accepted call passed every test
-tests : (s q : Bool) (f n : ℕ) → _≡_ {A = ℕ} (cond s (cond q (firstOf f n) 4) 8) 0 → (s ≡ true) × (q ≡ true) × (f ≡ 0)
-tests true true f n e = (refl, refl, first-none f n e .0)
-tests true false f n e = absurd (omega arith)
-tests false q f n e = absurd (omega arith)
-
 pub accepted : (st : SrlWriter) (vs : List ℤ) (room w : ℕ) → encodeRefusal st vs room w ≡ 0
     → (writerOk st ≡ true) × (widthOk w ≡ true) × (fault w (st .«pending_zeros») vs ≡ 0)
-accepted st vs room w e = tests (writerOk st) (widthOk w) (fault w (st .«pending_zeros») vs) (noRoom room (length (callBytes w st vs))) e
+accepted st vs room w e =
+    let state = first-none _ _ e in
+    let width = first-none _ _ (state .1) in
+    let value = first-none (fault w (st .«pending_zeros») vs) (noRoom room (length (callBytes w st vs))) (width .1) in
+    (unless-none (writerOk st) 7 (state .0), unless-none (widthOk w) 3 (width .0), value .0)
 
+-- a state that `encode` hands back with bytes is one that it accepts
 pub resumes : EncoderResumes
 resumes = record {
   again = λ st vs room w e.

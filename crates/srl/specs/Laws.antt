@@ -5,8 +5,8 @@ use mathlib.Core.List.{List, [], _∷_, _++_}
 use Prim.Native.Nat.{ℕ, suc, _^_, _<_}
 use lib.IntN.{ℤ, pos, natAbs}
 use lib.ListN.{length, replicate}
-use Rattle.srl_decoder.specs.Srl.{Reader, values, readerAfter}
-use Rattle.srl_decoder.specs.Decode.{startState, opened, closed, stateOk, decodeRefusal, decodeAnswer, decodeOut, decodedNumber, decodedCount, decodedState}
+use Rattle.srl_decoder.specs.Srl.{Reader, values}
+use Rattle.srl_decoder.specs.Decode.{startState, stateAfter, stateOk, decodeRefusal, decodeAnswer, decodeOut, decodedNumber, decodedCount, decodedState}
 use Rattle.srl_encoder.specs.Encode.{freshWriter, writerOk, callBytes, callAfter, encodeRefusal, encodeAnswer, encodeOut, encodedNumber, encodedCount, encodedState}
 use Rattle.srl_encoder.specs.Finish.{finishBytes, finishRefusal, finishAnswer, finishOut, finishedNumber, finishedCount, finishedState}
 use Rattle.srl_held.specs.Held.{outcome, outcomeNumber, outcomeCount}
@@ -107,7 +107,7 @@ pub record Refusals : Type 0 where
   pub decode-kept : (s : List ℕ) (st : SrlState) (out : List ℤ) (n w k : ℕ) → decodeRefusal s st (length out) n w ≡ suc k
       → (decodedCount (decodeAnswer s st (length out) n w) ≡ 0) × (decodedState (decodeAnswer s st (length out) n w) ≡ st) × (decodeOut s st out n w ≡ out)
   pub decode-done : (s : List ℕ) (st : SrlState) (room n w : ℕ) → decodeRefusal s st room n w ≡ 0
-      → (decodedCount (decodeAnswer s st room n w) ≡ n) × (decodedState (decodeAnswer s st room n w) ≡ closed s st (readerAfter s (replicate n w) (opened st)))
+      → (decodedCount (decodeAnswer s st room n w) ≡ n) × (decodedState (decodeAnswer s st room n w) ≡ stateAfter s st n w)
   pub encode-number : (st : SrlWriter) (vs : List ℤ) (room w : ℕ) → encodedNumber (encodeAnswer st vs room w) ≡ encodeRefusal st vs room w
   pub encode-kept : (st : SrlWriter) (vs : List ℤ) (out : List ℕ) (w k : ℕ) → encodeRefusal st vs (length out) w ≡ suc k
       → (encodedCount (encodeAnswer st vs (length out) w) ≡ 0) × (encodedState (encodeAnswer st vs (length out) w) ≡ st) × (encodeOut st vs out w ≡ out)

@@ -33,6 +33,7 @@ below-next x = by (x / 4 % 2) refl
         let g : (x + 4) / 8 ≡ suc (x / 8) = omega arith in
         rw (e′, f, g) (omega (arith, two-pow-succ (x / 8)))
 
+-- `below` is at most 3,072 for a kp that a decoder can have
 pub below-small : (x : ℕ) → x ≤ 80 → below x ≤ 3072
 below-small x h = by (x / 4 % 2) refl
   where
@@ -43,6 +44,7 @@ below-small x h = by (x / 4 % 2) refl
     by zero e = rw e (omega (arith, k))
     by (suc b) e = let e′ : x / 4 % 2 ≡ 1 = omega arith in rw e′ (omega (arith, k))
 
+-- the zeros that c code words 0 bring, in closed form
 pub brought-is : (c kp : ℕ) → brought kp c + below kp ≡ below (kp + 4 * c)
 brought-is zero kp = let e : kp + 4 * 0 ≡ kp = omega arith in ap (λ (x : ℕ). 0 + below x) (sym e) ∙ omega arith
 brought-is (suc c) kp =
@@ -52,10 +54,12 @@ brought-is (suc c) kp =
 -- ════ readers that give the same ════
 
 module _ (s : List ℕ) where
+  -- a reader gives the same values as itself
   pub same-refl : (k : ℕ) (r : Reader) → Same s k r r
   same-refl zero r = refl
   same-refl (suc k) r = λ w. (refl, same-refl k (nextReader s w r))
 
+  -- readers that give the same values as a third give the same
   pub same-trans : (k : ℕ) (p q r : Reader) → Same s k p q → Same s k q r → Same s k p r
   same-trans zero p q r a b = a ∙ b
   same-trans (suc k) p q r a b = λ w. (a w .0 ∙ b w .0, same-trans k (nextReader s w p) (nextReader s w q) (nextReader s w r) (a w .1) (b w .1))
@@ -73,6 +77,7 @@ module _ (s : List ℕ) where
       by true e = rw (code-one s n kp e) (ready-pending s (n + 1 + kp / 8) (kp - 6) (num s (n + 1) (kp / 8)))
       by false e = rw (code-zero s n kp e) (ready-run s (n + 1) (min (kp + 4) 80) (2 ^ (kp / 8)) false (λ z. omega (arith, pow-pos (kp / 8))))
 
+  -- a reader with nothing at hand gives what it gives behind its code word
   pub same-code : (left n kp : ℕ) → 1 ≤ left → Same s left (reader n kp 0 false) (codeWord s n kp)
   same-code zero n kp h = absurd (omega arith)
   same-code (suc k) n kp h = same-ready k (reader n kp 0 false) (codeWord s n kp) (sym (code-ready n kp))
@@ -129,6 +134,7 @@ code-left s n kp = by (bitAt s n)
     by true e = absurd (true≢false e)
     by false e = (omega (arith, pow-pos (kp / 8)), omega arith)
 
+-- one code word brings what code words may bring
 pub one-code : (s : List ℕ) (n kp left : ℕ) (r : CodesRead) → kp ≤ 80 → 1 ≤ left → readBehind n r ≡ codeWord s n kp → Brought s n kp false left r
 one-code s n kp left r h l e =
     let near = code-near s n kp h in

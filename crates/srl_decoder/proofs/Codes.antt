@@ -27,26 +27,32 @@ shut-parts n kp run pending e f g = λ i. record { reader = e i; kp = f i; «zer
 
 -- ---- a code word
 
+-- a code word 0: 2^k zeros, and kp rises
 pub code-zero : (s : List ℕ) (n kp : ℕ) → bitAt s n ≡ false → codeWord s n kp ≡ reader (n + 1) (min (kp + 4) 80) (2 ^ (kp / 8)) false
 code-zero s n kp e = simp e
 
+-- a code word that begins with a 1: as many zeros as its k bits say, then a nonzero value, and kp falls
 pub code-one : (s : List ℕ) (n kp : ℕ) → bitAt s n ≡ true → codeWord s n kp ≡ reader (n + 1 + kp / 8) (kp - 6) (num s (n + 1) (kp / 8)) true
 code-one s n kp e = simp e
 
+-- where zeros are left no code word is read
 pub ready-run : (s : List ℕ) (n kp run : ℕ) (pending : Bool) → (run ≡ 0 → ⊥) → ready s n kp run pending ≡ reader n kp run pending
 ready-run s n kp zero pending h = absurd (h refl)
 ready-run s n kp (suc run) pending h = refl
 
+-- where a nonzero value is left no code word is read
 pub ready-pending : (s : List ℕ) (n kp run : ℕ) → ready s n kp run true ≡ reader n kp run true
 ready-pending s n kp zero = refl
 ready-pending s n kp (suc run) = refl
 
 -- ---- how far a code word goes, and what it leaves
 
+-- at most 11 bits behind bit n, and with a kp that a decoder can have
 pub record Near (n : ℕ) (r : Reader) : Type 0 where
   pub read-near : r .read ≤ n + 11
   pub kp-low : r .kp ≤ 80
 
+-- a code word takes at most 11 bits and leaves a kp that a decoder can have
 pub code-near : (s : List ℕ) (n kp : ℕ) → kp ≤ 80 → Near n (codeWord s n kp)
 code-near s n kp h = by (bitAt s n)
   where
@@ -62,11 +68,13 @@ code-moves s n kp = by (bitAt s n)
     by true = omega arith
     by false = omega arith
 
+-- a reader that is made ready goes at most 11 bits on
 pub ready-near : (s : List ℕ) (n kp run : ℕ) (pending : Bool) → kp ≤ 80 → Near n (ready s n kp run pending)
 ready-near s n kp (suc run) pending h = record { read-near = omega arith; kp-low = h }
 ready-near s n kp zero true h = record { read-near = omega arith; kp-low = h }
 ready-near s n kp zero false h = code-near s n kp h
 
+-- a value leaves kp at most 80
 pub past-kp : (s : List ℕ) (w : ℕ) (r : Reader) → r .kp ≤ 80 → past s w (r .read) (r .kp) (r .run) (r .pending) .kp ≤ 80
 past-kp s w r h = by (r .run)
   where
@@ -97,11 +105,13 @@ next-near s w r h =
     let near = ready-near s (r .read) (r .kp) (r .run) (r .pending) h in
     (omega (arith, past-near s w (q .read) (q .kp) (q .run) (q .pending), near .read-near), past-kp s w q (near .kp-low))
 
+-- a reader that is made ready does not go back
 pub ready-mono : (s : List ℕ) (n kp run : ℕ) (pending : Bool) → n ≤ ready s n kp run pending .read
 ready-mono s n kp (suc run) pending = omega arith
 ready-mono s n kp zero true = omega arith
 ready-mono s n kp zero false = omega (arith, code-moves s n kp)
 
+-- a code word brings at most 1,024 zeros
 pub code-run : (s : List ℕ) (n kp : ℕ) → kp ≤ 80 → codeWord s n kp .run ≤ 1024
 code-run s n kp h = by (bitAt s n)
   where
@@ -112,6 +122,7 @@ code-run s n kp h = by (bitAt s n)
     by true = omega (arith, num-lt s (n + 1) (kp / 8), pow-mono {i = kp / 8} {j = 10} k)
     by false = pow-mono {i = kp / 8} {j = 10} k
 
+-- a reader that is made ready has a run of at most 1,024
 pub ready-short : (s : List ℕ) (n kp run : ℕ) (pending : Bool) → kp ≤ 80 → run ≤ 1024 → ready s n kp run pending .run ≤ 1024
 ready-short s n kp (suc run) pending h g = g
 ready-short s n kp zero true h g = g
@@ -124,12 +135,15 @@ mag-with false m h = h
 mag-with true zero h = h
 mag-with true (suc m) h = omega arith
 
+-- a nonzero value has at most 32,766 zeros
 pub few-zeros : (s : List ℕ) (n w : ℕ) → Width w → zeros s n (mostZeros w) + 1 < 32768
 few-zeros s n w h = omega (arith, zeros-le s n (mostZeros w), pow-low w h, pow-high w h)
 
+-- a nonzero value fits sixteen bits
 pub nonzero-fits : (s : List ℕ) (n w : ℕ) → Width w → mag (nonzero s n w) < 32768
 nonzero-fits s n w h = mag-with (bitAt s n) (zeros s (n + 1) (mostZeros w) + 1) (few-zeros s (n + 1) w h)
 
+-- a nonzero value by its sign bit and its count of zeros
 pub nonzero-is : (s : List ℕ) (n w z : ℕ) (b : Bool) → Width w → bitAt s n ≡ b → z ≡ zeros s (n + 1) (mostZeros w) → clampI16 (withSign b (z + 1)) ≡ nonzero s n w
 nonzero-is s n w z b h e f =
     ap₂ (λ (b : Bool) (x : ℕ). clampI16 (withSign b (x + 1))) (sym e) f

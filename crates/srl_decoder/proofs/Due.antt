@@ -68,6 +68,7 @@ due-past s p kp zero (suc n) h =
 
 -- ---- where no nonzero value is due the width does not matter
 
+-- where no nonzero value is due, the values and the reader after them are the same at every width
 pub width-free : (s : List ℕ) (v w : ℕ) (r : Reader) (n : ℕ) → dueAmong s r n ≡ false
     → (values s (replicate n v) r ≡ values s (replicate n w) r) × (readerAfter s (replicate n v) r ≡ readerAfter s (replicate n w) r)
 unfolding values readerAfter
@@ -86,6 +87,7 @@ width-free s v w r (suc n) h = by (readied s r .run) h (λ t k. width-free s v w
 
 -- ---- past the end every value is 0, unless a nonzero one was pending
 
+-- past the end of the stream every value is 0
 pub values-past : (s : List ℕ) (p kp run : ℕ) (ws : List ℕ) → 8 * length s ≤ p → values s ws (reader p kp run false) ≡ replicate (length ws) (pos 0)
 unfolding values
 values-past s p kp run [] h = refl

@@ -25,6 +25,7 @@ pub record Filled : Type 0 where
   pub out : List ℤ
   pub after : Reader
 
+-- an output and the reader after it, as one
 abbrev pub filled : List ℤ → Reader → Filled
 filled out r = record { out = out; after = r }
 
@@ -101,6 +102,7 @@ module _ (s : List ℕ) (w : ℕ) where
       let n = next-alike s w a in
       ap (λ (v : ℤ). heldFill s (fill s w k (suc j) (nextReader s w r) (set out j v))) (n .0) ∙ fill-alike k (suc j) (set out j (nextValue s w q)) (n .1)
 
+  -- values stored from a count that is held at the end are the same
   pub fill-held : (k j n kp run : ℕ) (p : Bool) (out : List ℤ) → heldFill s (fill s w k j (reader n kp run p) out) ≡ heldFill s (fill s w k j (reader (held s n) kp run p) out)
   fill-held k j n kp run p out = sym (fill-alike k j out (reader-held s (reader n kp run p)))
 
@@ -110,6 +112,7 @@ module _ (s : List ℕ) (w : ℕ) where
   abbrev pub rest : ℕ → ℕ → ℕ → ℕ → Bool → List ℤ → Filled
   rest n j at kp p out = heldFill s (fill s w (n - j) j (reader at kp (j - n) p) out)
 
+  -- at the start all n values are left
   pub rest-start : (n at kp run : ℕ) (p : Bool) (out : List ℤ) → Clear out 0 n → heldFill s (fill s w n 0 (reader at kp run p) out) ≡ rest n run at kp p out
   rest-start n at kp run p out c =
       let e : 0 + run ≡ run = omega arith in
@@ -180,6 +183,7 @@ module _ (s : List ℕ) (w : ℕ) where
         fill-held (n - j) j at kp (j - n) p out ∙ ap (λ (m : ℕ). rest n j m kp p out) (sym read),
       )
 
+  -- at the end no value is left
   pub rest-end : (n j at kp : ℕ) (p : Bool) (out : List ℤ) → n ≤ j → rest n j at kp p out ≡ filled out (reader (held s at) kp (j - n) p)
   unfolding fill
   rest-end n j at kp p out h = let z : n - j ≡ 0 = omega arith in ap (λ (k : ℕ). heldFill s (fill s w k j (reader at kp (j - n) p) out)) z

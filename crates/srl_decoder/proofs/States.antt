@@ -7,7 +7,7 @@ use native.Mathlib.Omega.{arith}
 use lib.Dec.{leb, ltb}
 use lib.ListN.{length}
 use borrow.Author.Tests.{leb-true, le-leb}
-use Rattle.bits.specs.Bits.{placeOf, placeAt, held}
+use Rattle.bits.specs.Bits.{placeOf, readerMoved, held}
 use Rattle.bits.specs.declared.reader.BitReader.{BitReader}
 use Rattle.srl_decoder.specs.Srl.{Reader, readied, past, nextReader, readerAfter}
 use Rattle.srl_decoder.specs.Decode.{opened, closed, stateOk}
@@ -15,6 +15,7 @@ use Rattle.srl_decoder.specs.declared.SrlState.{SrlState}
 use Rattle.srl_rules.proofs.Widths.{both}
 use Rattle.srl_decoder.proofs.Codes.{ready-near, ready-mono, ready-short, past-kp}
 
+-- what the test of a state says
 pub stateOk-sound : (st : SrlState) → stateOk st ≡ true → (st .reader .«bit_idx» ≤ 7) × (st .kp ≤ 80) × (st .«zero_run_remaining» ≤ 1024)
 stateOk-sound st h =
     let k = both (leb (st .kp) 80) _ h in
@@ -31,6 +32,7 @@ past-mono s w r = by (r .run)
     by zero = omega arith
     by (suc run) = omega arith
 
+-- a reader does not go back over some values
 pub after-mono : (s ws : List ℕ) (r : Reader) → r .read ≤ readerAfter s ws r .read
 unfolding readerAfter
 after-mono s [] r = omega arith
@@ -55,13 +57,14 @@ after-bounded s (w ∷ ws) r h =
     let z = ready-short s (r .read) (r .kp) (r .run) (r .pending) (h .0) (h .1) in
     after-bounded s ws (nextReader s w r) (past-kp s w (readied s r) k, past-run s w (readied s r) z)
 
-place-bit : (s : List ℕ) (r : BitReader) (n : ℕ) → r .«bit_idx» ≤ 7 → placeAt s r n .«bit_idx» ≤ 7
+place-bit : (s : List ℕ) (r : BitReader) (n : ℕ) → r .«bit_idx» ≤ 7 → readerMoved s r n .«bit_idx» ≤ 7
 place-bit s r n h = by (ltb (r .«byte_idx») (length s))
   where
     by : (b : Bool) → cond b (placeOf (held s n)) r .«bit_idx» ≤ 7
     by true = omega arith
     by false = h
 
+-- the state after some values passes the test
 pub closed-ok : (s : List ℕ) (st : SrlState) (ws : List ℕ) → stateOk st ≡ true → stateOk (closed s st (readerAfter s ws (opened st))) ≡ true
 unfolding Bounded
 closed-ok s st ws h =

@@ -17,11 +17,13 @@ use Rattle.srl_decoder.specs.declared.SrlState.{SrlState}
 
 -- ════ readers and states ════
 
+-- a state is the one that its reader is
 pub shut-opened : (st : SrlState) → st .reader .«bit_idx» ≤ 7 → st ≡ shut (opened st)
 shut-opened st h =
     let e = place-is (st .reader .«byte_idx») (st .reader .«bit_idx») (bitsRead (st .reader)) h refl in
     λ i. record { reader = e i; kp = st .kp; «zero_run_remaining» = st .«zero_run_remaining»; «nonzero_pending» = st .«nonzero_pending» }
 
+-- a reader is the one of the state that it is
 pub opened-shut : (r : Reader) → opened (shut r) ≡ r
 opened-shut r = ap (λ (n : ℕ). reader n (r .kp) (r .run) (r .pending)) (read-place (r .read))
 
@@ -31,12 +33,15 @@ opened-shut r = ap (λ (n : ℕ). reader n (r .kp) (r .run) (r .pending)) (read-
 pub data AlikeReader (s : List ℕ) : Reader → Reader → Type 0 where
   alike : {m n : ℕ} {kp run : ℕ} {pending : Bool} → Alike s m n → AlikeReader s (reader m kp run pending) (reader n kp run pending)
 
+-- a reader held at the end reads on as before
 pub reader-held : (s : List ℕ) (r : Reader) → AlikeReader s (heldReader s r) r
 reader-held s r = alike (alike-held s (r .read))
 
+-- readers that read on alike are held at the same one
 pub held-readers : (s : List ℕ) {r q : Reader} → AlikeReader s r q → heldReader s r ≡ heldReader s q
 held-readers s (alike {kp = kp} {run = run} {pending = pending} a) = ap (λ (n : ℕ). reader n kp run pending) (held-alike s a)
 
+-- readers that read on like a third read on alike
 pub reader-trans : (s : List ℕ) {p q r : Reader} → AlikeReader s p q → AlikeReader s q r → AlikeReader s p r
 reader-trans s (alike a) (alike b) = alike (alike-trans s a b)
 
@@ -69,9 +74,11 @@ give-alike s w (alike {m = m} {n = n} {kp = kp} {run = zero} a) =
       rw (← z) (alike (alike-on s (cond (ltb (zeros s (m + 1) (mostZeros w)) (mostZeros w)) (zeros s (m + 1) (mostZeros w) + 1) (mostZeros w)) (alike-on s 1 a))),
     )
 
+-- readers that read on alike give the same next value, and read on alike behind it
 pub next-alike : (s : List ℕ) (w : ℕ) {r q : Reader} → AlikeReader s r q → (nextValue s w r ≡ nextValue s w q) × AlikeReader s (nextReader s w r) (nextReader s w q)
 next-alike s w a = give-alike s w (ready-alike s a)
 
+-- readers that read on alike give the same values, and read on alike behind them
 pub values-alike : (s ws : List ℕ) {r q : Reader} → AlikeReader s r q → (values s ws r ≡ values s ws q) × AlikeReader s (readerAfter s ws r) (readerAfter s ws q)
 unfolding values readerAfter
 values-alike s [] a = (refl, a)
@@ -82,16 +89,19 @@ values-alike s (w ∷ ws) a =
 
 -- ════ values of two lists of widths ════
 
+-- the reader after values in a row
 pub after-append : (s : List ℕ) (a b : List ℕ) (r : Reader) → readerAfter s (a ++ b) r ≡ readerAfter s b (readerAfter s a r)
 unfolding readerAfter
 after-append s [] b r = refl
 after-append s (w ∷ a) b r = after-append s a b (nextReader s w r)
 
+-- values in a row
 pub values-append : (s : List ℕ) (a b : List ℕ) (r : Reader) → values s (a ++ b) r ≡ values s a r ++ values s b (readerAfter s a r)
 unfolding values readerAfter
 values-append s [] b r = refl
 values-append s (w ∷ a) b r = ap (λ (l : List ℤ). nextValue s w r ∷ l) (values-append s a b (nextReader s w r))
 
+-- there is a value for each width
 pub length-values : (s ws : List ℕ) (r : Reader) → length (values s ws r) ≡ length ws
 unfolding values
 length-values s [] r = refl

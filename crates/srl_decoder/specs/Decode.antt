@@ -1,12 +1,14 @@
 -- What a call of `decode` answers and stores, for every state, stream, output, count and width (docs/SCOPE.md, "SRL", "Refusals").
-use mathlib.Core.Bool.{Bool, true, false, cond, _&&_}
+use mathlib.Core.Path.{_≡_}
+use mathlib.Core.Bool.{Bool, true, false, cond, not, _&&_, _||_}
 use mathlib.Core.List.{List}
 use Prim.Native.Nat.{ℕ, zero, suc}
 use lib.Dec.{leb}
 use lib.IntN.{ℤ}
 use lib.ListN.{length, replicate}
-use Rattle.bits.specs.Bits.{bitsRead, placeAt}
-use Rattle.srl_rules.specs.Rules.{widthOk, noRoom, stored}
+use Rattle.bits.specs.Bits.{bitsRead, readerMoved}
+use Rattle.answer.specs.Refusals.{invalidBitCount, impossibleState, unless, firstOf, noRoom, stored}
+use Rattle.srl_rules.specs.Rules.{widthOk}
 use Rattle.srl_decoder.specs.Srl.{Reader, reader, readied, nextReader, values, readerAfter}
 use Rattle.srl_decoder.specs.declared.SrlState.{SrlState}
 use Rattle.srl_decoder.specs.declared.Decoded.{Decoded}
@@ -24,11 +26,21 @@ opened st = reader (bitsRead (st .reader)) (st .kp) (st .«zero_run_remaining»)
 
 -- the state that a reader is, where st was handed in
 abbrev pub closed : List ℕ → SrlState → Reader → SrlState
-closed s st r = record { reader = placeAt s (st .reader) (r .read); kp = r .kp; «zero_run_remaining» = r .run; «nonzero_pending» = r .pending }
+closed s st r = record { reader = readerMoved s (st .reader) (r .read); kp = r .kp; «zero_run_remaining» = r .run; «nonzero_pending» = r .pending }
 
--- ════ refusals: 0 is none ════
+-- ════ the next n values, all of one width ════
 
--- 8: "a coder state with kp above 80, a bit place above 7, a run above 1,024"
+-- the values
+abbrev pub valuesFrom : List ℕ → SrlState → ℕ → ℕ → List ℤ
+valuesFrom s st n w = values s (replicate n w) (opened st)
+
+-- the state after them
+abbrev pub stateAfter : List ℕ → SrlState → ℕ → ℕ → SrlState
+stateAfter s st n w = closed s st (readerAfter s (replicate n w) (opened st))
+
+-- ════ refusals ════
+
+-- 8 is refused where it does not hold: "a coder state with kp above 80, a bit place above 7, a run above 1,024"
 abbrev pub stateOk : SrlState → Bool
 stateOk st = leb (st .kp) 80 && (leb (st .reader .«bit_idx») 7 && leb (st .«zero_run_remaining») 1024)
 
@@ -42,10 +54,14 @@ abbrev pub dueAmong : List ℕ → Reader → ℕ → Bool
 dueAmong s r zero = false
 dueAmong s r (suc n) = cond (due (readied s r .run)) true (dueAmong s (nextReader s 0 r) n)
 
--- "order: 8, .. 4, .. 7"; "`decode` [refuses a bad width] only where a nonzero value is due"
+-- "`decode` [refuses a bad width] only where a nonzero value is due"
+abbrev pub widthFine : List ℕ → SrlState → ℕ → ℕ → Bool
+widthFine s st n w = widthOk w || not (dueAmong s (opened st) n)
+
+-- "order: 8, .. 4, .. 7"
 abbrev pub decodeRefusal : List ℕ → SrlState → ℕ → ℕ → ℕ → ℕ
 decodeRefusal s st room n w =
-    cond (stateOk st) (cond (widthOk w) (noRoom room n) (cond (dueAmong s (opened st) n) 4 (noRoom room n))) 8
+    firstOf (unless (stateOk st) impossibleState) (firstOf (unless (widthFine s st n w) invalidBitCount) (noRoom room n))
 
 -- ════ the answer, and what `out` holds then ════
 
@@ -56,12 +72,16 @@ decoded (suc k) n next st = Refused (suc k) st
 
 -- what `decode` answers
 abbrev pub decodeAnswer : List ℕ → SrlState → ℕ → ℕ → ℕ → Decoded
-decodeAnswer s st room n w =
-    decoded (decodeRefusal s st room n w) n (closed s st (readerAfter s (replicate n w) (opened st))) st
+decodeAnswer s st room n w = decoded (decodeRefusal s st room n w) n (stateAfter s st n w) st
 
 -- what `out` holds after it
 abbrev pub decodeOut : List ℕ → SrlState → List ℤ → ℕ → ℕ → List ℤ
-decodeOut s st out n w = stored (decodeRefusal s st (length out) n w) (values s (replicate n w) (opened st)) out
+decodeOut s st out n w = stored (decodeRefusal s st (length out) n w) (valuesFrom s st n w) out
+
+-- what the call fixes: its answer, and the output
+pub record DecodesSrl (s : List ℕ) (st : SrlState) (o : List ℤ) (n w : ℕ) (r : Decoded) (o′ : List ℤ) : Type 0 where
+  pub answer : r ≡ decodeAnswer s st (length o) n w
+  pub out : o′ ≡ decodeOut s st o n w
 
 -- the number of each case
 abbrev pub decodedNumber : Decoded → ℕ

@@ -35,8 +35,8 @@ handed s st done =
     }
 
 -- a state from which a code word can be read, and a value behind it
-abbrev pub Sound : SrlState → Type 0
-Sound st = (st .reader .«bit_idx» ≤ 7) × (st .reader .«byte_idx» ≤ 2 ^ 63) × (st .kp ≤ 80)
+abbrev pub SoundState : SrlState → Type 0
+SoundState st = (st .reader .«bit_idx» ≤ 7) × (st .reader .«byte_idx» ≤ 2 ^ 63) × (st .kp ≤ 80)
 
 -- the reader after code words that begin behind n bits
 abbrev pub readBehind : ℕ → CodesRead → Reader

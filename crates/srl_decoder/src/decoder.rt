@@ -6,11 +6,11 @@ ghost use Prim.Native.Nat.{ℕ, _*_, _^_, _+_, _≤_, _<_};
 ghost use lib.ListN.{length, drop, replicate};
 ghost use Rattle.bits.specs.Bits.{bitAt, zeros, bitsRead};
 ghost use Rattle.bits.specs.Inner.{Top, Front};
-ghost use Rattle.srl_decoder.specs.Srl.{mostZeros, behind, codeWord, values, readerAfter};
-ghost use Rattle.srl_decoder.specs.Decode.{opened, closed, stateOk, dueAmong, decoded};
-ghost use Rattle.srl_rules.specs.Rules.{noRoom, stored};
+ghost use Rattle.srl_decoder.specs.Srl.{mostZeros, behind, codeWord, readerAfter};
+ghost use Rattle.srl_decoder.specs.Decode.{opened, valuesFrom, stateAfter, stateOk, dueAmong, decoded};
+ghost use Rattle.answer.specs.Refusals.{noRoom, stored};
 ghost use Rattle.srl_rules.specs.Inner.{Width};
-ghost use Rattle.srl_decoder.specs.Inner.{Sound, shut, stateBy, heldReader, handed, readBehind, below, Brought, Clear};
+ghost use Rattle.srl_decoder.specs.Inner.{SoundState, shut, stateBy, heldReader, handed, readBehind, below, Brought, Clear};
 use crate::Decoded;
 use crate::SrlState;
 
@@ -48,7 +48,9 @@ pub fn state_ok(st: SrlState) -> bool
 // The code word that the word `a` begins with.
 fn one_code(a: u64, kp: u8) -> CodesRead
     requires { ⌜ kp ≤ 80 ⌝ }
-    ensures { λ r. ⌜ ((s : List ℕ) (n v : ℕ) → Top v a s n → 57 ≤ v → readBehind n r ≡ codeWord s n kp) × (r .taken ≤ 11) ⌝ }
+    ensures { λ r. ⌜
+        ((s : List ℕ) (n v : ℕ) → Top v a s n → 57 ≤ v → readBehind n r ≡ codeWord s n kp)
+        × (r .taken ≤ 11) ⌝ }
 {
     if a < 0x8000_0000_0000_0000 {
         return CodesRead {
@@ -70,7 +72,7 @@ fn one_code(a: u64, kp: u8) -> CodesRead
 
 // One code word.
 fn code_word(src: &[u8], st: SrlState) -> SrlState
-    requires { ⌜ Sound st ⌝ }
+    requires { ⌜ SoundState st ⌝ }
     ensures { λ r. ⌜ r ≡ shut (codeWord (now (src .entry)) (bitsRead (st .reader)) (st .kp)) ⌝ }
 {
     let reader = st.reader;
@@ -91,8 +93,17 @@ pub fn decode_nonzero(
     have: u32,
     num_bits: u8,
 ) -> NonzeroRead
-    requires { ⌜ (reader .«bit_idx» ≤ 7) × (reader .«byte_idx» < 2 ^ 63 + 2 ^ 61) × Width «num_bits» × (1 ≤ have) × Front have a (now src) (bitsRead reader) ⌝ }
-    ensures { λ r. ⌜ (r .negative ≡ bitAt (now (src .entry)) (bitsRead reader)) × (r .magnitude ≡ zeros (now (src .entry)) (bitsRead reader + 1) (mostZeros «num_bits») + 1) × (bitsRead reader + r .taken ≡ behind (now (src .entry)) (bitsRead reader) «num_bits») × (r .taken ≤ 32769) ⌝ }
+    requires { ⌜
+        (reader .«bit_idx» ≤ 7)
+        × (reader .«byte_idx» < 2 ^ 63 + 2 ^ 61)
+        × Width «num_bits»
+        × (1 ≤ have)
+        × Front have a (now src) (bitsRead reader) ⌝ }
+    ensures { λ r. ⌜
+        (r .negative ≡ bitAt (now (src .entry)) (bitsRead reader))
+        × (r .magnitude ≡ zeros (now (src .entry)) (bitsRead reader + 1) (mostZeros «num_bits») + 1)
+        × (bitsRead reader + r .taken ≡ behind (now (src .entry)) (bitsRead reader) «num_bits»)
+        × (r .taken ≤ 32769) ⌝ }
 {
     let limit = (srl_rules::max_magnitude(num_bits) - 1) as u32;
     let zeros = bits::reader::zeros_behind_first(src, reader, a, have, limit);
@@ -159,7 +170,9 @@ pub fn up_to_value(a: u64, kp: u8, pending: bool, left: usize) -> CodesRead
 
 // Whether a nonzero value is at hand, at place `j`, and is among the first `n` values.
 pub fn due(pending: bool, j: usize, n: usize) -> bool
-    ensures { λ r. ⌜ (r ≡ true → (pending ≡ true) × (j < n)) × (r ≡ false → pending ≡ true → n ≤ j) ⌝ }
+    ensures { λ r. ⌜
+        (r ≡ true → (pending ≡ true) × (j < n))
+        × (r ≡ false → pending ≡ true → n ≤ j) ⌝ }
 {
     if pending {
         return j < n;
@@ -198,7 +211,9 @@ fn state_of(byte_idx: usize, bit_idx: u8, kp: u8, run: usize, pending: bool) -> 
 // Sets the first `n` values to 0.
 fn clear(out: &mut [i16], n: usize)
     requires { ⌜ n ≤ length (now out) ⌝ }
-    ensures { λ _. ⌜ Clear (now (out .exit)) 0 n × (drop n (now (out .exit)) ≡ drop n (now (out .entry))) ⌝ }
+    ensures { λ _. ⌜
+        Clear (now (out .exit)) 0 n
+        × (drop n (now (out .exit)) ≡ drop n (now (out .entry))) ⌝ }
 {
     let mut i: usize = 0;
     while i < n {
@@ -211,8 +226,15 @@ fn clear(out: &mut [i16], n: usize)
 // value, or of the next code word. A turn reads code words and the value behind them from one word. The loop keeps the state's parts: a struct would take
 // its padding round.
 fn store_values(src: &[u8], st: SrlState, out: &mut [i16], n: usize, num_bits: u8) -> SrlState
-    requires { ⌜ (st .reader .«bit_idx» ≤ 7) × (st .kp ≤ 80) × (bitsRead (st .reader) ≤ 8 * length (now src)) × Width «num_bits» × (n ≤ length (now out)) ⌝ }
-    ensures { λ r. ⌜ (r ≡ shut (heldReader (now (src .entry)) (readerAfter (now (src .entry)) (replicate n «num_bits») (opened st)))) × (now (out .exit) ≡ values (now (src .entry)) (replicate n «num_bits») (opened st) ++ drop n (now (out .entry))) ⌝ }
+    requires { ⌜
+        (st .reader .«bit_idx» ≤ 7)
+        × (st .kp ≤ 80)
+        × (bitsRead (st .reader) ≤ 8 * length (now src))
+        × Width «num_bits»
+        × (n ≤ length (now out)) ⌝ }
+    ensures { λ r. ⌜
+        (r ≡ shut (heldReader (now (src .entry)) (readerAfter (now (src .entry)) (replicate n «num_bits») (opened st))))
+        × (now (out .exit) ≡ valuesFrom (now (src .entry)) st n «num_bits» ++ drop n (now (out .entry))) ⌝ }
 {
     clear(out, n);
     let start = st.reader;
@@ -292,10 +314,14 @@ pub fn store_if_room(
     num_bits: u8,
 ) -> Decoded
     requires { ⌜ (st .reader .«bit_idx» ≤ 7) × (st .kp ≤ 80) × Width «num_bits» ⌝ }
-    ensures { λ r. ⌜ (r ≡ decoded (noRoom (length (now (out .entry))) «num_values») «num_values» (closed (now (src .entry)) st (readerAfter (now (src .entry)) (replicate «num_values» «num_bits») (opened st))) st) × (now (out .exit) ≡ stored (noRoom (length (now (out .entry))) «num_values») (values (now (src .entry)) (replicate «num_values» «num_bits») (opened st)) (now (out .entry))) ⌝ }
+    ensures { λ r. ⌜
+        (r ≡ decoded (noRoom (length (now (out .entry))) «num_values»)
+        «num_values» (stateAfter (now (src .entry)) st «num_values» «num_bits») st)
+        × (now (out .exit) ≡ stored (noRoom (length (now (out .entry))) «num_values»)
+        (valuesFrom (now (src .entry)) st «num_values» «num_bits») (now (out .entry))) ⌝ }
 {
     if out.len() < num_values {
-        return Decoded::Refused(7, st);
+        return Decoded::Refused(answer::OUTPUT_TOO_SHORT, st);
     }
     let done = store_values(src, hold(src, st), out, num_values, num_bits);
     Decoded::Values(num_values, hand_back(src, st, done))

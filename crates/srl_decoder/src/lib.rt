@@ -3,8 +3,7 @@
 // (docs/SCOPE.md, "Refusals"), hands back the state and alters nothing.
 
 ghost use mathlib.Core.Path.{_≡_};
-ghost use lib.ListN.{length};
-ghost use Rattle.srl_decoder.specs.Decode.{startState, decodeAnswer, decodeOut};
+ghost use Rattle.srl_decoder.specs.Decode.{startState, DecodesSrl};
 
 pub mod decoder;
 
@@ -48,16 +47,16 @@ pub fn decode(
     num_values: usize,
     num_bits: u8,
 ) -> Decoded
-    ensures { λ r. ⌜ (r ≡ decodeAnswer (now (src .entry)) state (length (now (out .entry))) «num_values» «num_bits») × (now (out .exit) ≡ decodeOut (now (src .entry)) state (now (out .entry)) «num_values» «num_bits») ⌝ }
+    ensures { λ r. ⌜ DecodesSrl (now (src .entry)) state (now (out .entry)) «num_values» «num_bits» r (now (out .exit)) ⌝ }
 {
     if !decoder::state_ok(state) {
-        return Decoded::Refused(8, state);
+        return Decoded::Refused(answer::IMPOSSIBLE_STATE, state);
     }
     if srl_rules::width_ok(num_bits) {
         return decoder::store_if_room(src, state, out, num_values, num_bits);
     }
     if decoder::any_due(src, state, num_values) {
-        return Decoded::Refused(4, state);
+        return Decoded::Refused(answer::INVALID_BIT_COUNT, state);
     }
     decoder::store_if_room(src, state, out, num_values, 1)
 }

@@ -1,21 +1,23 @@
 -- Laws of a value that the encoder is given: its bits, what it leaves, its refusal. Assumes nothing.
 use mathlib.Core.Path.{_≡_, refl, ap, sym, _∙_}
-use mathlib.Core.Bool.{Bool, true, false, cond}
+use mathlib.Core.Bool.{true}
 use mathlib.Core.List.{_++_}
 use Prim.Native.Nat.{ℕ, zero, suc, _+_, _-_, _^_, _≤_, _<_}
 use native.Mathlib.Omega.{arith}
 use lib.Dec.{ltb}
 use lib.IntN.{ℤ, pos, negsuc, natAbs}
-use borrow.Author.Tests.{lt-ltb, le-ltb, ltb-true}
+use borrow.Author.Tests.{lt-ltb, le-ltb}
 use Rattle.fixed.specs.Fixed.{isNegative}
-use Rattle.srl_encoder.specs.Encode.{runBits, runKp, nonzeroBits, valueBits, valueKp, valueZeros, valueFault, firstOf}
+use Rattle.srl_encoder.specs.Encode.{runBits, runKp, nonzeroBits, valueBits, valueKp, valueZeros, valueFault}
+use Rattle.answer.specs.Refusals.{magnitudeOutOfRange, zeroRunTooLong, unless}
 use Rattle.srl_encoder.proofs.Runs.{runKp-le}
 
--- a zero, and what is not a zero
+-- a value of magnitude 0 is 0
 pub zero-value : (v : ℤ) → natAbs v ≡ 0 → v ≡ pos 0
 zero-value (pos n) e = ap pos e
 zero-value (negsuc n) e = absurd (omega arith)
 
+-- a value that is not 0 writes the pending run and itself, and leaves no zeros
 pub nonzero-value : (v : ℤ) (w kp z m : ℕ) → m ≡ natAbs v → (m ≡ 0 → ⊥)
     → (valueBits w kp z v ≡ runBits (suc z) kp z ++ nonzeroBits w (isNegative v) (m - 1)) × (valueKp kp z v ≡ runKp (suc z) kp z) × (valueZeros z v ≡ 0)
 nonzero-value (pos zero) w kp z m e n = absurd (n e)
@@ -29,41 +31,26 @@ nonzero-value (pos (suc j)) w kp z m e n =
 nonzero-value (negsuc j) w kp z m e n =
     let q : j ≡ m - 1 = omega arith in (ap (λ x. runBits (suc z) kp z ++ nonzeroBits w true x) q, refl, refl)
 
--- what a value keeps
+-- a value leaves kp at most 80
 pub value-kp : (kp z : ℕ) (v : ℤ) → kp ≤ 80 → valueKp kp z v ≤ 80
 value-kp kp z (pos zero) h = h
 value-kp kp z (pos (suc m)) h = runKp-le (suc z) kp z h
 value-kp kp z (negsuc m) h = runKp-le (suc z) kp z h
 
+-- a value adds at most one pending zero
 pub value-zeros : (z : ℕ) (v : ℤ) → valueZeros z v ≤ z + 1
 value-zeros z (pos zero) = omega arith
 value-zeros z (pos (suc m)) = omega arith
 value-zeros z (negsuc m) = omega arith
 
--- refusals
-pub fault-nonzero : (v : ℤ) (w z m : ℕ) → m ≡ natAbs v → (m ≡ 0 → ⊥) → valueFault w z v ≡ cond (ltb (m - 1) (2 ^ w - 1)) 0 5
+-- the refusal that a nonzero value causes, by its magnitude
+pub fault-nonzero : (v : ℤ) (w z m : ℕ) → m ≡ natAbs v → (m ≡ 0 → ⊥) → valueFault w z v ≡ unless (ltb (m - 1) (2 ^ w - 1)) magnitudeOutOfRange
 fault-nonzero (pos zero) w z m e n = absurd (n e)
-fault-nonzero (pos (suc j)) w z m e n = let q : j ≡ m - 1 = omega arith in ap (λ x. cond (ltb x (2 ^ w - 1)) 0 5) q
-fault-nonzero (negsuc j) w z m e n = let q : j ≡ m - 1 = omega arith in ap (λ x. cond (ltb x (2 ^ w - 1)) 0 5) q
+fault-nonzero (pos (suc j)) w z m e n = let q : j ≡ m - 1 = omega arith in ap (λ x. unless (ltb x (2 ^ w - 1)) magnitudeOutOfRange) q
+fault-nonzero (negsuc j) w z m e n = let q : j ≡ m - 1 = omega arith in ap (λ x. unless (ltb x (2 ^ w - 1)) magnitudeOutOfRange) q
 
+-- a magnitude that its width admits, and not too many zeros, cause no refusal
 pub fault-none : (v : ℤ) (w z m : ℕ) → m ≡ natAbs v → m ≤ 2 ^ w - 1 → (m ≡ 0 → z < 4096) → valueFault w z v ≡ 0
-fault-none (pos zero) w z m e l h = ap (λ b. cond b 0 6) (lt-ltb z 4096 (h e))
-fault-none (pos (suc j)) w z m e l h = ap (λ b. cond b 0 5) (lt-ltb j (2 ^ w - 1) (omega arith))
-fault-none (negsuc j) w z m e l h = ap (λ b. cond b 0 5) (lt-ltb j (2 ^ w - 1) (omega arith))
-
-pub firstOf-some : (n f : ℕ) → (n ≡ 0 → ⊥) → firstOf n f ≡ n
-firstOf-some zero f h = absurd (h refl)
-firstOf-some (suc n) f h = refl
-
--- neither of two refusals
-pub first-none : (n f : ℕ) → firstOf n f ≡ 0 → (n ≡ 0) × (f ≡ 0)
-first-none zero f e = (refl, e)
-first-none (suc n) f e = absurd (omega arith)
-
--- a test that gives no refusal, whichever number it would give
-pub passes : (m n k : ℕ) → _≡_ {A = ℕ} (cond (ltb m n) 0 (suc k)) 0 → m < n
-passes m n k = by (ltb m n) refl
-  where
-    by : (b : Bool) → ltb m n ≡ b → _≡_ {A = ℕ} (cond b 0 (suc k)) 0 → m < n
-    by true q e = ltb-true m n q
-    by false q e = absurd (omega arith)
+fault-none (pos zero) w z m e l h = ap (λ b. unless b zeroRunTooLong) (lt-ltb z 4096 (h e))
+fault-none (pos (suc j)) w z m e l h = ap (λ b. unless b magnitudeOutOfRange) (lt-ltb j (2 ^ w - 1) (omega arith))
+fault-none (negsuc j) w z m e l h = ap (λ b. unless b magnitudeOutOfRange) (lt-ltb j (2 ^ w - 1) (omega arith))

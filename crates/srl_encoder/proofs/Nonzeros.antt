@@ -16,6 +16,7 @@ use Rattle.srl_encoder.specs.Inner.{stopCount, planBits, GoodPlan}
 use Rattle.srl_encoder.specs.declared.encoder.RunPlan.{RunPlan}
 use Rattle.srl_encoder.proofs.Runs.{plan-word}
 
+-- at most one bit 1 ends a nonzero value
 pub stop-le : (w m : ℕ) → stopCount w m ≤ 1
 stop-le w m = by (ltb m (2 ^ w - 1))
   where
@@ -64,6 +65,7 @@ nonzero-word w m s b e h =
     ∙ ap (λ l. l ++ (replicate (m - 1) false ++ bitsOf s s)) (sign-bit b)
     ∙ nonzero-parts w m s b e h
 
+-- the number of a nonzero value has no more bits than the value
 pub word-small : (m s : ℕ) (b : Bool) → s ≤ 1 → 1 ≤ m → bitOf b * 2 ^ (m - 1 + s) + s < 2 ^ (m + s)
 word-small m s b l h =
     let n : m + s ≡ suc (m - 1 + s) = omega arith in
@@ -74,9 +76,11 @@ word-small m s b l h =
     by true i = omega arith
     by false i = omega arith
 
+-- how many bits a nonzero value has
 pub length-nonzero : (w m s : ℕ) (b : Bool) → s ≡ stopCount w m → 1 ≤ m → length (nonzeroBits w b (m - 1)) ≡ m + s
 length-nonzero w m s b e h = ap length (sym (nonzero-word w m s b e h)) ∙ length-bitsOf (m + s) (bitOf b * 2 ^ (m - 1 + s) + s)
 
+-- a nonzero value has at most one bit more than its magnitude
 pub nonzero-le : (w m : ℕ) (b : Bool) → 1 ≤ m → length (nonzeroBits w b (m - 1)) ≤ m + 1
 nonzero-le w m b h = omega (arith, length-nonzero w m (stopCount w m) b refl h, stop-le w m)
 

@@ -43,6 +43,7 @@ run-more kp z h =
     let r = run-fuel z (suc (z - 2 ^ (kp / 8))) (min (kp + 4) 80) (z - 2 ^ (kp / 8)) (omega arith) (omega arith) in
     (simp (le-ltb _ _ h) (ap (λ l. false ∷ l) (r .0)), simp (le-ltb _ _ h) (r .1))
 
+-- a run that is shorter than a code word 0 stands for
 pub run-last : (kp z : ℕ) → z < 2 ^ (kp / 8) → (runBits (suc z) kp z ≡ true ∷ bitsOf (kp / 8) z) × (runKp (suc z) kp z ≡ kp - 6)
 run-last kp z h = (simp (lt-ltb _ _ h), simp (lt-ltb _ _ h))
 
@@ -57,6 +58,7 @@ length-run (suc f) kp z h = by (ltb z (2 ^ (kp / 8))) refl (length-run f (min (k
     by false e i =
         let j : 2 ^ (kp / 8) ≤ z = ltb-false _ _ e in omega (arith, pow-pos (kp / 8))
 
+-- a run leaves kp at most 80
 pub runKp-le : (f kp z : ℕ) → kp ≤ 80 → runKp f kp z ≤ 80
 runKp-le zero kp z h = h
 runKp-le (suc f) kp z h = by (ltb z (2 ^ (kp / 8))) (runKp-le f (min (kp + 4) 80) (z - 2 ^ (kp / 8)) (omega arith))
@@ -71,6 +73,7 @@ runKp-le (suc f) kp z h = by (ltb z (2 ^ (kp / 8))) (runKp-le f (min (kp + 4) 80
 pub plan-step : (n : ℕ) (bs : List Bool) → replicate n false ++ (false ∷ bs) ≡ replicate (n + 1) false ++ bs
 plan-step n bs = sym (append-assoc (replicate n false) (false ∷ []) bs) ∙ ap (λ l. l ++ bs) (replicate-append-replicate n 1 false)
 
+-- how many bits a planned run has
 pub length-plan : (r : RunPlan) → length (planBits r) ≡ r .steps + 1 + r .kp / 8
 length-plan r = length-append (replicate (r .steps) false) (true ∷ bitsOf (r .kp / 8) (r .rest)) ∙ omega (arith, length-replicate (r .steps) false, length-bitsOf (r .kp / 8) (r .rest))
 
@@ -80,9 +83,11 @@ plan-end k rest h =
     let e : k + 1 ≡ 1 + k = omega arith in
     ap (λ n. bitsOf n (2 ^ k + rest)) e ∙ ap (λ x. bitsOf (1 + k) (x + rest)) (sym (one-mul (2 ^ k))) ∙ bits-join 1 k 1 rest h
 
+-- the number of the bit 1 and the rest has k + 1 bits
 pub plan-small : (r : RunPlan) → GoodPlan r → 2 ^ (r .kp / 8) + r .rest < 2 ^ (r .kp / 8 + 1)
 plan-small r h = rw (add-one (r .kp / 8), pow-suc 2 (r .kp / 8)) (omega (arith, h .1))
 
+-- the zeros, the bit 1 and the rest of a plan are the bits of one number
 pub plan-word : (r : RunPlan) → GoodPlan r → bitsOf (r .steps + (r .kp / 8 + 1)) (2 ^ (r .kp / 8) + r .rest) ≡ planBits r
 plan-word r h =
     let k = r .kp / 8 in
@@ -94,10 +99,12 @@ plan-word r h =
 
 -- ════ the end of a stream ════
 
+-- pending zeros are written as a run
 pub flush-some : (kp z : ℕ) → (z ≡ 0 → ⊥) → flush kp z ≡ runBits (suc z) kp z
 flush-some kp zero h = absurd (h refl)
 flush-some kp (suc z) h = refl
 
+-- pending zeros take at most 11 bits more than they are
 pub length-flush : (kp z : ℕ) → kp ≤ 80 → length (flush kp z) ≤ z + 11
 length-flush kp zero h = omega arith
 length-flush kp (suc z) h = length-run (suc (suc z)) kp (suc z) h

@@ -1,6 +1,6 @@
 -- How large the values of a call are, and how many bits they take at most: for each value 2^w + 11, and a bit for each zero that was pending.
 use mathlib.Core.Path.{_≡_, refl, sym, ap, _∙_}
-use mathlib.Core.Bool.{Bool, true, false, cond}
+use mathlib.Core.Bool.{Bool, true, false}
 use mathlib.Core.List.{List, [], _∷_, _++_}
 use Prim.Native.Nat.{ℕ, zero, suc, _+_, _-_, _*_, _^_, _≤_, _<_}
 use native.Mathlib.Nat.{mul-le-mul-left}
@@ -10,11 +10,13 @@ use lib.Dec.{ltb}
 use lib.IntN.{ℤ, pos, negsuc, natAbs}
 use lib.ListN.{length, length-append}
 use Rattle.srl_rules.specs.Inner.{Width}
-use Rattle.srl_encoder.specs.Encode.{nonzeroBits, runBits, valueBits, valueKp, valueZeros, callBits, callBytes, valueFault, firstOf, fault}
+use Rattle.srl_encoder.specs.Encode.{nonzeroBits, runBits, valueBits, valueKp, valueZeros, callBits, callBytes, valueFault, fault}
+use Rattle.answer.specs.Refusals.{magnitudeOutOfRange, zeroRunTooLong, unless, firstOf}
+use Rattle.answer.proofs.Numbers.{first-none, passes}
 use Rattle.srl_encoder.specs.Inner.{largest, GoodWriter}
 use Rattle.srl_encoder.specs.declared.SrlWriter.{SrlWriter}
 use Rattle.srl_encoder.proofs.EncodedCalls.{call-count}
-use Rattle.srl_encoder.proofs.EncodedValues.{value-kp, first-none, passes}
+use Rattle.srl_encoder.proofs.EncodedValues.{value-kp}
 use Rattle.srl_encoder.proofs.Nonzeros.{nonzero-le}
 use Rattle.srl_encoder.proofs.Runs.{length-run}
 use Rattle.srl_rules.proofs.Widths.{pow-high}
@@ -25,6 +27,7 @@ nonzero-length w kp z m b h =
     let n : m + 1 - 1 ≡ m = omega arith in
     omega (arith, length-append (runBits (suc z) kp z) (nonzeroBits w b m), length-run (suc z) kp z h, rw n at (nonzero-le w (m + 1) b (omega arith)))
 
+-- the bits that a value writes, with the zeros that it leaves pending
 pub value-length : (w kp z : ℕ) (v : ℤ) → kp ≤ 80 → length (valueBits w kp z v) + valueZeros z v ≤ z + natAbs v + 12
 value-length w kp z (pos zero) h = omega arith
 value-length w kp z (pos (suc m)) h = omega (arith, nonzero-length w kp z m false h)
@@ -61,13 +64,13 @@ most-fits n w h l =
 
 -- ════ values that none is refused of ════
 
-small-nonzero : (w m : ℕ) → m < 2 ^ w - 1 → _≡_ {A = ℕ} (cond (ltb m (2 ^ w - 1)) 0 5) 0
+small-nonzero : (w m : ℕ) → m < 2 ^ w - 1 → unless (ltb m (2 ^ w - 1)) magnitudeOutOfRange ≡ 0
 small-nonzero w m h = simp (lt-ltb m (2 ^ w - 1) h)
 
 -- too few for a run that is too long, and none too large
 pub no-fault : (w z : ℕ) (vs : List ℤ) → z + length vs ≤ 4096 → largest vs ≤ 2 ^ w - 1 → fault w z vs ≡ 0
 no-fault w z [] h l = refl
 no-fault w z (pos zero ∷ vs) h l =
-    ap (λ (f : ℕ). firstOf f (fault w (z + 1) vs)) {x = cond (ltb z 4096) 0 6} {y = 0} (simp (lt-ltb z 4096 (omega arith))) ∙ no-fault w (z + 1) vs (omega arith) (omega arith)
+    ap (λ (f : ℕ). firstOf f (fault w (z + 1) vs)) {x = unless (ltb z 4096) zeroRunTooLong} {y = 0} (simp (lt-ltb z 4096 (omega arith))) ∙ no-fault w (z + 1) vs (omega arith) (omega arith)
 no-fault w z (pos (suc m) ∷ vs) h l = ap (λ (f : ℕ). firstOf f (fault w 0 vs)) (small-nonzero w m (omega arith)) ∙ no-fault w 0 vs (omega arith) (omega arith)
 no-fault w z (negsuc m ∷ vs) h l = ap (λ (f : ℕ). firstOf f (fault w 0 vs)) (small-nonzero w m (omega arith)) ∙ no-fault w 0 vs (omega arith) (omega arith)

@@ -1,4 +1,5 @@
 -- The SRL encoder (docs/SCOPE.md, "SRL"; MS-RDPEGFX 3.1.8.1.5): the bits of each value, and what a call of `encode` answers and stores; `Finish` has the end of a stream.
+use mathlib.Core.Path.{_≡_}
 use mathlib.Core.Bool.{Bool, true, false, cond, _&&_}
 use mathlib.Core.List.{List, [], _∷_, _++_}
 use Prim.Native.Nat.{ℕ, zero, suc, _+_, _-_, _/_, _^_, min}
@@ -7,7 +8,8 @@ use lib.IntN.{ℤ, pos, negsuc}
 use lib.ListN.{length, replicate}
 use Rattle.bits.specs.Written.{bitsOf, whole, after, writer}
 use Rattle.bits.specs.declared.writer.BitWriter.{BitWriter}
-use Rattle.srl_rules.specs.Rules.{widthOk, noRoom, stored}
+use Rattle.answer.specs.Refusals.{invalidBitCount, magnitudeOutOfRange, zeroRunTooLong, impossibleState, unless, firstOf, noRoom, stored}
+use Rattle.srl_rules.specs.Rules.{widthOk}
 use Rattle.srl_encoder.specs.declared.SrlWriter.{SrlWriter}
 use Rattle.srl_encoder.specs.declared.Encoded.{Encoded}
 use Rattle.srl_encoder.specs.declared.Encoded.the-variants.{Bytes, Refused}
@@ -95,23 +97,18 @@ callAfter w st vs =
       «bit_count» = after (sink st) (bitsFrom w st vs) .«bit_count»;
     }
 
--- ════ refusals: 0 is none ════
+-- ════ refusals ════
 
--- 8: "a coder state with kp above 80, a bit place above 7, .. more than 4,096 pending zeros (writer), or unfinished bits at or above 2^(bit place)"
+-- 8 is refused where it does not hold: "a coder state with kp above 80, a bit place above 7, .. more than 4,096 pending zeros (writer), or unfinished bits at or above 2^(bit place)"
 abbrev pub writerOk : SrlWriter → Bool
 writerOk st =
     leb (st .kp) 80 && (leb (st .«bit_count») 7 && (leb (st .«pending_zeros») 4096 && ltb (st .current) (2 ^ st .«bit_count»)))
 
 -- by a value. 5: "a magnitude above the maximum of its width". 6: "more than 4,096 pending zeros"
 abbrev pub valueFault : ℕ → ℕ → ℤ → ℕ
-valueFault w z (pos zero) = cond (ltb z 4096) 0 6
-valueFault w z (pos (suc m)) = cond (ltb m (2 ^ w - 1)) 0 5
-valueFault w z (negsuc m) = cond (ltb m (2 ^ w - 1)) 0 5
-
--- a refusal, or another where there is none
-abbrev pub firstOf : ℕ → ℕ → ℕ
-firstOf zero other = other
-firstOf (suc k) other = suc k
+valueFault w z (pos zero) = unless (ltb z 4096) zeroRunTooLong
+valueFault w z (pos (suc m)) = unless (ltb m (2 ^ w - 1)) magnitudeOutOfRange
+valueFault w z (negsuc m) = unless (ltb m (2 ^ w - 1)) magnitudeOutOfRange
 
 -- "5 or 6 by the earlier value"
 abbrev pub fault : ℕ → ℕ → List ℤ → ℕ
@@ -121,7 +118,10 @@ fault w z (v ∷ vs) = firstOf (valueFault w z v) (fault w (valueZeros z v) vs)
 -- "order: 8, .. 4, then 5 or 6 by the earlier value, 7"; "`encode` refuses a bad width even for an empty list"
 abbrev pub encodeRefusal : SrlWriter → List ℤ → ℕ → ℕ → ℕ
 encodeRefusal st vs room w =
-    cond (writerOk st) (cond (widthOk w) (firstOf (fault w (st .«pending_zeros») vs) (noRoom room (length (callBytes w st vs)))) 4) 8
+    firstOf (unless (writerOk st) impossibleState)
+    (firstOf (unless (widthOk w) invalidBitCount)
+    (firstOf (fault w (st .«pending_zeros») vs)
+    (noRoom room (length (callBytes w st vs)))))
 
 -- ════ the answer, and what `out` holds then ════
 
@@ -137,6 +137,11 @@ encodeAnswer st vs room w = encoded (encodeRefusal st vs room w) (length (callBy
 -- what `out` holds after it
 abbrev pub encodeOut : SrlWriter → List ℤ → List ℕ → ℕ → List ℕ
 encodeOut st vs out w = stored (encodeRefusal st vs (length out) w) (callBytes w st vs) out
+
+-- what the call fixes: its answer, and the output
+pub record EncodesSrl (st : SrlWriter) (vs : List ℤ) (o : List ℕ) (w : ℕ) (r : Encoded) (o′ : List ℕ) : Type 0 where
+  pub answer : r ≡ encodeAnswer st vs (length o) w
+  pub out : o′ ≡ encodeOut st vs o w
 
 -- the number of each case
 abbrev pub encodedNumber : Encoded → ℕ

@@ -1,11 +1,12 @@
 -- The end of an SRL stream: what `finish` answers and stores (docs/SCOPE.md, "SRL", "Refusals").
-use mathlib.Core.Bool.{Bool, cond}
+use mathlib.Core.Path.{_≡_}
+use mathlib.Core.Bool.{Bool}
 use mathlib.Core.List.{List, [], _∷_, _++_}
 use Prim.Native.Nat.{ℕ, zero, suc}
 use lib.IntN.{ℤ}
 use lib.ListN.{length}
 use Rattle.bits.specs.Written.{pack}
-use Rattle.srl_rules.specs.Rules.{noRoom, stored}
+use Rattle.answer.specs.Refusals.{impossibleState, unless, firstOf, noRoom, stored}
 use Rattle.srl_encoder.specs.Encode.{runBits, valueBits, valueKp, valueZeros, writerOk}
 use Rattle.srl_encoder.specs.declared.SrlWriter.{SrlWriter}
 use Rattle.srl_encoder.specs.declared.Finished.{Finished}
@@ -28,7 +29,7 @@ streamBits kp z (w ∷ ws) (v ∷ vs) = valueBits w kp z v ++ streamBits (valueK
 
 -- "order: 8, .. 7"
 abbrev pub finishRefusal : SrlWriter → ℕ → ℕ
-finishRefusal st room = cond (writerOk st) (noRoom room (length (finishBytes st))) 8
+finishRefusal st room = firstOf (unless (writerOk st) impossibleState) (noRoom room (length (finishBytes st)))
 
 -- "a refusal gives its number, zero lengths and counts, and the state handed in": after the end of a stream there is no state
 abbrev pub finished : ℕ → ℕ → SrlWriter → Finished
@@ -42,6 +43,11 @@ finishAnswer st room = finished (finishRefusal st room) (length (finishBytes st)
 -- what `out` holds after it
 abbrev pub finishOut : SrlWriter → List ℕ → List ℕ
 finishOut st out = stored (finishRefusal st (length out)) (finishBytes st) out
+
+-- what the call fixes: its answer, and the output
+pub record FinishesSrl (st : SrlWriter) (o : List ℕ) (r : Finished) (o′ : List ℕ) : Type 0 where
+  pub answer : r ≡ finishAnswer st (length o)
+  pub out : o′ ≡ finishOut st o
 
 -- the number of each case
 abbrev pub finishedNumber : Finished → ℕ

@@ -81,29 +81,37 @@ valueWrite w out c v = write out (c .sink) (valueBits w (c .kp) (c .zeros) v)
 abbrev pub callWrite : ℕ → List ℕ → CallState → List ℤ → List ℕ
 callWrite w out c vs = write out (c .sink) (callBits w (c .kp) (c .zeros) vs)
 
+-- a value was written: d is the state after it, o the output
+abbrev pub WroteValue : ℕ → List ℕ → CallState → ℤ → CallState → List ℕ → Type 0
+WroteValue w out c v d o = (d ≡ valueState w c v) × (o ≡ valueWrite w out c v)
+
+-- some values were
+abbrev pub WroteValues : ℕ → List ℕ → CallState → List ℤ → CallState → List ℕ → Type 0
+WroteValues w out c vs d o = (d ≡ callState w c vs) × (o ≡ callWrite w out c vs)
+
 -- ════ measuring ════
 
 -- it starts as a call does
 abbrev pub measureStart : SrlWriter → Measured
 measureStart st = record { at = 0; «bit_count» = st .«bit_count»; kp = st .kp; zeros = st .«pending_zeros» }
 
--- the place alone
-abbrev pub placeOf : Measured → BitCount
-placeOf p = record { at = p .at; «bit_count» = p .«bit_count» }
+-- the count of bytes and bits alone
+abbrev pub bitCountOf : Measured → BitCount
+bitCountOf p = record { at = p .at; «bit_count» = p .«bit_count» }
 
 -- after a value
 abbrev pub valueMeasure : ℕ → Measured → ℤ → Measured
 valueMeasure w p v =
     record {
-      at = counted (placeOf p) (length (valueBits w (p .kp) (p .zeros) v)) .at;
-      «bit_count» = counted (placeOf p) (length (valueBits w (p .kp) (p .zeros) v)) .«bit_count»;
+      at = counted (bitCountOf p) (length (valueBits w (p .kp) (p .zeros) v)) .at;
+      «bit_count» = counted (bitCountOf p) (length (valueBits w (p .kp) (p .zeros) v)) .«bit_count»;
       kp = valueKp (p .kp) (p .zeros) v;
       zeros = valueZeros (p .zeros) v;
     }
 
 -- how many bytes are complete after some values
 abbrev pub callCount : ℕ → Measured → List ℤ → ℕ
-callCount w p vs = counted (placeOf p) (length (callBits w (p .kp) (p .zeros) vs)) .at
+callCount w p vs = counted (bitCountOf p) (length (callBits w (p .kp) (p .zeros) vs)) .at
 
 -- ════ what the inner functions ask of a state ════
 

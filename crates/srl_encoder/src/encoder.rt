@@ -7,12 +7,11 @@ ghost use lib.Dec.{ltb};
 ghost use lib.ListN.{length};
 ghost use lib.Seq.{sets};
 ghost use Rattle.bits.specs.Bits.{bitOf};
-ghost use Rattle.bits.specs.Written.{after};
-ghost use Rattle.bits.specs.Inner.{Sound, Room, write};
+ghost use Rattle.bits.specs.Inner.{Sound, Room, Wrote};
 ghost use Rattle.srl_rules.specs.Inner.{Width};
 ghost use Rattle.srl_encoder.specs.Encode.{callBytes, nonzeroBits, valueZeros, writerOk, valueFault, fault};
 ghost use Rattle.srl_encoder.specs.Finish.{flush, finishBytes};
-ghost use Rattle.srl_encoder.specs.Inner.{largest, planBits, GoodPlan, Planned, stopCount, callStart, callOf, writerOf, valueState, callState, valueWrite, callWrite, measureStart, valueMeasure, callCount, Good, GoodMeasure, GoodWriter};
+ghost use Rattle.srl_encoder.specs.Inner.{largest, planBits, GoodPlan, Planned, stopCount, callStart, callOf, writerOf, callState, WroteValue, WroteValues, measureStart, valueMeasure, callCount, Good, GoodMeasure, GoodWriter};
 use crate::MAX_ZERO_RUN;
 use crate::SrlWriter;
 
@@ -104,13 +103,13 @@ fn value_fault(zeros: usize, v: i16, num_bits: u8) -> u8
 {
     let m = fixed::magnitude(v);
     if srl_rules::max_magnitude(num_bits) < m {
-        return 5;
+        return answer::MAGNITUDE_OUT_OF_RANGE;
     }
     if zeros < MAX_ZERO_RUN {
         return 0;
     }
     if m == 0 {
-        return 6;
+        return answer::ZERO_RUN_TOO_LONG;
     }
     0
 }
@@ -259,7 +258,12 @@ pub fn measure_value(p: Measured, v: i16, num_bits: u8) -> Measured
 
 // Whether the values complete more than `limit` bytes. It stops at the first value that does, so no count grows too large.
 fn too_many(values: &[i16], p: Measured, num_bits: u8, limit: usize) -> bool
-    requires { ⌜ GoodMeasure p × (p .zeros ≤ 4096) × Width «num_bits» × (p .at ≤ limit) × (limit < 2 ^ 63) ⌝ }
+    requires { ⌜
+        GoodMeasure p
+        × (p .zeros ≤ 4096)
+        × Width «num_bits»
+        × (p .at ≤ limit)
+        × (limit < 2 ^ 63) ⌝ }
     ensures { λ r. ⌜ r ≡ ltb limit (callCount «num_bits» p (now (values .entry))) ⌝ }
 {
     let mut cur = p;
@@ -289,7 +293,11 @@ fn surely_fits(count: usize, num_bits: u8, room: usize) -> bool
 
 // Whether a call completes more bytes than there is room for.
 pub fn exceeds(values: &[i16], st: SrlWriter, num_bits: u8, room: usize) -> bool
-    requires { ⌜ GoodWriter st × Width «num_bits» × (fault «num_bits» (st .«pending_zeros») (now values) ≡ 0) × (room < 2 ^ 63) ⌝ }
+    requires { ⌜
+        GoodWriter st
+        × Width «num_bits»
+        × (fault «num_bits» (st .«pending_zeros») (now values) ≡ 0)
+        × (room < 2 ^ 63) ⌝ }
     ensures { λ r. ⌜ r ≡ ltb room (length (callBytes «num_bits» st (now (values .entry)))) ⌝ }
 {
     if surely_fits(values.len(), num_bits, room) {
@@ -307,7 +315,7 @@ fn encode_zero_run(
     r: RunPlan,
 ) -> bits::writer::BitWriter
     requires { ⌜ Sound k × Room k (r .steps + 40) × GoodPlan r ⌝ }
-    ensures { λ d. ⌜ (d ≡ after k (planBits r)) × (now (out .exit) ≡ write (now (out .entry)) k (planBits r)) ⌝ }
+    ensures { λ d. ⌜ Wrote (now (out .entry)) k (planBits r) d (now (out .exit)) ⌝ }
 {
     let word = srl_rules::run_size(r.kp) + r.rest;
     let len = r.kp / 8 + 1;
@@ -337,7 +345,7 @@ fn put_nonzero(
     num_bits: u8,
 ) -> bits::writer::BitWriter
     requires { ⌜ Sound k × Room k 65540 × (1 ≤ m) × Width «num_bits» ⌝ }
-    ensures { λ r. ⌜ (r ≡ after k (nonzeroBits «num_bits» negative (m - 1))) × (now (out .exit) ≡ write (now (out .entry)) k (nonzeroBits «num_bits» negative (m - 1))) ⌝ }
+    ensures { λ r. ⌜ Wrote (now (out .entry)) k (nonzeroBits «num_bits» negative (m - 1)) r (now (out .exit)) ⌝ }
 {
     let stop = stop_count(m, num_bits);
     if m < 16 {
@@ -369,7 +377,7 @@ fn put_both(
     num_bits: u8,
 ) -> bits::writer::BitWriter
     requires { ⌜ Sound k × Room k (r .steps + 65600) × GoodPlan r × (1 ≤ m) × Width «num_bits» ⌝ }
-    ensures { λ d. ⌜ (d ≡ after k (planBits r ++ nonzeroBits «num_bits» negative (m - 1))) × (now (out .exit) ≡ write (now (out .entry)) k (planBits r ++ nonzeroBits «num_bits» negative (m - 1))) ⌝ }
+    ensures { λ d. ⌜ Wrote (now (out .entry)) k (planBits r ++ nonzeroBits «num_bits» negative (m - 1)) d (now (out .exit)) ⌝ }
 {
     if r.steps + ((r.kp / 8) as usize) + (m as usize) < 15 {
         let stop = stop_count(m, num_bits);
@@ -384,7 +392,7 @@ fn put_both(
 // One value.
 pub fn put_value(out: &mut [u8], c: CallState, v: i16, num_bits: u8) -> CallState
     requires { ⌜ Good c × Room (c .sink) (c .zeros + 70000) × Width «num_bits» ⌝ }
-    ensures { λ r. ⌜ (r ≡ valueState «num_bits» c v) × (now (out .exit) ≡ valueWrite «num_bits» (now (out .entry)) c v) ⌝ }
+    ensures { λ r. ⌜ WroteValue «num_bits» (now (out .entry)) c v r (now (out .exit)) ⌝ }
 {
     let m = fixed::magnitude(v);
     let sink = c.sink;
@@ -429,8 +437,11 @@ fn put_next(
     v: i16,
     num_bits: u8,
 ) -> CallState
-    requires { ⌜ Good (callOf at current «bit_count» kp zeros) × (at + (zeros + 70000) < 2 ^ 64) × Width «num_bits» ⌝ }
-    ensures { λ r. ⌜ (r ≡ valueState «num_bits» (callOf at current «bit_count» kp zeros) v) × (now (out .exit) ≡ valueWrite «num_bits» (now (out .entry)) (callOf at current «bit_count» kp zeros) v) ⌝ }
+    requires { ⌜
+        Good (callOf at current «bit_count» kp zeros)
+        × (at + (zeros + 70000) < 2 ^ 64)
+        × Width «num_bits» ⌝ }
+    ensures { λ r. ⌜ WroteValue «num_bits» (now (out .entry)) (callOf at current «bit_count» kp zeros) v r (now (out .exit)) ⌝ }
 {
     let m = fixed::magnitude(v);
     if m == 0 {
@@ -442,8 +453,12 @@ fn put_next(
 
 // All values. The caller has measured them. The loop keeps the state's parts: a struct that went round it would be copied each time.
 pub fn put_values(values: &[i16], c: CallState, out: &mut [u8], num_bits: u8) -> CallState
-    requires { ⌜ Good c × (c .zeros ≤ 4096) × Width «num_bits» × (callState «num_bits» c (now values) .sink .at < 2 ^ 63) ⌝ }
-    ensures { λ r. ⌜ (r ≡ callState «num_bits» c (now (values .entry))) × (now (out .exit) ≡ callWrite «num_bits» (now (out .entry)) c (now (values .entry))) ⌝ }
+    requires { ⌜
+        Good c
+        × (c .zeros ≤ 4096)
+        × Width «num_bits»
+        × (callState «num_bits» c (now values) .sink .at < 2 ^ 63) ⌝ }
+    ensures { λ r. ⌜ WroteValues «num_bits» (now (out .entry)) c (now (values .entry)) r (now (out .exit)) ⌝ }
 {
     let k = c.sink;
     let mut at = k.at;
@@ -491,7 +506,7 @@ pub fn end_length(st: SrlWriter) -> usize
 // The pending zeros, as if a value followed.
 pub fn put_flush(out: &mut [u8], c: CallState) -> bits::writer::BitWriter
     requires { ⌜ Good c × Room (c .sink) (c .zeros + 40) ⌝ }
-    ensures { λ r. ⌜ (r ≡ after (c .sink) (flush (c .kp) (c .zeros))) × (now (out .exit) ≡ write (now (out .entry)) (c .sink) (flush (c .kp) (c .zeros))) ⌝ }
+    ensures { λ r. ⌜ Wrote (now (out .entry)) (c .sink) (flush (c .kp) (c .zeros)) r (now (out .exit)) ⌝ }
 {
     let sink = c.sink;
     if c.zeros == 0 {

@@ -3,9 +3,8 @@
 // (docs/SCOPE.md, "Refusals"), hands back the state and alters nothing.
 
 ghost use mathlib.Core.Path.{_≡_};
-ghost use lib.ListN.{length};
-ghost use Rattle.srl_encoder.specs.Encode.{freshWriter, encodeAnswer, encodeOut};
-ghost use Rattle.srl_encoder.specs.Finish.{finishAnswer, finishOut};
+ghost use Rattle.srl_encoder.specs.Encode.{freshWriter, EncodesSrl};
+ghost use Rattle.srl_encoder.specs.Finish.{FinishesSrl};
 
 pub mod encoder;
 
@@ -48,20 +47,20 @@ impl SrlWriter {
 
 // Writes the whole bytes that the values complete, from the start of `out`.
 pub fn encode(values: &[i16], state: SrlWriter, out: &mut [u8], num_bits: u8) -> Encoded
-    ensures { λ r. ⌜ (r ≡ encodeAnswer state (now (values .entry)) (length (now (out .entry))) «num_bits») × (now (out .exit) ≡ encodeOut state (now (values .entry)) (now (out .entry)) «num_bits») ⌝ }
+    ensures { λ r. ⌜ EncodesSrl state (now (values .entry)) (now (out .entry)) «num_bits» r (now (out .exit)) ⌝ }
 {
     if !encoder::writer_ok(state) {
-        return Encoded::Refused(8, state);
+        return Encoded::Refused(answer::IMPOSSIBLE_STATE, state);
     }
     if !srl_rules::width_ok(num_bits) {
-        return Encoded::Refused(4, state);
+        return Encoded::Refused(answer::INVALID_BIT_COUNT, state);
     }
     let f = encoder::values_fault(values, state.pending_zeros, num_bits);
     if f != 0 {
         return Encoded::Refused(f, state);
     }
     if encoder::exceeds(values, state, num_bits, out.len()) {
-        return Encoded::Refused(7, state);
+        return Encoded::Refused(answer::OUTPUT_TOO_SHORT, state);
     }
     let done = encoder::put_values(values, encoder::call_start(state), out, num_bits);
     let sink = done.sink;
@@ -70,14 +69,14 @@ pub fn encode(values: &[i16], state: SrlWriter, out: &mut [u8], num_bits: u8) ->
 
 // Writes the end of the stream from the start of `out`: the pending zeros, the padding and a byte 0.
 pub fn finish(state: SrlWriter, out: &mut [u8]) -> Finished
-    ensures { λ r. ⌜ (r ≡ finishAnswer state (length (now (out .entry)))) × (now (out .exit) ≡ finishOut state (now (out .entry))) ⌝ }
+    ensures { λ r. ⌜ FinishesSrl state (now (out .entry)) r (now (out .exit)) ⌝ }
 {
     if !encoder::writer_ok(state) {
-        return Finished::Refused(8, state);
+        return Finished::Refused(answer::IMPOSSIBLE_STATE, state);
     }
     let need = encoder::end_length(state);
     if out.len() < need {
-        return Finished::Refused(7, state);
+        return Finished::Refused(answer::OUTPUT_TOO_SHORT, state);
     }
     encoder::put_end(out, state);
     Finished::Stream(need)

@@ -11,20 +11,22 @@ use lib.ListN.{length, set, length-append}
 use lib.Seq.{sets}
 use borrow.Author.Tests.{lt-ltb, le-ltb, ltb-true, ltb-false}
 use Rattle.bits.specs.Written.{pack, writer, after}
-use Rattle.bits.specs.Inner.{Sound, Room, write, padCount, padOut}
+use Rattle.bits.specs.Inner.{Sound, Room, write, Wrote, padCount, padOut}
 use Rattle.bits.specs.declared.writer.BitWriter.{BitWriter}
-use Rattle.bits.proofs.Puts.{Wrote, then, wrote-sound, wrote-at}
+use Rattle.bits.proofs.Puts.{then, wrote-sound, wrote-at}
 use Rattle.bits.proofs.Packed.{pack-append, sets-append, sets-start, padded}
-use Rattle.srl_rules.specs.Rules.{widthOk, noRoom, stored}
-use Rattle.srl_encoder.specs.Encode.{freshWriter, bitsFrom, callBytes, callAfter, firstOf, fault}
+use Rattle.answer.specs.Refusals.{invalidBitCount, outputTooShort, unless, firstOf, noRoom, stored}
+use Rattle.answer.proofs.Numbers.{stored-some}
+use Rattle.srl_rules.specs.Rules.{widthOk}
+use Rattle.srl_encoder.specs.Encode.{freshWriter, bitsFrom, callBytes, callAfter, fault}
 use Rattle.srl_encoder.specs.Finish.{flush, finishBytes, finished}
 use Rattle.srl_encoder.specs.Inner.{callStart, callState, callWrite, GoodWriter, Good}
 use Rattle.srl_encoder.specs.declared.SrlWriter.{SrlWriter}
 use Rattle.srl_encoder.specs.declared.Finished.the-variants.{Stream, Refused}
 use Rattle.srl_encoder.specs.declared.encoder.CallState.{CallState}
-use Rattle.srl_encoder.proofs.EncodedCalls.{call-sink, call-good, stored-some}
+use Rattle.srl_encoder.proofs.EncodedCalls.{call-sink, call-good}
 use Rattle.srl_encoder.proofs.Runs.{length-flush}
-use Rattle.srl_held.specs.Stream.{streamBytes, streamRefusal, streamAnswer, streamOut}
+use Rattle.srl_held.specs.Stream.{streamBytes, streamRefusal, EncodesStream}
 
 -- the first state is good
 pub fresh-good : GoodWriter freshWriter
@@ -42,6 +44,7 @@ module _ (w : ℕ) (vs : List ℤ) where
 
   -- ════ the bytes ════
 
+  -- a stream is as long as its values and its end
   pub stream-length : length (streamBytes w vs) ≡ length (callBytes w freshWriter vs) + length (finishBytes last)
   stream-length = length-append (callBytes w freshWriter vs) (finishBytes last)
 
@@ -69,6 +72,7 @@ module _ (w : ℕ) (vs : List ℤ) where
   -- ════ what the inner functions ask, where no value is refused ════
 
   module _ (ok : fault w 0 vs ≡ 0) where
+    -- the state after the values is one that an encoder has
     pub last-good : GoodWriter last
     last-good = call-good w freshWriter vs fresh-good ok
 
@@ -110,29 +114,33 @@ finished-some (suc n) m st h = refl
 module _ (vs : List ℤ) (out : List ℕ) (w : ℕ) where
   -- `streamRefusal` by its test and the values' refusal
   abbrev refusal : Bool → ℕ → ℕ
-  refusal q f = cond q (firstOf f (noRoom (length out) (length (streamBytes w vs)))) 4
+  refusal q f = firstOf (unless q invalidBitCount) (firstOf f (noRoom (length out) (length (streamBytes w vs))))
 
-  pub refusal-width : widthOk w ≡ false → streamRefusal vs (length out) w ≡ 4
+  -- a width that no nonzero value can have is refused first
+  pub refusal-width : widthOk w ≡ false → streamRefusal vs (length out) w ≡ invalidBitCount
   refusal-width q = ap (λ b. refusal b (fault w 0 vs)) q
 
+  -- past it the refusal is that of the values, or else of the room
   pub refusal-rest : widthOk w ≡ true → {f : ℕ} → f ≡ fault w 0 vs → streamRefusal vs (length out) w ≡ firstOf f (noRoom (length out) (length (streamBytes w vs)))
   refusal-rest q e = ap (λ b. refusal b (fault w 0 vs)) q ∙ ap (refusal true) (sym e)
 
   -- past the values' refusals it is that of the bytes measured
-  pub refusal-room : widthOk w ≡ true → fault w 0 vs ≡ 0 → {r : Bool} → r ≡ ltb (length out) (length (streamBytes w vs)) → streamRefusal vs (length out) w ≡ cond r 7 0
-  refusal-room q z m = refusal-rest q (sym z) ∙ ap (λ b. cond b 7 0) (sym m)
+  pub refusal-room : widthOk w ≡ true → fault w 0 vs ≡ 0 → {r : Bool} → r ≡ ltb (length out) (length (streamBytes w vs)) → streamRefusal vs (length out) w ≡ cond r outputTooShort 0
+  refusal-room q z m = refusal-rest q (sym z) ∙ ap (λ b. cond b outputTooShort 0) (sym m)
 
+  -- what a refused call fixes
   pub refused : {fresh : SrlWriter} (n : ℕ) → fresh ≡ freshWriter → (n ≡ 0 → ⊥) → streamRefusal vs (length out) w ≡ n
-      → (Refused n fresh ≡ streamAnswer vs (length out) w) × (out ≡ streamOut vs out w)
-  refused n e h r = (
-    ap (Refused n) e ∙ sym (ap (λ x. finished x (length (streamBytes w vs)) freshWriter) r ∙ finished-some n (length (streamBytes w vs)) freshWriter h),
-    sym (ap (λ x. stored x (streamBytes w vs) out) r ∙ stored-some n (streamBytes w vs) out h),
-  )
+      → EncodesStream vs out w (Refused n fresh) out
+  refused n e h r = record {
+    answer = ap (Refused n) e ∙ sym (ap (λ x. finished x (length (streamBytes w vs)) freshWriter) r ∙ finished-some n (length (streamBytes w vs)) freshWriter h);
+    out = sym (ap (λ x. stored x (streamBytes w vs) out) r ∙ stored-some n (streamBytes w vs) out h);
+  }
 
+  -- what an accepted call fixes: n and o are the count and the output
   pub accepted : {n : ℕ} {o : List ℕ} → streamRefusal vs (length out) w ≡ 0 → length (streamBytes w vs) ≤ length out
       → n ≡ length (streamBytes w vs) → o ≡ sets out 0 (streamBytes w vs)
-      → (Stream n ≡ streamAnswer vs (length out) w) × (o ≡ streamOut vs out w)
-  accepted r h a b = (
-    ap Stream a ∙ sym (ap (λ x. finished x (length (streamBytes w vs)) freshWriter) r),
-    b ∙ sets-start (streamBytes w vs) out h ∙ sym (ap (λ x. stored x (streamBytes w vs) out) r),
-  )
+      → EncodesStream vs out w (Stream n) o
+  accepted r h a b = record {
+    answer = ap Stream a ∙ sym (ap (λ x. finished x (length (streamBytes w vs)) freshWriter) r);
+    out = b ∙ sets-start (streamBytes w vs) out h ∙ sym (ap (λ x. stored x (streamBytes w vs) out) r);
+  }

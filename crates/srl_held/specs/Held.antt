@@ -1,8 +1,11 @@
 -- A decoder that holds its stream, and what it answers (docs/SCOPE.md, "SRL", "Refusals"). What is decoded is `srl_decoder`'s `Decode`.
+use mathlib.Core.Path.{_≡_}
 use mathlib.Core.List.{List}
 use Prim.Native.Nat.{ℕ}
-use denote.Ref.{RefT}
-use Rattle.srl_decoder.specs.Decode.{decodedState}
+use lib.IntN.{ℤ}
+use lib.ListN.{length}
+use denote.Ref.{RefT, now}
+use Rattle.srl_decoder.specs.Decode.{decodeAnswer, decodeOut, decodedState}
 use Rattle.srl_decoder.specs.declared.SrlState.{SrlState}
 use Rattle.srl_decoder.specs.declared.Decoded.{Decoded}
 use Rattle.srl_decoder.specs.declared.Decoded.the-variants as D
@@ -33,3 +36,8 @@ outcomeCount (O.Refused k) = 0
 -- "a call then answers as on that stream and state, and leaves the decoder at the new state"
 abbrev pub decodedBy : RefT (List ℕ) → Decoded → DecodedBy
 decodedBy src r = record { outcome = outcome r; decoder = decoderAt src (decodedState r) }
+
+-- what the call of a decoder fixes: its answer, and the output
+pub record DecodesHeld (d : SrlDecoder) (o : List ℤ) (n w : ℕ) (r : DecodedBy) (o′ : List ℤ) : Type 0 where
+  pub answer : r ≡ decodedBy (d .src) (decodeAnswer (now (d .src)) (d .state) (length o) n w)
+  pub out : o′ ≡ decodeOut (now (d .src)) (d .state) o n w

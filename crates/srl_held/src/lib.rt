@@ -7,11 +7,11 @@ ghost use lib.Dec.{ltb};
 ghost use lib.ListN.{length};
 ghost use lib.Seq.{sets};
 ghost use Rattle.srl_rules.specs.Inner.{Width};
-ghost use Rattle.srl_decoder.specs.Decode.{startState, decodeAnswer, decodeOut};
+ghost use Rattle.srl_decoder.specs.Decode.{startState, decodeAnswer, decodeOut, DecodesSrl};
 ghost use Rattle.srl_encoder.specs.Encode.{fault};
-ghost use Rattle.srl_held.specs.Held.{decoderAt, decodedBy};
+ghost use Rattle.srl_held.specs.Held.{decoderAt, DecodesHeld};
 ghost use Rattle.srl_held.specs.Inner.{parts};
-ghost use Rattle.srl_held.specs.Stream.{streamBytes, streamAnswer, streamOut};
+ghost use Rattle.srl_held.specs.Stream.{streamBytes, EncodesStream};
 
 // The decoder of a stream: the stream, and where it stands.
 pub struct SrlDecoder<'a> {
@@ -45,7 +45,9 @@ fn decode_at(
     num_values: usize,
     num_bits: u8,
 ) -> Parts
-    ensures { λ r. ⌜ (r ≡ parts (decodeAnswer (now (src .entry)) state (length (now (out .entry))) «num_values» «num_bits»)) × (now (out .exit) ≡ decodeOut (now (src .entry)) state (now (out .entry)) «num_values» «num_bits») ⌝ }
+    ensures { λ r. ⌜
+        (r ≡ parts (decodeAnswer (now (src .entry)) state (length (now (out .entry))) «num_values» «num_bits»))
+        × (now (out .exit) ≡ decodeOut (now (src .entry)) state (now (out .entry)) «num_values» «num_bits») ⌝ }
 {
     match srl_decoder::decode(src, state, out, num_values, num_bits) {
         srl_decoder::Decoded::Values(count, next) => Parts {
@@ -80,7 +82,7 @@ impl<'a> SrlDecoder<'a> {
 
     // Stores the next `num_values` values at the front of `out`, and hands the decoder back at its new places.
     pub fn decode(self, out: &mut [i16], num_values: usize, num_bits: u8) -> DecodedBy<'a>
-        ensures { λ r. ⌜ (r ≡ decodedBy (self .entry .src) (decodeAnswer (now (self .entry .src)) (self .entry .state) (length (now (out .entry))) «num_values» «num_bits»)) × (now (out .exit) ≡ decodeOut (now (self .entry .src)) (self .entry .state) (now (out .entry)) «num_values» «num_bits») ⌝ }
+        ensures { λ r. ⌜ DecodesHeld (self .entry) (now (out .entry)) «num_values» «num_bits» r (now (out .exit)) ⌝ }
     {
         let r = decode_at(self.src, self.state, out, num_values, num_bits);
         DecodedBy {
@@ -100,7 +102,7 @@ pub fn decode_srl(
     num_values: usize,
     num_bits: u8,
 ) -> srl_decoder::Decoded
-    ensures { λ r. ⌜ (r ≡ decodeAnswer (now (src .entry)) startState (length (now (out .entry))) «num_values» «num_bits») × (now (out .exit) ≡ decodeOut (now (src .entry)) startState (now (out .entry)) «num_values» «num_bits») ⌝ }
+    ensures { λ r. ⌜ DecodesSrl (now (src .entry)) startState (now (out .entry)) «num_values» «num_bits» r (now (out .exit)) ⌝ }
 {
     srl_decoder::decode(src, srl_decoder::SrlState::new(), out, num_values, num_bits)
 }
@@ -126,8 +128,13 @@ fn stream_exceeds(values: &[i16], num_bits: u8, room: usize) -> bool
 
 // The stream of the values, from the start of `out`: how many bytes it is. The caller has measured it.
 fn put_stream(values: &[i16], out: &mut [u8], num_bits: u8) -> usize
-    requires { ⌜ Width «num_bits» × (fault «num_bits» 0 (now values) ≡ 0) × (length (streamBytes «num_bits» (now values)) < 2 ^ 63) ⌝ }
-    ensures { λ r. ⌜ (r ≡ length (streamBytes «num_bits» (now (values .entry)))) × (now (out .exit) ≡ sets (now (out .entry)) 0 (streamBytes «num_bits» (now (values .entry)))) ⌝ }
+    requires { ⌜
+        Width «num_bits»
+        × (fault «num_bits» 0 (now values) ≡ 0)
+        × (length (streamBytes «num_bits» (now values)) < 2 ^ 63) ⌝ }
+    ensures { λ r. ⌜
+        (r ≡ length (streamBytes «num_bits» (now (values .entry))))
+        × (now (out .exit) ≡ sets (now (out .entry)) 0 (streamBytes «num_bits» (now (values .entry)))) ⌝ }
 {
     let start = srl_encoder::encoder::call_start(srl_encoder::SrlWriter::new());
     let done = srl_encoder::encoder::put_values(values, start, out, num_bits);
@@ -139,18 +146,18 @@ fn put_stream(values: &[i16], out: &mut [u8], num_bits: u8) -> usize
 
 // Writes the whole stream of the values, of `num_bits` bits where they are nonzero, from the start of `out`.
 pub fn encode_srl(values: &[i16], out: &mut [u8], num_bits: u8) -> srl_encoder::Finished
-    ensures { λ r. ⌜ (r ≡ streamAnswer (now (values .entry)) (length (now (out .entry))) «num_bits») × (now (out .exit) ≡ streamOut (now (values .entry)) (now (out .entry)) «num_bits») ⌝ }
+    ensures { λ r. ⌜ EncodesStream (now (values .entry)) (now (out .entry)) «num_bits» r (now (out .exit)) ⌝ }
 {
     let fresh = srl_encoder::SrlWriter::new();
     if !srl_rules::width_ok(num_bits) {
-        return srl_encoder::Finished::Refused(4, fresh);
+        return srl_encoder::Finished::Refused(answer::INVALID_BIT_COUNT, fresh);
     }
     let f = srl_encoder::encoder::values_fault(values, 0, num_bits);
     if f != 0 {
         return srl_encoder::Finished::Refused(f, fresh);
     }
     if stream_exceeds(values, num_bits, out.len()) {
-        return srl_encoder::Finished::Refused(7, fresh);
+        return srl_encoder::Finished::Refused(answer::OUTPUT_TOO_SHORT, fresh);
     }
     let n = put_stream(values, out, num_bits);
     srl_encoder::Finished::Stream(n)

@@ -1,6 +1,6 @@
 -- `samples::bench_samples` meets its contract: the definitions compute, and past the end of a stream all is 0. Assumes nothing.
 use mathlib.Core.Path.{_≡_, refl, ap, _∙_}
-use mathlib.Core.Bool.{Bool, true, false, cond}
+use mathlib.Core.Bool.{Bool, true, false, cond, not, _||_}
 use mathlib.Core.List.{List, [], _++_}
 use Prim.Native.Nat.{ℕ, _≤_}
 use native.Mathlib.Omega.{arith}
@@ -11,7 +11,8 @@ use Rattle.fixed.specs.Fixed.{clampI16, clampU8, addScaled, subScaled, isZero, 
 use Rattle.bands.specs.Bands.{spread}
 use Rattle.bits.specs.Bits.{num, numbers, zeros}
 use Rattle.bits.specs.Written.{bitsOfAll}
-use Rattle.srl_rules.specs.Rules.{widthOk, noRoom, stored}
+use Rattle.answer.specs.Refusals.{invalidBitCount, outputTooShort, unless, firstOf, noRoom, stored}
+use Rattle.srl_rules.specs.Rules.{widthOk}
 use Rattle.srl_decoder.specs.Srl.{values, readerAfter}
 use Rattle.srl_decoder.specs.Decode.{startState, opened, decodeRefusal, decodeOut}
 use Rattle.srl_decoder.proofs.Due.{due-past, values-past}
@@ -25,16 +26,16 @@ use Rattle.samples.proofs.bench_samples.Statement.{statement}
 use Rattle.samples.proofs.bench_samples.Tie as tie
 
 -- where no nonzero value is due and there is room, nothing is refused, whatever the width is
-not-refused : (b : Bool) (n : ℕ) → n ≡ 0 → cond b n (cond false 4 n) ≡ 0
+not-refused : (b : Bool) (n : ℕ) → n ≡ 0 → firstOf (unless (b || true) invalidBitCount) n ≡ 0
 not-refused true n e = e
 not-refused false n e = e
 
 -- past the end of a stream all is 0
 empty : (out : List ℤ) (n w : ℕ) → n ≤ length out → decodeOut [] startState out n w ≡ replicate n (pos 0) ++ drop n out
 empty out n w h =
-    let room : noRoom (length out) n ≡ 0 = ap (λ (b : Bool). cond b 7 0) (le-ltb (length out) n h) in
+    let room : noRoom (length out) n ≡ 0 = ap (λ (b : Bool). cond b outputTooShort 0) (le-ltb (length out) n h) in
     let none : decodeRefusal [] startState (length out) n w ≡ 0 =
-    ap (λ (d : Bool). cond (widthOk w) (noRoom (length out) n) (cond d 4 (noRoom (length out) n))) (due-past [] 0 8 0 n (omega arith))
+    ap (λ (d : Bool). firstOf (unless (widthOk w || not d) invalidBitCount) (noRoom (length out) n)) (due-past [] 0 8 0 n (omega arith))
     ∙ not-refused (widthOk w) (noRoom (length out) n) room in
     let zero : values [] (replicate n w) (opened startState) ≡ replicate n (pos 0) =
     values-past [] 0 8 0 (replicate n w) (omega arith) ∙ ap (λ (k : ℕ). replicate k (pos 0)) (length-replicate n w) in

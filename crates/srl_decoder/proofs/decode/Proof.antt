@@ -19,7 +19,7 @@ good c = sym (c .before .state-ok .ensures) ∙ not-false _ (c .if1 .left)
 returns : tie.Need-returns
 returns c =
     let bad : stateOk (c .before .before .before .args .state) ≡ false = sym (c .before .state-ok .ensures) ∙ not-true _ (c .if1 .taken) in
-    (simp bad, simp bad)
+    record { answer = simp bad; out = simp bad }
 
 store-if-room-requires : tie.Need-store-if-room-requires
 store-if-room-requires c κs =
@@ -31,7 +31,8 @@ returns-2 : tie.Need-returns-2
 returns-2 c =
     let wide : widthOk (c .before .before .before .before .before .before .before .before .args .num-bits) ≡ true = sym (c .before .before .before .before .width-ok .ensures) ∙ c .before .before .before .if2 .taken in
     let e = c .before .store-if-room .ensures in
-    (simp (good (c .before .before .before .before .before), wide) (e .0), simp (good (c .before .before .before .before .before), wide) (e .1))
+    let ok = good (c .before .before .before .before .before) in
+    record { answer = simp (ok, wide) (e .0); out = simp (ok, wide) (e .1) }
 
 any-due-requires : tie.Need-any-due-requires
 any-due-requires c κs =
@@ -43,7 +44,8 @@ returns-3 c =
     let k = c .before .before .before .before .before .before .before in
     let narrow : widthOk (k .args .num-bits) ≡ false = sym (c .before .before .before .width-ok .ensures) ∙ c .before .before .if2 .left in
     let due : dueAmong (k .args .src .now) (opened (k .args .state)) (k .args .num-values) ≡ true = sym (c .before .any-due .ensures) ∙ c .if3 .taken in
-    (simp (good (c .before .before .before .before), narrow, due), simp (good (c .before .before .before .before), narrow, due))
+    let ok = good (c .before .before .before .before) in
+    record { answer = simp (ok, narrow, due); out = simp (ok, narrow, due) }
 
 store-if-room-requires-2 : tie.Need-store-if-room-requires-2
 store-if-room-requires-2 c κs =
@@ -57,7 +59,8 @@ returns-4 c =
     let none : dueAmong (k .args .src .now) (opened (k .args .state)) (k .args .num-values) ≡ false = sym (c .before .before .before .before .any-due .ensures) ∙ c .before .before .before .if3 .left in
     let same = width-free (k .args .src .now) (k .args .num-bits) 1 (opened (k .args .state)) (k .args .num-values) none in
     let e = c .before .store-if-room2 .ensures in
-    (simp (good (c .before .before .before .before .before .before .before), narrow, none) (rw (same .1) (e .0)), simp (good (c .before .before .before .before .before .before .before), narrow, none) (rw (same .0) (e .1)))
+    let ok = good (c .before .before .before .before .before .before .before) in
+    record { answer = simp (ok, narrow, none) (rw (same .1) (e .0)); out = simp (ok, narrow, none) (rw (same .0) (e .1)) }
 
 pub decode-spec : {M : Type 1} → statement M
 decode-spec = tie.close (tie.spec (λ c κs. search needs) returns (λ c κs. search needs) store-if-room-requires (λ c. search needs) returns-2 any-due-requires returns-3 store-if-room-requires-2 (λ c. search needs) returns-4)

@@ -8,7 +8,8 @@ use borrow.Author.Tests.{not-true, not-false, ltb-false}
 use Rattle.srl_rules.specs.Rules.{widthOk}
 use Rattle.srl_encoder.specs.Encode.{writerOk, callBytes}
 use Rattle.srl_encoder.proofs.EncodedCalls.{writerOk-good, call-sink, refusal-state, refusal-width, refusal-rest, refusal-room, refused, accepted}
-use Rattle.srl_encoder.proofs.EncodedValues.{firstOf-some}
+use Rattle.answer.specs.Refusals.{invalidBitCount, outputTooShort, impossibleState}
+use Rattle.answer.proofs.Numbers.{firstOf-some}
 use Rattle.srl_rules.proofs.Widths.{widthOk-width}
 use borrow.Author.Needs.{needs}
 use Rattle.srl_encoder.proofs.encode.Statement.{statement}
@@ -28,13 +29,13 @@ fits c = ltb-false _ _ (sym (c .before .exceeds .ensures) ∙ c .if4 .left)
 returns : tie.Need-returns
 returns c =
     let a = c .before .before .before .args in
-    refused (a .state) (a .values .now) (a .out .now) (a .num-bits) 8 (λ e. omega arith)
+    refused (a .state) (a .values .now) (a .out .now) (a .num-bits) impossibleState (λ e. omega arith)
     (refusal-state (a .state) (a .values .now) (a .out .now) (a .num-bits) (sym (c .before .writer-ok .ensures) ∙ not-true _ (c .if1 .taken)))
 
 returns-2 : tie.Need-returns-2
 returns-2 c =
     let a = c .before .before .before .before .before .args in
-    refused (a .state) (a .values .now) (a .out .now) (a .num-bits) 4 (λ e. omega arith)
+    refused (a .state) (a .values .now) (a .out .now) (a .num-bits) invalidBitCount (λ e. omega arith)
     (refusal-width (a .state) (a .values .now) (a .out .now) (a .num-bits) (good (c .before .before)) (sym (c .before .width-ok .ensures) ∙ not-true _ (c .if2 .taken)))
 
 values-fault-requires : tie.Need-values-fault-requires
@@ -55,8 +56,8 @@ exceeds-requires c κs =
 returns-4 : tie.Need-returns-4
 returns-4 c =
     let a = c .before .before .before .before .before .before .before .before .before .args in
-    refused (a .state) (a .values .now) (a .out .now) (a .num-bits) 7 (λ e. omega arith)
-    (refusal-room (a .state) (a .values .now) (a .out .now) (a .num-bits) (good (c .before .before .before .before .before .before)) (wide (c .before .before .before .before)) (c .before .before .before .values-fault .ensures) (c .before .before .if3 .left) (c .before .exceeds .ensures) ∙ ap (λ b. cond b 7 0) (c .if4 .taken))
+    refused (a .state) (a .values .now) (a .out .now) (a .num-bits) outputTooShort (λ e. omega arith)
+    (refusal-room (a .state) (a .values .now) (a .out .now) (a .num-bits) (good (c .before .before .before .before .before .before)) (wide (c .before .before .before .before)) (c .before .before .before .values-fault .ensures) (c .before .before .if3 .left) (c .before .exceeds .ensures) ∙ ap (λ b. cond b outputTooShort 0) (c .if4 .taken))
 
 put-values-requires : tie.Need-put-values-requires
 put-values-requires c κs =
@@ -71,7 +72,7 @@ returns-5 c =
     let a = c .before .before .before .before .before .before .before .before .before .before .before .before .before .before .before .before .args in
     let e = c .before .before .before .before .put-values .ensures in
     accepted (a .state) (a .values .now) (a .out .now) (a .num-bits)
-    (refusal-room (a .state) (a .values .now) (a .out .now) (a .num-bits) (good (c .before .before .before .before .before .before .before .before .before .before .before .before .before)) (wide (c .before .before .before .before .before .before .before .before .before .before .before)) (c .before .before .before .before .before .before .before .before .before .before .values-fault .ensures) (c .before .before .before .before .before .before .before .before .before .if3 .left) (c .before .before .before .before .before .before .before .before .exceeds .ensures) ∙ ap (λ b. cond b 7 0) (c .before .before .before .before .before .before .before .if4 .left))
+    (refusal-room (a .state) (a .values .now) (a .out .now) (a .num-bits) (good (c .before .before .before .before .before .before .before .before .before .before .before .before .before)) (wide (c .before .before .before .before .before .before .before .before .before .before .before)) (c .before .before .before .before .before .before .before .before .before .before .values-fault .ensures) (c .before .before .before .before .before .before .before .before .before .if3 .left) (c .before .before .before .before .before .before .before .before .exceeds .ensures) ∙ ap (λ b. cond b outputTooShort 0) (c .before .before .before .before .before .before .before .if4 .left))
     (fits (c .before .before .before .before .before .before .before)) (c .before .before .before .before .before .before .call-start .ensures) (e .0) (e .1) (c .writer-of .ensures)
 
 pub encode-spec : {M : Type 1} → statement M

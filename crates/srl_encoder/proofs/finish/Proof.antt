@@ -6,7 +6,7 @@ use lib.ListN.{length}
 use borrow.Author.Tests.{not-true, not-false, lt-ltb, le-ltb}
 use Rattle.bits.proofs.Packed.{sets-start}
 use Rattle.srl_encoder.specs.declared.Finished.the-variants.{Stream}
-use Rattle.srl_rules.specs.Rules.{noRoom, stored}
+use Rattle.answer.specs.Refusals.{outputTooShort, impossibleState, unless, firstOf, noRoom, stored}
 use Rattle.srl_encoder.specs.Encode.{writerOk}
 use Rattle.srl_encoder.specs.Finish.{finishBytes, finishRefusal, finished}
 use Rattle.srl_encoder.proofs.EncodedCalls.{writerOk-good}
@@ -21,7 +21,7 @@ good c = sym (c .before .writer-ok .ensures) ∙ not-false _ (c .if1 .left)
 returns : tie.Need-returns
 returns c =
     let bad : writerOk (c .before .before .before .args .state) ≡ false = sym (c .before .writer-ok .ensures) ∙ not-true _ (c .if1 .taken) in
-    (simp bad, simp bad)
+    record { answer = simp bad; out = simp bad }
 
 end-length-requires : tie.Need-end-length-requires
 end-length-requires c κs = writerOk-good (c .before .before .before .args .state) (good c)
@@ -30,9 +30,12 @@ returns-2 : tie.Need-returns-2
 returns-2 c =
     let a = c .before .before .before .before .before .args in
     let n = c .before .end-length .ensures in
-    let r : finishRefusal (a .state) (length (a .out .now)) ≡ 7 =
-    ap (λ b. cond b (noRoom (length (a .out .now)) (length (finishBytes (a .state)))) 8) (good (c .before .before)) ∙ ap (λ b. cond b 7 0) (lt-ltb _ _ (rw n at (c .if2 .taken))) in
-    (sym (ap (λ x. finished x (length (finishBytes (a .state))) (a .state)) r), sym (ap (λ x. stored x (finishBytes (a .state)) (a .out .now)) r))
+    let r : finishRefusal (a .state) (length (a .out .now)) ≡ outputTooShort =
+    ap (λ b. firstOf (unless b impossibleState) (noRoom (length (a .out .now)) (length (finishBytes (a .state))))) (good (c .before .before)) ∙ ap (λ b. cond b outputTooShort 0) (lt-ltb _ _ (rw n at (c .if2 .taken))) in
+    record {
+      answer = sym (ap (λ x. finished x (length (finishBytes (a .state))) (a .state)) r);
+      out = sym (ap (λ x. stored x (finishBytes (a .state)) (a .out .now)) r);
+    }
 
 put-end-requires : tie.Need-put-end-requires
 put-end-requires c κs = writerOk-good (c .before .before .before .before .before .before .args .state) (good (c .before .before .before))
@@ -43,10 +46,11 @@ returns-3 c =
     let n = c .before .before .before .before .before .end-length .ensures in
     let fits : length (finishBytes (a .state)) ≤ length (a .out .now) = rw n at (c .before .before .before .before .if2 .left) in
     let r : finishRefusal (a .state) (length (a .out .now)) ≡ 0 =
-    ap (λ b. cond b (noRoom (length (a .out .now)) (length (finishBytes (a .state)))) 8) (good (c .before .before .before .before .before .before)) ∙ ap (λ b. cond b 7 0) (le-ltb _ _ fits) in (
-      ap Stream n ∙ sym (ap (λ x. finished x (length (finishBytes (a .state))) (a .state)) r),
-      c .before .before .put-end .ensures ∙ sets-start (finishBytes (a .state)) (a .out .now) fits ∙ sym (ap (λ x. stored x (finishBytes (a .state)) (a .out .now)) r),
-    )
+    ap (λ b. firstOf (unless b impossibleState) (noRoom (length (a .out .now)) (length (finishBytes (a .state))))) (good (c .before .before .before .before .before .before)) ∙ ap (λ b. cond b outputTooShort 0) (le-ltb _ _ fits) in
+    record {
+      answer = ap Stream n ∙ sym (ap (λ x. finished x (length (finishBytes (a .state))) (a .state)) r);
+      out = c .before .before .put-end .ensures ∙ sets-start (finishBytes (a .state)) (a .out .now) fits ∙ sym (ap (λ x. stored x (finishBytes (a .state)) (a .out .now)) r);
+    }
 
 pub finish-spec : {M : Type 1} → statement M
 finish-spec =

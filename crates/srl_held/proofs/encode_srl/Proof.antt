@@ -9,7 +9,8 @@ use borrow.Author.Needs.{needs}
 use Rattle.srl_rules.specs.Rules.{widthOk}
 use Rattle.srl_rules.proofs.Widths.{widthOk-width}
 use Rattle.srl_encoder.specs.Encode.{fault}
-use Rattle.srl_encoder.proofs.EncodedValues.{firstOf-some}
+use Rattle.answer.specs.Refusals.{invalidBitCount, outputTooShort}
+use Rattle.answer.proofs.Numbers.{firstOf-some}
 use Rattle.srl_held.specs.Stream.{streamBytes}
 use Rattle.srl_held.proofs.WholeStreams.{refusal-width, refusal-rest, refusal-room, refused, accepted}
 use Rattle.srl_held.proofs.encode_srl.Statement.{statement}
@@ -28,7 +29,7 @@ fits c = ltb-false _ _ (sym (c .before .stream-exceeds .ensures) ∙ c .if3 .lef
 returns : tie.Need-returns
 returns c =
     let a = c .before .before .before .before .args in
-    refused (a .values .now) (a .out .now) (a .num-bits) 4 (c .before .before .new .ensures) (λ e. omega arith)
+    refused (a .values .now) (a .out .now) (a .num-bits) invalidBitCount (c .before .before .new .ensures) (λ e. omega arith)
     (refusal-width (a .values .now) (a .out .now) (a .num-bits) (sym (c .before .width-ok .ensures) ∙ not-true _ (c .if1 .taken)))
 
 values-fault-requires : tie.Need-values-fault-requires
@@ -47,8 +48,8 @@ stream-exceeds-requires c κs = (widthOk-width (c .before .before .before .befor
 returns-3 : tie.Need-returns-3
 returns-3 c =
     let a = c .before .before .before .before .before .before .before .before .args in
-    refused (a .values .now) (a .out .now) (a .num-bits) 7 (c .before .before .before .before .before .before .new .ensures) (λ e. omega arith)
-    (refusal-room (a .values .now) (a .out .now) (a .num-bits) (wide (c .before .before .before .before)) (none (c .before .before)) (c .before .stream-exceeds .ensures) ∙ ap (λ b. cond b 7 0) (c .if3 .taken))
+    refused (a .values .now) (a .out .now) (a .num-bits) outputTooShort (c .before .before .before .before .before .before .new .ensures) (λ e. omega arith)
+    (refusal-room (a .values .now) (a .out .now) (a .num-bits) (wide (c .before .before .before .before)) (none (c .before .before)) (c .before .stream-exceeds .ensures) ∙ ap (λ b. cond b outputTooShort 0) (c .if3 .taken))
 
 put-stream-requires : tie.Need-put-stream-requires
 put-stream-requires c κs = (widthOk-width (c .before .before .before .before .before .before .before .before .before .args .num-bits) (wide (c .before .before .before .before .before)), none (c .before .before .before), omega (arith, fits (c .before), c .before .before .before .before .before .before .before .before .before .good))
@@ -58,7 +59,7 @@ returns-4 c =
     let a = c .before .before .before .before .before .before .before .before .before .before .before .before .args in
     let e = c .before .before .put-stream .ensures in
     accepted (a .values .now) (a .out .now) (a .num-bits)
-    (refusal-room (a .values .now) (a .out .now) (a .num-bits) (wide (c .before .before .before .before .before .before .before .before)) (none (c .before .before .before .before .before .before)) (c .before .before .before .before .before .stream-exceeds .ensures) ∙ ap (λ b. cond b 7 0) (c .before .before .before .before .if3 .left)) (fits (c .before .before .before .before)) (e .0) (e .1)
+    (refusal-room (a .values .now) (a .out .now) (a .num-bits) (wide (c .before .before .before .before .before .before .before .before)) (none (c .before .before .before .before .before .before)) (c .before .before .before .before .before .stream-exceeds .ensures) ∙ ap (λ b. cond b outputTooShort 0) (c .before .before .before .before .if3 .left)) (fits (c .before .before .before .before)) (e .0) (e .1)
 
 pub encode-srl-spec : {M : Type 1} → statement M
 encode-srl-spec =

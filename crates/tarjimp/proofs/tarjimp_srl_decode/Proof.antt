@@ -24,7 +24,7 @@ returns-2 c =
     let ok = fits (c .before .before .before .before .before .before) in
     let st = c .before .before .before .before .before .reader-of .ensures in
     let d = c .before .before .before .decode .ensures in
-    (simp ok (rw (c .decoded-number .ensures, d .0, st)), simp ok (rw (c .before .decoded-numbers .ensures, d .0, st)), simp ok (rw (d .1, st)))
+    (simp ok (rw (c .decoded-number .ensures, d .answer, st)), simp ok (rw (c .before .decoded-numbers .ensures, d .answer, st)), simp ok (rw (d .out, st)))
 
 pub tarjimp-srl-decode-spec : {M : Type 1} → statement M
 tarjimp-srl-decode-spec = tie.close (tie.spec (λ c κs. search needs) returns reader-of-requires (λ c κs. search needs) (λ c κs. search needs) (λ c κs. search needs) (λ c. search needs) returns-2)

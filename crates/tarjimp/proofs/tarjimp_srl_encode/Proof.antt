@@ -24,7 +24,7 @@ returns-2 c =
     let ok = fits (c .before .before .before .before .before .before .before .before) in
     let st = c .before .before .before .before .before .before .before .writer-of .ensures in
     let e = c .before .before .before .before .before .encode .ensures in
-    (simp ok (rw (c .encoded-number .ensures, e .0, st)), simp ok (rw (c .before .before .encoded-numbers .ensures, e .0, st)), simp ok (rw (e .1, st)), simp ok (rw (c .before .encoded-count .ensures, e .0, st)))
+    (simp ok (rw (c .encoded-number .ensures, e .answer, st)), simp ok (rw (c .before .before .encoded-numbers .ensures, e .answer, st)), simp ok (rw (e .out, st)), simp ok (rw (c .before .encoded-count .ensures, e .answer, st)))
 
 pub tarjimp-srl-encode-spec : {M : Type 1} → statement M
 tarjimp-srl-encode-spec = tie.close (tie.spec (λ c κs. search needs) returns writer-of-requires (λ c κs. search needs) (λ c κs. search needs) (λ c κs. search needs) (λ c κs. search needs) (λ c. search needs) returns-2)

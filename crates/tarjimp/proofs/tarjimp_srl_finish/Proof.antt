@@ -24,7 +24,7 @@ returns-2 c =
     let ok = fits (c .before .before .before .before .before .before .before) in
     let st = c .before .before .before .before .before .before .writer-of .ensures in
     let f = c .before .before .before .before .finish .ensures in
-    (simp ok (rw (c .finished-number .ensures, f .0, st)), simp ok (rw (f .1, st)), simp ok (rw (c .before .finished-count .ensures, f .0, st)))
+    (simp ok (rw (c .finished-number .ensures, f .answer, st)), simp ok (rw (f .out, st)), simp ok (rw (c .before .finished-count .ensures, f .answer, st)))
 
 pub tarjimp-srl-finish-spec : {M : Type 1} → statement M
 tarjimp-srl-finish-spec = tie.close (tie.spec (λ c κs. search needs) returns writer-of-requires (λ c κs. search needs) (λ c κs. search needs) (λ c κs. search needs) (λ c. search needs) returns-2)

@@ -10,8 +10,10 @@ use mir.Val.{toZ, ofZ}
 use mir.Syntax.{w16}
 use mir.ValLaws.{toZ-ofZ}
 use borrow.Author.Needs.{needs}
-use Rattle.srl_encoder.specs.Encode.{valueZeros, valueFault, firstOf, fault}
-use Rattle.srl_encoder.proofs.EncodedValues.{value-zeros, firstOf-some}
+use Rattle.srl_encoder.specs.Encode.{valueZeros, valueFault, fault}
+use Rattle.answer.specs.Refusals.{firstOf}
+use Rattle.answer.proofs.Numbers.{firstOf-some}
+use Rattle.srl_encoder.proofs.EncodedValues.{value-zeros}
 use Rattle.srl_encoder.proofs.encoder.find_fault.Statement.{statement}
 use Rattle.srl_encoder.proofs.encoder.find_fault.Tie as tie
 

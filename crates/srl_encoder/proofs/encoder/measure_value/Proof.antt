@@ -11,7 +11,7 @@ use mir.ValLaws.{toZ-ofZ}
 use Rattle.srl_encoder.specs.Encode.{runBits, nonzeroBits, valueBits, valueKp, valueZeros}
 use Rattle.bits.specs.Inner.{counted}
 use Rattle.bits.proofs.Packed.{counted-none}
-use Rattle.srl_encoder.specs.Inner.{placeOf, valueMeasure}
+use Rattle.srl_encoder.specs.Inner.{bitCountOf, valueMeasure}
 use Rattle.srl_encoder.proofs.EncodedValues.{zero-value, nonzero-value}
 use Rattle.srl_encoder.proofs.Nonzeros.{nonzero-le}
 use Rattle.srl_encoder.proofs.Runs.{length-plan}
@@ -27,7 +27,7 @@ returns : tie.Need-returns
 returns c =
     let a = c .before .before .before .args in
     let q = zero-value (a .v) (sym (abs (c .before .before)) ∙ c .before .if1 .taken) in
-    let p = counted-none (placeOf (a .p)) (c .before .before .before .pre .0 .0) in
+    let p = counted-none (bitCountOf (a .p)) (c .before .before .before .pre .0 .0) in
     (λ i. record { at = p i .at; «bit_count» = p i .«bit_count»; kp = a .p .kp; zeros = a .p .zeros + 1 }) ∙ ap (valueMeasure (a .num-bits) (a .p)) (sym q)
 
 -- the bits are not many more than the zeros
@@ -61,7 +61,7 @@ returns-2 c =
     ∙ ap (λ x. length rb + x) (word .ensures)
     ∙ sym (length-append rb (nonzeroBits w (isNegative (a .v)) (m - 1)))
     ∙ ap length (sym (nz .0)) in
-    let place = c .before .count-bits .ensures ∙ ap (counted (placeOf p)) n in
+    let place = c .before .count-bits .ensures ∙ ap (counted (bitCountOf p)) n in
     let kp : c .lowered .result ≡ valueKp (p .kp) (p .zeros) (a .v) = c .lowered .ensures ∙ sym (plan .ensures .next) ∙ sym (nz .1) in
     let zeros : 0 ≡ valueZeros (p .zeros) (a .v) = sym (nz .2) in
     λ i. record { at = place i .at; «bit_count» = place i .«bit_count»; kp = kp i; zeros = zeros i }

@@ -3,8 +3,7 @@ use mathlib.Core.Path.{ap, _∙_}
 use native.Mathlib.Omega.{arith}
 use borrow.Author.Needs.{needs}
 use Rattle.bits.specs.Written.{after}
-use Rattle.bits.specs.Inner.{write}
-use Rattle.bits.proofs.Puts.{Wrote}
+use Rattle.bits.specs.Inner.{write, Wrote}
 use Rattle.srl_encoder.specs.Encode.{sink}
 use Rattle.srl_encoder.specs.Finish.{flush}
 use Rattle.srl_encoder.proofs.EncodedCalls.{end-out, end-room}

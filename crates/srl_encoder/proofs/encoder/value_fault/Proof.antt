@@ -1,6 +1,5 @@
 -- `srl_encoder::encoder::value_fault` meets its contract. Assumes nothing.
 use mathlib.Core.Path.{_≡_, sym, ap, _∙_}
-use mathlib.Core.Bool.{cond}
 use Prim.Native.Nat.{_-_, _^_, _≤_, _<_}
 use native.Mathlib.Omega.{arith}
 use lib.IntN.{natAbs}
@@ -9,6 +8,7 @@ use mir.ValLaws.{toZ-ofZ}
 use borrow.Author.Needs.{needs}
 use borrow.Author.Tests.{le-ltb}
 use Rattle.srl_encoder.specs.Encode.{valueFault}
+use Rattle.answer.specs.Refusals.{magnitudeOutOfRange, zeroRunTooLong, unless}
 use Rattle.srl_encoder.proofs.EncodedValues.{zero-value, fault-nonzero, fault-none}
 use Rattle.srl_encoder.proofs.encoder.value_fault.Statement.{statement}
 use Rattle.srl_encoder.proofs.encoder.value_fault.Tie as tie
@@ -22,7 +22,7 @@ returns c =
     let a = c .before .before .before .args in
     let m = c .before .before .magnitude .result in
     let h : 2 ^ a .num-bits - 1 ≤ m - 1 = omega (arith, c .if1 .taken, c .before .max-magnitude .ensures) in
-    sym (fault-nonzero (a .v) (a .num-bits) (a .zeros) m (abs (c .before .before)) (λ e. omega (arith, e, c .if1 .taken)) ∙ ap (λ b. cond b 0 5) (le-ltb _ _ h))
+    sym (fault-nonzero (a .v) (a .num-bits) (a .zeros) m (abs (c .before .before)) (λ e. omega (arith, e, c .if1 .taken)) ∙ ap (λ b. unless b magnitudeOutOfRange) (le-ltb _ _ h))
 
 -- a magnitude that the width has
 small : (c : tie.Else1) → c .before .before .magnitude .result ≤ 2 ^ c .before .before .before .args .num-bits - 1
@@ -38,7 +38,7 @@ returns-3 : tie.Need-returns-3
 returns-3 c =
     let a = c .before .before .before .before .before .args in
     let h : 4096 ≤ a .zeros = omega (arith, c .before .if2 .left) in
-    sym (ap (valueFault (a .num-bits) (a .zeros)) (zero-value (a .v) (sym (abs (c .before .before .before .before)) ∙ c .if3 .taken)) ∙ ap (λ b. cond b 0 6) (le-ltb _ _ h))
+    sym (ap (valueFault (a .num-bits) (a .zeros)) (zero-value (a .v) (sym (abs (c .before .before .before .before)) ∙ c .if3 .taken)) ∙ ap (λ b. unless b zeroRunTooLong) (le-ltb _ _ h))
 
 returns-4 : tie.Need-returns-4
 returns-4 c =

@@ -195,7 +195,7 @@ module _ {M : Type 1} (𝓤 : URA M) (H : Heap 𝓤) (A : Atoms 𝓤) (W : Given
   exits r zs e l is =
       qed W ((‵ (flft κ q) ⊛ ‵ (flft κ′ q′) ⊛ ‵ ftrue) ∷ ‵ (finally i16 γ zs) ∷ ‵ Own ∷ []) ∵
       suffices ! _ (ends-at 𝓤 H A decode.ended stayed (decode.clauses 𝓤 H A mem run) W (((κ, (κ′, tt)), (q, (q′, tt)), tt, a, at), tt) (By′.lowered (handed (d .src) r)) (handed (d .src) r) (tt, (zs, (tt, (tt, tt)))) (tt, (l, (tt, (tt, tt))))) $
-      says ! (ap (handed (d .src)) (e .0), e .1) $ frame ! $ move ! (1 ∷ []) $ use1 W (‵ Own ⊛ ‵ Own) twice $ split ! $
+      says ! (record { answer = ap (handed (d .src)) (e .0); out = e .1 }) $ frame ! $ move ! (1 ∷ []) $ use1 W (‵ Own ⊛ ‵ Own) twice $ split ! $
       -- [what the struct owns, twice; the last list]: one copy stays with the parameters
       nothing ! $ owned ! u8 (Is u8) (uint-makes 𝓤 H A W w8) w _ (refl, w-fits) $ fjoin ! $ owned ! usize (Is usize) (uint-makes 𝓤 H A W w64) n _ (refl, n-fits) $ fjoin ! $ move ! (3 ∷ 0 ∷ []) $ fjoin ! $ move ! (1 ∷ 0 ∷ []) $ fjoin ! $ frame ! $
       -- [what the struct owns]: with the new state it is what the next decoder owns, and with the facts of the outcome what the answer owns
