@@ -4,7 +4,7 @@ use mathlib.Core.Bool.{Bool, false, cond}
 use mathlib.Core.List.{List, [], _∷_}
 use Prim.Native.Nat.{ℕ}
 use lib.IntN.{ℤ}
-use lib.ListN.{replicate}
+use lib.ListN.{length, replicate}
 use Rattle.srl_decoder.specs.Decode.{decodeAnswer, decodeOut, decodedNumber}
 use Rattle.srl_decoder.specs.declared.Decoded.{Decoded}
 use Rattle.srl_decoder.specs.declared.Decoded.the-variants as D
@@ -12,7 +12,7 @@ use Rattle.srl_encoder.specs.Encode.{encodeAnswer, encodeOut, encodedNumber, en
 use Rattle.srl_encoder.specs.Finish.{finishAnswer, finishOut, finishedNumber, finishedCount}
 use Rattle.srl_encoder.specs.declared.Encoded.{Encoded}
 use Rattle.srl_encoder.specs.declared.Encoded.the-variants as E
-use Rattle.answer.specs.Refusals.{answered}
+use Rattle.answer.specs.Refusals.{impossibleState, answered}
 use Rattle.progressive_encoder.specs.Encode.{writtenNumber, srlCount, rawCount, encodePassAnswer, encodeSrlOut, encodeRawOut}
 use Rattle.tile.specs.Tile.{decodeUpgrade}
 use Rattle.tile.specs.declared.TileState.{TileState}
@@ -27,7 +27,7 @@ decodedNumbers (D.Refused k st) s = s
 
 -- the number returned: "one that does not fit its field .. is no state: 8"
 abbrev pub srlDecodeNumber : List ℕ → List ℕ → ℕ → ℕ → ℕ → ℕ
-srlDecodeNumber src s room n w = cond (readerFits s) (decodedNumber (decodeAnswer src (readerOf s) room n w)) 8
+srlDecodeNumber src s room n w = cond (readerFits s) (decodedNumber (decodeAnswer src (readerOf s) room n w)) impossibleState
 
 -- the state's numbers then
 abbrev pub srlDecodeState : List ℕ → List ℕ → ℕ → ℕ → ℕ → List ℕ
@@ -36,6 +36,12 @@ srlDecodeState src s room n w = cond (readerFits s) (decodedNumbers (decodeAnswe
 -- what `out` holds then
 abbrev pub srlDecodeOut : List ℕ → List ℕ → List ℤ → ℕ → ℕ → List ℤ
 srlDecodeOut src s out n w = cond (readerFits s) (decodeOut src (readerOf s) out n w) out
+
+-- what the call fixes: the number returned, the state's numbers, and the output
+pub record SrlDecodes (src s : List ℕ) (o : List ℤ) (n w : ℕ) (r : ℕ) (s′ : List ℕ) (o′ : List ℤ) : Type 0 where
+  pub number : r ≡ srlDecodeNumber src s (length o) n w
+  pub state : s′ ≡ srlDecodeState src s (length o) n w
+  pub out : o′ ≡ srlDecodeOut src s o n w
 
 -- ════ `tarjimp_srl_encode`: s is the state's four numbers ════
 
@@ -46,7 +52,7 @@ encodedNumbers (E.Refused k st) s = s
 
 -- the number returned; 8 as above
 abbrev pub srlEncodeNumber : List ℤ → List ℕ → ℕ → ℕ → ℕ
-srlEncodeNumber vs s room w = cond (writerFits s) (encodedNumber (encodeAnswer (writerOf s) vs room w)) 8
+srlEncodeNumber vs s room w = cond (writerFits s) (encodedNumber (encodeAnswer (writerOf s) vs room w)) impossibleState
 
 -- the state's numbers then
 abbrev pub srlEncodeState : List ℤ → List ℕ → ℕ → ℕ → List ℕ
@@ -60,11 +66,18 @@ srlEncodeOut vs s out w = cond (writerFits s) (encodeOut (writerOf s) vs out w) 
 abbrev pub srlEncodeCount : List ℤ → List ℕ → ℕ → ℕ → ℕ
 srlEncodeCount vs s room w = cond (writerFits s) (encodedCount (encodeAnswer (writerOf s) vs room w)) 0
 
+-- what the call fixes: the number returned, the state's numbers, the output, and the count of bytes
+pub record SrlEncodes (vs : List ℤ) (s o : List ℕ) (w : ℕ) (r : ℕ) (s′ o′ : List ℕ) (n′ : ℕ) : Type 0 where
+  pub number : r ≡ srlEncodeNumber vs s (length o) w
+  pub state : s′ ≡ srlEncodeState vs s (length o) w
+  pub out : o′ ≡ srlEncodeOut vs s o w
+  pub written : n′ ≡ srlEncodeCount vs s (length o) w
+
 -- ════ `tarjimp_srl_finish` ════
 
 -- the number returned; 8 as above
 abbrev pub srlFinishNumber : List ℕ → ℕ → ℕ
-srlFinishNumber s room = cond (writerFits s) (finishedNumber (finishAnswer (writerOf s) room)) 8
+srlFinishNumber s room = cond (writerFits s) (finishedNumber (finishAnswer (writerOf s) room)) impossibleState
 
 -- what `out` holds then
 abbrev pub srlFinishOut : List ℕ → List ℕ → List ℕ
@@ -73,6 +86,12 @@ srlFinishOut s out = cond (writerFits s) (finishOut (writerOf s) out) out
 -- the count of bytes
 abbrev pub srlFinishCount : List ℕ → ℕ → ℕ
 srlFinishCount s room = cond (writerFits s) (finishedCount (finishAnswer (writerOf s) room)) 0
+
+-- what the call fixes: the number returned, the output, and the count of bytes
+pub record SrlFinishes (s o : List ℕ) (r : ℕ) (o′ : List ℕ) (n′ : ℕ) : Type 0 where
+  pub number : r ≡ srlFinishNumber s (length o)
+  pub out : o′ ≡ srlFinishOut s o
+  pub written : n′ ≡ srlFinishCount s (length o)
 
 -- ════ `tarjimp_encode_upgrade_pass` ════
 

@@ -3,7 +3,6 @@
 // elements, an array of a fixed size a pointer. What is lent to one call must not overlap.
 
 ghost use mathlib.Core.Path.{_≡_};
-ghost use lib.ListN.{length};
 ghost use Rattle.answer.specs.Refusals.{answered};
 ghost use Rattle.progressive_decoder.specs.Upgrade.{DecodesPass};
 ghost use Rattle.dequantizer.specs.Dequantize.{Dequantizes};
@@ -11,7 +10,7 @@ ghost use Rattle.dwt_extrapolate.specs.Transform.{Inverts};
 ghost use Rattle.color.specs.Color.{rgb};
 ghost use Rattle.pixels.specs.Pixels.{WritesPixels};
 ghost use Rattle.planes.specs.Planes.{three};
-ghost use Rattle.tarjimp.specs.Calls.{srlDecodeNumber, srlDecodeState, srlDecodeOut, srlEncodeNumber, srlEncodeState, srlEncodeOut, srlEncodeCount, srlFinishNumber, srlFinishOut, srlFinishCount, WritesPass, tileOf, UpgradesTile};
+ghost use Rattle.tarjimp.specs.Calls.{SrlDecodes, SrlEncodes, SrlFinishes, WritesPass, tileOf, UpgradesTile};
 
 mod answers;
 mod states;
@@ -25,7 +24,8 @@ pub extern "C" fn tarjimp_srl_decode(
     num_values: usize,
     num_bits: u8,
 ) -> u8
-    ensures { λ r. ⌜ (r ≡ srlDecodeNumber (now (src .entry)) (now (state .entry)) (length (now (out .entry))) «num_values» «num_bits») × (now (state .exit) ≡ srlDecodeState (now (src .entry)) (now (state .entry)) (length (now (out .entry))) «num_values» «num_bits») × (now (out .exit) ≡ srlDecodeOut (now (src .entry)) (now (state .entry)) (now (out .entry)) «num_values» «num_bits») ⌝ }
+    ensures { λ r. ⌜ SrlDecodes (now (src .entry)) (now (state .entry)) (now (out .entry)) «num_values» «num_bits»
+        r (now (state .exit)) (now (out .exit)) ⌝ }
 {
     let s = *state;
     if !states::reader_fits(s) {
@@ -46,7 +46,8 @@ pub extern "C" fn tarjimp_srl_encode(
     num_bits: u8,
     written: &mut usize,
 ) -> u8
-    ensures { λ r. ⌜ (r ≡ srlEncodeNumber (now (values .entry)) (now (state .entry)) (length (now (out .entry))) «num_bits») × (now (state .exit) ≡ srlEncodeState (now (values .entry)) (now (state .entry)) (length (now (out .entry))) «num_bits») × (now (out .exit) ≡ srlEncodeOut (now (values .entry)) (now (state .entry)) (now (out .entry)) «num_bits») × (now (written .exit) ≡ srlEncodeCount (now (values .entry)) (now (state .entry)) (length (now (out .entry))) «num_bits») ⌝ }
+    ensures { λ r. ⌜ SrlEncodes (now (values .entry)) (now (state .entry)) (now (out .entry)) «num_bits»
+        r (now (state .exit)) (now (out .exit)) (now (written .exit)) ⌝ }
 {
     let s = *state;
     if !states::writer_fits(s) {
@@ -62,7 +63,7 @@ pub extern "C" fn tarjimp_srl_encode(
 // Writes the end of an SRL stream, whose count of bytes is in `written` then.
 #[no_mangle]
 pub extern "C" fn tarjimp_srl_finish(state: &[u64; 4], out: &mut [u8], written: &mut usize) -> u8
-    ensures { λ r. ⌜ (r ≡ srlFinishNumber (now (state .entry)) (length (now (out .entry)))) × (now (out .exit) ≡ srlFinishOut (now (state .entry)) (now (out .entry))) × (now (written .exit) ≡ srlFinishCount (now (state .entry)) (length (now (out .entry)))) ⌝ }
+    ensures { λ r. ⌜ SrlFinishes (now (state .entry)) (now (out .entry)) r (now (out .exit)) (now (written .exit)) ⌝ }
 {
     let s = *state;
     if !states::writer_fits(s) {

@@ -14,7 +14,7 @@ fits c = sym (c .before .writer-fits .ensures) ∙ not-false _ (c .if1 .left)
 returns : tie.Need-returns
 returns c =
     let unfit : writerFits (c .before .before .before .before .args .state .now) ≡ false = sym (c .before .writer-fits .ensures) ∙ not-true _ (c .if1 .taken) in
-    (simp unfit, simp unfit, simp unfit)
+    record { number = simp unfit; out = simp unfit; written = simp unfit }
 
 writer-of-requires : tie.Need-writer-of-requires
 writer-of-requires c κs = fits c
@@ -24,7 +24,11 @@ returns-2 c =
     let ok = fits (c .before .before .before .before .before .before .before) in
     let st = c .before .before .before .before .before .before .writer-of .ensures in
     let f = c .before .before .before .before .finish .ensures in
-    (simp ok (rw (c .finished-number .ensures, f .answer, st)), simp ok (rw (f .out, st)), simp ok (rw (c .before .finished-count .ensures, f .answer, st)))
+    record {
+      number = simp ok (rw (c .finished-number .ensures, f .answer, st));
+      out = simp ok (rw (f .out, st));
+      written = simp ok (rw (c .before .finished-count .ensures, f .answer, st));
+    }
 
 pub tarjimp-srl-finish-spec : {M : Type 1} → statement M
 tarjimp-srl-finish-spec = tie.close (tie.spec (λ c κs. search needs) returns writer-of-requires (λ c κs. search needs) (λ c κs. search needs) (λ c κs. search needs) (λ c. search needs) returns-2)
