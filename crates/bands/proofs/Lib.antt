@@ -2,3 +2,4 @@
 pub mod Every
 pub mod Laid
 pub mod Spread
+pub mod Spans

@@ -7,7 +7,7 @@ use native.Mathlib.Numerals.{add-one}
 use native.Mathlib.Omega.{arith}
 use lib.ListN.{length, getD, replicate, length-append, length-replicate}
 use Rattle.bands.specs.declared.BandInfo.{BandInfo}
-use Rattle.bands.specs.Bands.{layout, countOf, bandAt, none, spread, perPlace}
+use Rattle.bands.specs.Bands.{layout, countOf, bandAt, none, spread, perPlace, bandsOf}
 use Rattle.bands.specs.Tables.{countBefore}
 use Rattle.bands.proofs.Laid.{layout-laid, ten-bands, running-sum, whole-sum}
 
@@ -99,5 +99,9 @@ spread-below b n (x ∷ l) h p i = front (countOf x) i (spread-below (suc b) n l
     front (suc m) zero r = omega (arith, h)
     front (suc m) (suc i) r = front m i r
 
-pub one-of-ten : (e : Bool) (i : ℕ) → getD (perPlace e (λ b. b)) i 0 < 10
+pub one-of-ten : (e : Bool) (i : ℕ) → getD (bandsOf e) i 0 < 10
 one-of-ten e i = spread-below 0 10 (layout e) (omega (arith, ten-bands e)) (omega arith) i
+
+-- each of the 4,096 places has one
+pub bands-whole : (e : Bool) → length (bandsOf e) ≡ 4096
+bands-whole e = place-whole e (λ b. b)

@@ -3,6 +3,7 @@
 use mathlib.Core.Bool.{Bool, true, false}
 use mathlib.Core.List.{List, [], _∷_, _++_}
 use Prim.Native.Nat.{ℕ, suc, _+_, _*_}
+use lib.Dec.{eqb}
 use lib.ListN.{getD, replicate}
 use Rattle.bands.specs.declared.BandInfo.{BandInfo}
 
@@ -47,6 +48,10 @@ none = band 0 0 0
 abbrev pub bandAt : Bool → ℕ → BandInfo
 bandAt e b = getD (layout e) b none
 
+-- "the bottom band is LL3, the last"
+abbrev pub isBottom : ℕ → Bool
+isBottom b = eqb b 9
+
 -- the place of the bottom band's first coefficient
 abbrev pub bottomOffset : Bool → ℕ
 bottomOffset e = bandAt e 9 .offset
@@ -59,3 +64,11 @@ spread f b (i ∷ is) = replicate (countOf i) (f b) ++ spread f (suc b) is
 -- what each place of a component has of its band
 abbrev pub perPlace : {A : Type 0} → Bool → (ℕ → A) → List A
 perPlace e f = spread f 0 (layout e)
+
+-- the band of each place of a component in a layout
+abbrev pub bandsOf : Bool → List ℕ
+bandsOf e = perPlace e (λ b. b)
+
+-- the position of a band in a row: "a row is ten positions, in band order"
+abbrev pub positionOf : List ℕ → ℕ → ℕ
+positionOf row b = getD row b 0

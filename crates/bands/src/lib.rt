@@ -6,6 +6,8 @@ ghost use Rattle.bands.specs.Bands.{layout, countOf, bandAt, bottomOffse
 ghost use Rattle.bands.specs.Positions.{rowInDomain, rowsInDomain};
 ghost use Rattle.bands.specs.Tables.{BandTables};
 
+pub mod span;
+
 // Bands of a component.
 pub const NUM_BANDS: usize = 10;
 

@@ -10,7 +10,7 @@ use lib.ListN.{length, getD, set, replicate, length-replicate, replicate-append-
 use Rattle.bands.proofs.Laid.{band-within}
 use Rattle.bands.proofs.Spread.{perPlaceTo, place-count}
 use Rattle.dequantizer.specs.Dequantize.{dequantized, dequantizedAll}
-use Rattle.upgrade_steps.proofs.Spans.{Lies, place-more}
+use Rattle.bands.proofs.Spans.{Lies, place-more}
 
 all-next : (qs : List ℕ) (q : ℕ) (cs : List ℤ) → length qs < length cs
     → dequantizedAll (qs ++ (q ∷ [])) cs ≡ set (dequantizedAll qs cs) (length qs) (dequantized q (getD (dequantizedAll qs cs) (length qs) (pos 0)))

@@ -36,7 +36,7 @@ pub fn dequantize_bands(coefficients: &mut [i16], quant: [u8; 10], use_reduce_ex
 {
     let mut b: usize = 0;
     while b < bands::NUM_BANDS {
-        let place = upgrade_steps::span::band_span(use_reduce_extrapolate, b);
+        let place = bands::span::band_span(use_reduce_extrapolate, b);
         let from = place.from;
         let to = place.to;
         dequantize_band(&mut coefficients[from..to], quant[b]);

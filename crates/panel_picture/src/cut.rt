@@ -1,5 +1,5 @@
 // Coefficients cut at positions: what is left of them where their low bits have not arrived.
-use upgrade_steps::span;
+use bands::span;
 ghost use mathlib.Core.Path.{_≡_};
 ghost use Prim.Native.Nat.{_%_, _^_, _≤_};
 ghost use lib.ListN.{length};

@@ -1,5 +1,5 @@
 // What the report says of a tile and of its pixels.
-use upgrade_steps::span;
+use bands::span;
 ghost use mathlib.Core.Path.{_≡_};
 ghost use Prim.Native.Nat.{_+_, _≤_};
 ghost use lib.ListN.{length};

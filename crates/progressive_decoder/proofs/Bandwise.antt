@@ -9,7 +9,7 @@ use lib.IntN.{ℤ}
 use lib.ListN.{length, replicate, length-replicate}
 use Rattle.bands.proofs.Laid.{band-within}
 use Rattle.bands.proofs.Spread.{perPlaceTo, place-count}
-use Rattle.upgrade_steps.proofs.Spans.{Lies, place-more}
+use Rattle.bands.proofs.Spans.{Lies, place-more}
 use Rattle.srl_decoder.specs.Srl.{start}
 use Rattle.srl_decoder.specs.Decode.{opened}
 use Rattle.upgrade_steps.specs.Steps.{Step}

@@ -285,7 +285,7 @@ pub fn upgrade_bands(
     let mut b: usize = 0;
     while b < bands::NUM_BANDS {
         let t = upgrade_steps::band_step(b, prev[b], curr[b]);
-        let place = upgrade_steps::span::band_span(use_reduce_extrapolate, b);
+        let place = bands::span::band_span(use_reduce_extrapolate, b);
         let from = place.from;
         let to = place.to;
         readers = upgrade_band(

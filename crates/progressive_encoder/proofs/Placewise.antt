@@ -18,7 +18,7 @@ use Rattle.upgrade_steps.specs.Steps.{Step, Source, skipped, srl, raw, source, 
 use Rattle.upgrade_steps.specs.Inner.{fromSrl}
 use Rattle.progressive_encoder.specs.Encode.{srlDifference, rawDifference, srlGiven, rawGiven, srlDifferences, rawDifferences}
 use Rattle.progressive_encoder.specs.Inner.{Lists, lists, passLists, placeLists, bandLists, Long, Slices, Lent, WentOver}
-use Rattle.upgrade_steps.proofs.Spans.{Lies, place-more, more-length}
+use Rattle.bands.proofs.Spans.{Lies, place-more, more-length}
 use Rattle.upgrade_steps.proofs.Sources.{source-srl, source-raw, source-none}
 
 -- ════ one place ════

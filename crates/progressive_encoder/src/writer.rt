@@ -178,7 +178,7 @@ fn survey_bands(
     let mut b: usize = 0;
     while b < 10 {
         let t = upgrade_steps::band_step(b, prev[b], curr[b]);
-        let place = upgrade_steps::span::band_span(use_reduce_extrapolate, b);
+        let place = bands::span::band_span(use_reduce_extrapolate, b);
         let from = place.from;
         let to = place.to;
         done = survey_next(coefficients, prev_coefficients, sign, t, from, to, done);
@@ -278,7 +278,7 @@ fn measure_bands(
     let mut b: usize = 0;
     while b < 10 {
         let t = upgrade_steps::band_step(b, prev[b], curr[b]);
-        let place = upgrade_steps::span::band_span(use_reduce_extrapolate, b);
+        let place = bands::span::band_span(use_reduce_extrapolate, b);
         let from = place.from;
         let to = place.to;
         cur = measure_band(coefficients, prev_coefficients, sign, t, from, to, cur);
@@ -507,7 +507,7 @@ fn write_bands(
     let mut b: usize = 0;
     while b < 10 {
         let t = upgrade_steps::band_step(b, prev[b], curr[b]);
-        let place = upgrade_steps::span::band_span(use_reduce_extrapolate, b);
+        let place = bands::span::band_span(use_reduce_extrapolate, b);
         let from = place.from;
         let to = place.to;
         cur = write_band(

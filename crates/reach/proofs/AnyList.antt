@@ -4,13 +4,14 @@ use mathlib.Core.Bool.{Bool, true, false, cond, _&&_}
 use mathlib.Core.List.{List, [], _∷_}
 use Prim.Native.Nat.{ℕ, zero, suc}
 use native.Mathlib.Omega.{arith}
+use Rattle.bands.specs.Bands.{bandsOf}
 use Rattle.bands.specs.Positions.{rowInDomain, rowsInDomain}
 use Rattle.answer.specs.Refusals.{answered, unlessRefused}
 use Rattle.answer.specs.declared.Answer.{Answer}
 use Rattle.planes.specs.Planes.{component, rowOf, joined, of, three}
 use Rattle.tile.specs.Tile.{upgraded, upgradeRefusal}
 use Rattle.tile.specs.declared.TileState.{TileState}
-use Rattle.reach.specs.Component.{bandsOf, ComponentGains}
+use Rattle.reach.specs.Component.{ComponentGains}
 use Rattle.reach.specs.Reach.{TileFits, Pass, Call, after, answersTo, answersBy, passesOf, ThreeRows, AllRows, lastRows, Lower, NoRaise, lastOf, Picture, picture, TileGains, ThreeStreams, AllStreams, Reached, Exact, ReachablePictures}
 use Rattle.reach.proofs.Tiles.{tile-refl, tile-same, step-fits, step-trans, step-whole, StreamsTo, Halfway, halfway}
 

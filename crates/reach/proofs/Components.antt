@@ -6,10 +6,11 @@ use native.Mathlib.Nat.{suc-inj, le-of-suc-le-suc}
 use native.Mathlib.Omega.{arith}
 use lib.IntN.{ℤ}
 use lib.ListN.{getD, length}
+use Rattle.bands.specs.Bands.{isBottom, positionOf}
 use Rattle.upgrade_steps.specs.Steps.{stepOf}
 use Rattle.progressive_decoder.specs.Upgrade.{upgradedCoefficients, upgradedSigns}
 use Rattle.reach.specs.Place.{Gains}
-use Rattle.reach.specs.Component.{isBottom, positionOf, placeAt, ComponentFits, ComponentGains}
+use Rattle.reach.specs.Component.{placeAt, ComponentFits, ComponentGains}
 use Rattle.reach.proofs.Places.{gain-refl, gain-trans}
 use Rattle.reach.proofs.Passes.{Below, FitsRow, GainsRow, row-same, row-mid, pass-sound, pass-whole, Streams}
 

@@ -8,16 +8,16 @@ use lib.IntN.{ℤ, pos, negsuc}
 use lib.ListN.{length, getD, take, replicate, length-replicate, getD-replicate, replicate-append-replicate}
 use lib.Seq.{take-all}
 use Rattle.fixed.specs.Fixed.{signOf}
-use Rattle.bands.specs.Bands.{perPlace}
+use Rattle.bands.specs.Bands.{perPlace, bandsOf, isBottom, positionOf}
 use Rattle.bands.specs.Positions.{every, rowsInDomain}
 use Rattle.bands.proofs.Every.{both-true}
-use Rattle.bands.proofs.Spread.{place-whole, place-map, one-of-ten}
+use Rattle.bands.proofs.Spread.{place-whole, bands-whole, place-map, one-of-ten}
 use Rattle.answer.specs.Refusals.{longEnough}
 use Rattle.planes.specs.Planes.{component, joined, three, of, taken}
 use Rattle.tile.specs.Tile.{fresh, loaded, loadRefusal}
 use Rattle.planes.proofs.Joined.{Long, joined-long, component-joined, row-joined}
 use Rattle.reach.specs.Place.{Multiple, Fits, Gains}
-use Rattle.reach.specs.Component.{bandsOf, isBottom, positionOf, ComponentFits, ComponentGains}
+use Rattle.reach.specs.Component.{ComponentFits, ComponentGains}
 use Rattle.reach.specs.Reach.{TileFits, ThreeRows, AllRows, Lower, NoRaise, lastRows, TileGains}
 use Rattle.reach.specs.Corollaries.{rowsAt, dark, sharpening, darker, HypothesesMet}
 use Rattle.reach.proofs.Tiles.{given-row, rows-in-domain}
@@ -39,8 +39,8 @@ loaded-fits : (cs ss : List (List ℤ)) (rows quants : List (List ℕ)) (e : Boo
     → TileFits (loaded cs ss rows quants e)
 unfolding loaded
 loaded-fits cs ss rows quants e w v a f =
-    let lc : Long 4096 (λ k. take 4096 (of cs k)) = λ k h. f k h .coefficients ∙ place-whole e (λ b. b) in
-    let ls : Long 4096 (λ k. take 4096 (of ss k)) = λ k h. f k h .signs ∙ place-whole e (λ b. b) in
+    let lc : Long 4096 (λ k. take 4096 (of cs k)) = λ k h. f k h .coefficients ∙ bands-whole e in
+    let ls : Long 4096 (λ k. take 4096 (of ss k)) = λ k h. f k h .signs ∙ bands-whole e in
     let d = accepted-load (every longEnough cs) (every longEnough ss) (rowsInDomain rows) (rowsInDomain quants) a in
     record {
       coefficients = joined-long 4096 (λ k. take 4096 (of cs k)) lc;
@@ -57,13 +57,13 @@ same-position : (e : Bool) (p i : ℕ) → positionOf (replicate 10 p) (getD (ba
 same-position e p i = getD-replicate 10 (getD (bandsOf e) i 0) p 0 (one-of-ten e i)
 
 inside : (e : Bool) (i : ℕ) → i < length (bandsOf e) → i < 4096
-inside e i h = omega (arith, h, place-whole e (λ b. b))
+inside e i h = omega (arith, h, bands-whole e)
 
 -- where a place with them fits, a component of them does
 all-fit : (e : Bool) (p : ℕ) (c s : ℤ) → ((b : Bool) → Fits b p (record { coefficient = c; sign = s })) → ComponentFits (bandsOf e) (replicate 10 p) (replicate 4096 c) (replicate 4096 s)
 all-fit e p c s f = record {
-  coefficients = length-replicate 4096 c ∙ sym (place-whole e (λ b. b));
-  signs = length-replicate 4096 s ∙ sym (place-whole e (λ b. b));
+  coefficients = length-replicate 4096 c ∙ sym (bands-whole e);
+  signs = length-replicate 4096 s ∙ sym (bands-whole e);
   each = λ i h. rw (same-position e p i, getD-replicate 4096 i c (pos 0) (inside e i h), getD-replicate 4096 i s (pos 0) (inside e i h)) (f (isBottom (getD (bandsOf e) i 0)));
 }
 
@@ -168,8 +168,8 @@ deep-at e i h =
 component-darker : (e : Bool) → ComponentGains (bandsOf e) (replicate 10 3) (replicate 10 1) (replicate 4096 (negsuc 7)) (replicate 4096 (negsuc 0)) (deep e) (replicate 4096 (negsuc 0))
 unfolding deep
 component-darker e = record {
-  coefficients = place-whole e (λ b. cond (isBottom b) (negsuc 1) (negsuc 13)) ∙ sym (place-whole e (λ b. b));
-  signs = length-replicate 4096 (negsuc 0) ∙ sym (place-whole e (λ b. b));
+  coefficients = place-whole e (λ b. cond (isBottom b) (negsuc 1) (negsuc 13)) ∙ sym (bands-whole e);
+  signs = length-replicate 4096 (negsuc 0) ∙ sym (bands-whole e);
   each = λ i h. rw (same-position e 3 i, same-position e 1 i, getD-replicate 4096 i (negsuc 7) (pos 0) (inside e i h), getD-replicate 4096 i (negsuc 0) (pos 0) (inside e i h), deep-at e i h) (darker-place (isBottom (getD (bandsOf e) i 0)));
 }
 

@@ -9,6 +9,7 @@ use native.Mathlib.Omega.{arith}
 use lib.IntN.{ℤ}
 use lib.ListN.{length, length-append}
 use lib.Pow.{pow-mono}
+use Rattle.bands.specs.Bands.{isBottom, positionOf}
 use Rattle.fixed.specs.Fixed.{isZero}
 use Rattle.bits.specs.Bits.{numbers}
 use Rattle.bits.specs.Written.{bitsOf, bitsOfAll}
@@ -26,7 +27,6 @@ use Rattle.progressive.proofs.Regained.{read-values, read-numbers}
 use Rattle.bits.proofs.Holds.{pack-holds}
 use Rattle.reach.proofs.Streams.{Stream, srl-stream, raw-stream}
 use Rattle.reach.specs.Place.{Place, Fits, Gains}
-use Rattle.reach.specs.Component.{isBottom, positionOf}
 use Rattle.reach.proofs.Places.{due, gain-refl, gain-same, gain-mid, raw-sound, raw-whole, srl-sound, srl-whole}
 
 abbrev pub place : ℤ → ℤ → Place

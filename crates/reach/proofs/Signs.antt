@@ -9,7 +9,8 @@ use lib.IntN.{ℤ, pos, negsuc, natAbs, pos-ne-negsuc}
 use lib.ListN.{length, getD}
 use Rattle.fixed.proofs.Sign.{zero-is}
 use Rattle.fixed.specs.Fixed.{isZero, signOf}
-use Rattle.bands.proofs.Spread.{place-whole}
+use Rattle.bands.specs.Bands.{bandsOf, isBottom}
+use Rattle.bands.proofs.Spread.{bands-whole}
 use Rattle.upgrade_steps.specs.Steps.{Step, Source, skipped, srl, raw, source, sourceOf}
 use Rattle.progressive_decoder.specs.Upgrade.{signThen, signsAfter, srlValues, upgradedSigns}
 use Rattle.answer.specs.Refusals.{unlessRefused}
@@ -20,7 +21,6 @@ use Rattle.tile.specs.declared.TileState.{TileState}
 use Rattle.planes.proofs.Joined.{Long, joined-long, parts-long, component-joined}
 use Rattle.components.proofs.Passes.{signs-long}
 use Rattle.reach.specs.Place.{Place, Fits, Gains}
-use Rattle.reach.specs.Component.{bandsOf, isBottom}
 use Rattle.reach.specs.Reach.{Call, afterCall, after}
 use Rattle.reach.specs.Corollaries.{signAt, NonzeroSignsKept, InWords, OwnSignInWords, FittingPreserved}
 use Rattle.reach.proofs.AnyList.{along}
@@ -114,8 +114,8 @@ pub nonzero-signs-kept : NonzeroSignsKept
 nonzero-signs-kept = record {
   signs = λ t h ks. calls-kept ks t h .kept;
   coefficients = λ t f ks w n k i p l b. own-kept (isBottom (getD (bandsOf (t .«use_reduce_extrapolate»)) i 0)) b
-      (f .each k p .each i (omega (arith, l, place-whole (t .«use_reduce_extrapolate») (λ b. b))))
-      (along f w n ks refl .kind .each k p .each i (omega (arith, l, place-whole (t .«use_reduce_extrapolate») (λ b. b))));
+      (f .each k p .each i (omega (arith, l, bands-whole (t .«use_reduce_extrapolate»))))
+      (along f w n ks refl .kind .each k p .each i (omega (arith, l, bands-whole (t .«use_reduce_extrapolate»))));
 }
 
 pub fitting-preserved : FittingPreserved

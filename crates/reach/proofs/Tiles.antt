@@ -9,9 +9,10 @@ use native.Mathlib.Omega.{arith}
 use lib.IntN.{ℤ}
 use lib.ListN.{length, getD, drop, length-take, List·getD-eq-default}
 use lib.Seq.{getD-take, getD-drop}
+use Rattle.bands.specs.Bands.{bandsOf, positionOf}
 use Rattle.bands.specs.Positions.{inDomain, rowInDomain, rowsInDomain}
 use Rattle.bands.proofs.Every.{at, append-passes}
-use Rattle.bands.proofs.Spread.{place-whole, place-map}
+use Rattle.bands.proofs.Spread.{bands-whole, place-map}
 use Rattle.upgrade_steps.specs.Steps.{Step, stepOf, steps}
 use Rattle.progressive_decoder.specs.Upgrade.{upgradedCoefficients, upgradedSigns}
 use Rattle.components.specs.Components.{stepsOf, passCoefficients, passSigns}
@@ -19,7 +20,7 @@ use Rattle.planes.specs.Planes.{component, rowOf, joined, three, of}
 use Rattle.tile.specs.Tile.{upgraded}
 use Rattle.tile.specs.declared.TileState.{TileState}
 use Rattle.planes.proofs.Joined.{Long, joined-long, component-joined, row-joined, joined-components}
-use Rattle.reach.specs.Component.{bandsOf, positionOf, ComponentGains}
+use Rattle.reach.specs.Component.{ComponentGains}
 use Rattle.reach.specs.Reach.{TileFits, Pass, ThreeRows, Lower, Picture, picture, TileGains, ThreeStreams}
 use Rattle.reach.proofs.Streams.{Stream}
 use Rattle.reach.proofs.Passes.{Below, Streams}
@@ -103,8 +104,8 @@ module _ {t : TileState} (f : TileFits t) (o : Pass) (w : ThreeRows (o .rows)) (
   gathered : (cs ss : ℕ → List ℤ) → FromTo cs ss → TileGains t (joined (of (o .rows))) (record { coefficients = joined cs; sign = joined ss })
   unfolding FromTo e
   gathered cs ss g =
-      let lc : Long 4096 cs = λ k h. g k h .coefficients ∙ place-whole e (λ b. b) in
-      let ls : Long 4096 ss = λ k h. g k h .signs ∙ place-whole e (λ b. b) in
+      let lc : Long 4096 cs = λ k h. g k h .coefficients ∙ bands-whole e in
+      let ls : Long 4096 ss = λ k h. g k h .signs ∙ bands-whole e in
       record {
         coefficients = joined-long 4096 cs lc;
         sign = joined-long 4096 ss ls;
@@ -180,7 +181,7 @@ module _ {t : TileState} (f : TileFits t) (o : Pass) (w : ThreeRows (o .rows)) (
       threeStreams a h = record {
         three = refl;
         bytes = λ k l i. rw (lot-of a k l) (h k l .bytes i);
-        short = λ k l. rw (lot-of a k l) (omega (arith, h k l .short, place-whole e (λ b. b)));
+        short = λ k l. rw (lot-of a k l) (omega (arith, h k l .short, bands-whole e));
       }
 
       ts : (k : ℕ) → k < 3 → map (stepOf (rowOf k (t .«prog_quant»)) (rowOf k (joined (of (o .rows))))) (bandsOf e) ≡ stepsOf e (t .«prog_quant») (o .rows) k
@@ -229,7 +230,7 @@ module _ {t : TileState} (f : TileFits t) (o : Pass) (w : ThreeRows (o .rows)) (
       ss-of = lot-of (λ k h. m k h .signs)
 
       long-cs : Long 4096 (of cs)
-      long-cs k h = ap length (cs-of k h) ∙ m k h .before .coefficients ∙ place-whole e (λ b. b)
+      long-cs k h = ap length (cs-of k h) ∙ m k h .before .coefficients ∙ bands-whole e
 
       long-ss : Long 4096 (of ss)
-      long-ss k h = ap length (ss-of k h) ∙ m k h .before .signs ∙ place-whole e (λ b. b)
+      long-ss k h = ap length (ss-of k h) ∙ m k h .before .signs ∙ bands-whole e

@@ -3,23 +3,10 @@ use mathlib.Core.Path.{_≡_}
 use mathlib.Core.Bool.{Bool}
 use mathlib.Core.List.{List}
 use Prim.Native.Nat.{ℕ, _<_}
-use lib.Dec.{eqb}
 use lib.IntN.{ℤ, pos}
 use lib.ListN.{getD, length}
-use Rattle.bands.specs.Bands.{perPlace}
+use Rattle.bands.specs.Bands.{isBottom, positionOf}
 use Rattle.reach.specs.Place.{Place, Fits, Gains}
-
--- the band of each place of a component in a layout
-abbrev pub bandsOf : Bool → List ℕ
-bandsOf e = perPlace e (λ b. b)
-
--- "the bottom band is LL3, the last"
-abbrev pub isBottom : ℕ → Bool
-isBottom b = eqb b 9
-
--- the position of a band in a row
-abbrev pub positionOf : List ℕ → ℕ → ℕ
-positionOf row b = getD row b 0
 
 -- the place with index i
 abbrev pub placeAt : List ℤ → List ℤ → ℕ → Place

@@ -7,12 +7,12 @@ use Prim.Native.Nat.{ℕ, _<_}
 use lib.IntN.{ℤ, pos, negsuc}
 use lib.ListN.{getD, length, replicate, take}
 use Rattle.fixed.specs.Fixed.{signOf}
-use Rattle.bands.specs.Bands.{perPlace}
+use Rattle.bands.specs.Bands.{perPlace, bandsOf, isBottom}
 use Rattle.planes.specs.Planes.{component, joined, three, of}
 use Rattle.tile.specs.Tile.{fresh, loaded, loadRefusal}
 use Rattle.tile.specs.declared.TileState.{TileState}
 use Rattle.reach.specs.Place.{Place, OwnSign}
-use Rattle.reach.specs.Component.{bandsOf, isBottom, ComponentFits}
+use Rattle.reach.specs.Component.{ComponentFits}
 use Rattle.reach.specs.Reach.{TileFits, Pass, Call, after, passesOf, ThreeRows, AllRows, NoRaise, Picture, Reached}
 
 -- ════ fitting lasts ════

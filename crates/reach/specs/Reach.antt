@@ -7,13 +7,14 @@ use mathlib.Core.List.{List, [], _∷_, map}
 use Prim.Native.Nat.{ℕ, _^_, _≤_, _<_}
 use lib.IntN.{ℤ}
 use lib.ListN.{getD, length}
+use Rattle.bands.specs.Bands.{bandsOf}
 use Rattle.bands.specs.Positions.{rowInDomain}
 use Rattle.answer.specs.Refusals.{answered, unlessRefused}
 use Rattle.answer.specs.declared.Answer.{Answer}
 use Rattle.planes.specs.Planes.{component, rowOf, joined, of}
 use Rattle.tile.specs.Tile.{upgradeRefusal, decodeUpgrade}
 use Rattle.tile.specs.declared.TileState.{TileState}
-use Rattle.reach.specs.Component.{bandsOf, ComponentFits, ComponentGains}
+use Rattle.reach.specs.Component.{ComponentFits, ComponentGains}
 
 -- ════ a tile that fits ════
 

@@ -1,7 +1,7 @@
 // The components of kinds 36 to 40 and 45: what a seed and a case's shape give. oracle/README.md has the rule.
 use crate::digests;
 use crate::number;
-use upgrade_steps::span;
+use bands::span;
 ghost use Prim.Native.Nat.{_≤_};
 ghost use lib.ListN.{length};
 

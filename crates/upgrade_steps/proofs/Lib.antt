@@ -1,3 +1,2 @@
--- Laws for the reader and the writer of a pass, and for dequantizing.
+-- Laws for the reader and the writer of a pass.
 pub mod Sources
-pub mod Spans

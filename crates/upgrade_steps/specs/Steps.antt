@@ -3,11 +3,9 @@
 use mathlib.Core.Bool.{Bool, true, false}
 use mathlib.Core.List.{List, [], _∷_}
 use Prim.Native.Nat.{ℕ, zero, suc, _-_}
-use lib.Dec.{eqb}
 use lib.IntN.{ℤ}
-use lib.ListN.{getD}
 use Rattle.fixed.specs.Fixed.{isZero}
-use Rattle.bands.specs.Bands.{perPlace}
+use Rattle.bands.specs.Bands.{isBottom, positionOf, perPlace}
 
 -- ════ the steps of a pass ════
 
@@ -17,13 +15,13 @@ pub record Step : Type 0 where
   pub width : ℕ
   pub position : ℕ
 
--- of a band. "The bottom band is LL3, the last"; "width: the previous position minus the current one, or 0 where that is negative"
+-- of a band: "width: the previous position minus the current one, or 0 where that is negative"
 abbrev pub stepAt : ℕ → ℕ → ℕ → Step
-stepAt b p q = record { bottom = eqb b 9; width = p - q; position = q }
+stepAt b p q = record { bottom = isBottom b; width = p - q; position = q }
 
--- of the band b of two rows, "a row is ten positions, in band order"
+-- of the band b of two rows
 abbrev pub stepOf : List ℕ → List ℕ → ℕ → Step
-stepOf prev curr b = stepAt b (getD prev b 0) (getD curr b 0)
+stepOf prev curr b = stepAt b (positionOf prev b) (positionOf curr b)
 
 -- of each place of a component
 abbrev pub steps : Bool → List ℕ → List ℕ → List Step

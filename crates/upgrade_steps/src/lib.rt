@@ -7,7 +7,6 @@ ghost use Rattle.upgrade_steps.specs.Steps.{stepAt};
 ghost use Rattle.upgrade_steps.specs.Inner.{bandStep, fromSrl};
 
 pub mod positions;
-pub mod span;
 
 // What a pass does in a band.
 pub struct BandStep {

@@ -6,7 +6,7 @@ use borrow.Rule.Slice.PartMut.{midOf}
 use lib.ListN.{length, getD, replicate}
 use Rattle.bands.proofs.Spread.{spreadTo, perPlaceTo, place-all}
 use Rattle.dequantizer.specs.Dequantize.{dequantizedAll}
-use Rattle.upgrade_steps.proofs.Spans.{Lies, part-length}
+use Rattle.bands.proofs.Spans.{Lies, part-length}
 use Rattle.dequantizer.proofs.Dequantized.{all-band}
 use borrow.Author.Needs.{needs}
 use Rattle.dequantizer.proofs.dequantize_bands.Statement.{statement}

@@ -14,7 +14,7 @@ use Rattle.srl_decoder.specs.declared.SrlState.{SrlState}
 use Rattle.upgrade_steps.specs.Steps.{Step, stepOf, steps}
 use Rattle.upgrade_steps.specs.Inner.{bandStep}
 use Rattle.progressive_decoder.specs.Inner.{Walked, walk, walkedBy, Early}
-use Rattle.upgrade_steps.proofs.Spans.{Lies, part-length, more-length}
+use Rattle.bands.proofs.Spans.{Lies, part-length, more-length}
 use Rattle.progressive_decoder.proofs.Bandwise.{band-turn}
 use Rattle.progressive_decoder.proofs.Walks.{walk-coefficients, walk-signs, walk-reader, walk-count}
 use borrow.Author.Needs.{needs}

@@ -1,13 +1,13 @@
--- `upgrade_steps::span::band_span` meets its contract. Assumes nothing.
+-- `bands::span::band_span` meets its contract. Assumes nothing.
 use mathlib.Core.Path.{_≡_, ap}
 use Prim.Native.Nat.{_+_, _*_, _≤_}
 use native.Mathlib.Omega.{arith}
 use borrow.Author.Needs.{needs}
 use Rattle.bands.specs.Bands.{countOf, bandAt}
 use Rattle.bands.specs.declared.BandInfo.{BandInfo}
 use Rattle.bands.proofs.Laid.{band-within}
-use Rattle.upgrade_steps.proofs.span.band_span.Statement.{statement}
-use Rattle.upgrade_steps.proofs.span.band_span.Tie as tie
+use Rattle.bands.proofs.span.band_span.Statement.{statement}
+use Rattle.bands.proofs.span.band_span.Tie as tie
 
 -- where the band begins
 begins : (c : tie.After-band) → c .band .result .offset ≡ bandAt (c .before .args .use-reduce-extrapolate) (c .before .args .b) .offset
