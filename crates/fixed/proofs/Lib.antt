@@ -7,4 +7,5 @@ pub mod Wrap
 pub mod Shift
 pub mod Sign
 pub mod Scaled
+pub mod Cuts
 mod Samples

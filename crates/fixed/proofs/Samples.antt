@@ -3,6 +3,7 @@
 use mathlib.Core.Path.{_≡_, refl}
 use lib.IntN.{pos, negsuc, _-ℤ_}
 use Rattle.fixed.specs.Fixed.{clampI16, clampU8, low16, signed16, wrapI16, halfTowardZero, halfFloor, floorShift, roundShift, shiftLeftClamp, addScaled, subScaled}
+use Rattle.fixed.specs.Cut.{cutLevel, towardZero, downward}
 
 -- quantizer 5: -1 gives 0, 1 gives 1, -3 gives -1; quantizer 7: 20000 gives 32767
 dequantized : (roundShift (negsuc 0) 1 ≡ pos 0) × (roundShift (pos 1) 1 ≡ pos 1) × (roundShift (negsuc 2) 1 ≡ negsuc 0) × (shiftLeftClamp (pos 20000) 1 ≡ pos 32767)
@@ -27,6 +28,10 @@ upgraded = (refl, refl, refl)
 written : (clampI16 (floorShift (pos 7) 1 -ℤ floorShift (pos 0) 1) ≡ pos 3) × (clampI16 (floorShift (negsuc 6) 1 -ℤ floorShift (pos 0) 1) ≡ negsuc 3)
 unfolding clampI16
 written = (refl, refl)
+
+-- at position 1, 7 is cut to 6, -7 towards zero to -6, and down to -8
+cut-at-1 : (cutLevel 1 7 ≡ 6) × (towardZero 1 (pos 7) ≡ pos 6) × (towardZero 1 (negsuc 6) ≡ negsuc 5) × (downward 1 (pos 7) ≡ pos 6) × (downward 1 (negsuc 6) ≡ negsuc 7)
+cut-at-1 = (refl, refl, refl, refl, refl)
 
 -- colours clamp
 coloured : (clampU8 (pos 300) ≡ 255) × (clampU8 (pos 7) ≡ 7) × (clampU8 (negsuc 3) ≡ 0)

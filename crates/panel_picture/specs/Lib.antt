@@ -1,3 +1,2 @@
 -- What the contracts of `panel_picture` cite.
-pub mod Cut
 pub mod Forward

@@ -3,7 +3,7 @@ use bands::span;
 ghost use mathlib.Core.Path.{_≡_};
 ghost use Prim.Native.Nat.{_%_, _^_, _≤_};
 ghost use lib.ListN.{length};
-ghost use Rattle.panel_picture.specs.Cut.{cutTowardsZero};
+ghost use Rattle.fixed.specs.Cut.{towardZero};
 
 // What a position takes off a magnitude: the rest of its division by 2 to the position.
 fn low_bits(magnitude: u16, position: u8) -> u16
@@ -17,7 +17,7 @@ fn low_bits(magnitude: u16, position: u8) -> u16
 
 // A value cut towards zero to a multiple of 2 to the position.
 pub fn cut(value: i16, position: u8) -> i16
-    ensures { λ r. ⌜ r ≡ cutTowardsZero value position ⌝ }
+    ensures { λ r. ⌜ r ≡ towardZero position value ⌝ }
 {
     let magnitude = fixed::magnitude(value);
     fixed::with_sign(

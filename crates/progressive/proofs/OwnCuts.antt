@@ -4,7 +4,7 @@ use mathlib.Core.Logic.{_≢_}
 use mathlib.Core.Bool.{Bool, true, false, cond, _&&_, _||_, true≢false}
 use mathlib.Core.List.{List}
 use Prim.Native.Nat.{ℕ, zero, suc, _+_, _-_, _*_, _/_, _^_, _≤_, _<_}
-use native.Mathlib.Nat.{zero-div, div-add-mod', mod-lt, div-lt-iff-lt-mul, mul-assoc, mul-comm}
+use native.Mathlib.Nat.{zero-div, div-lt-iff-lt-mul, mul-assoc, mul-comm}
 use native.Mathlib.Omega.{arith}
 use borrow.Author.Tests.{le-ltb}
 use lib.Dec.{ltb}
@@ -12,7 +12,9 @@ use lib.IntN.{ℤ, pos, negsuc, natAbs, _-ℤ_, +ℤ-idr}
 use lib.ListN.{length}
 use lib.Pow.{pow-pos, pow-add, shr-shr, shl-shr}
 use Rattle.fixed.specs.Fixed.{clampI16, floorShift, isZero, signOf}
-use Rattle.fixed.proofs.Sign.{abs-minus, zero-is}
+use Rattle.fixed.specs.Cut.{cutLevel, towardZero}
+use Rattle.fixed.proofs.Cuts.{cut-rest, rest-small, abs-toward}
+use Rattle.fixed.proofs.Sign.{zero-is}
 use Rattle.bands.specs.Positions.{rowInDomain}
 use Rattle.bands.proofs.Spread.{place-whole}
 use Rattle.srl.specs.Laws.{Legal, legal}
@@ -21,14 +23,13 @@ use Rattle.answer.specs.Refusals.{sliceTooShort, outOfDomain, magnitudeOutOfRan
 use Rattle.progressive_encoder.specs.Encode.{srlDifference, rawDifference, srlGiven, srlDifferences, rawGiven, rawDifferences, srlBytes, rawBytes, passFault, encodePassRefusal}
 use Rattle.progressive_encoder.specs.Inner.{anyTooLarge}
 use Rattle.progressive_encoder.proofs.WrittenValues.{fault-by-size}
-use Rattle.progressive.specs.Laws.{Small, small, Sent, towardZero}
+use Rattle.progressive.specs.Laws.{Small, small, Sent}
 use Rattle.progressive.specs.OwnCuts.{OwnCut, OwnCuts, OwnCutsSent}
-use Rattle.progressive.proofs.Regained.{toward-pos}
 
 -- ════ a magnitude ════
 
 -- what a cut at 2^(q + w) leaves, in steps of 2^q
-cut-steps : (q w n : ℕ) → n / 2 ^ (q + w) * 2 ^ (q + w) / 2 ^ q ≡ n / 2 ^ q / 2 ^ w * 2 ^ w
+cut-steps : (q w n : ℕ) → cutLevel (q + w) n / 2 ^ q ≡ cutLevel w (n / 2 ^ q)
 cut-steps q w n =
     let k = n / 2 ^ (q + w) in
     ap (λ (m : ℕ). k * m / 2 ^ q) (pow-add 2 q w ∙ mul-comm (2 ^ q) (2 ^ w))
@@ -37,20 +38,15 @@ cut-steps q w n =
     ∙ ap (λ (m : ℕ). m * 2 ^ w) (sym (shr-shr n q w))
 
 -- so what it takes away is less than 2^w of them
-taken-small : (q w n : ℕ) → n / 2 ^ q - n / 2 ^ (q + w) * 2 ^ (q + w) / 2 ^ q < 2 ^ w
-taken-small q w n = omega (arith, cut-steps q w n, div-add-mod' (n / 2 ^ q) (2 ^ w), mod-lt (n / 2 ^ q) (pow-pos w))
-
--- the magnitude of a cut
-abs-toward : (q : ℕ) (c : ℤ) → natAbs (towardZero q c) ≡ natAbs c / 2 ^ q * 2 ^ q
-abs-toward q (pos n) = ap natAbs (toward-pos q n)
-abs-toward q (negsuc n) = abs-minus (suc n / 2 ^ q * 2 ^ q)
+taken-small : (q w n : ℕ) → n / 2 ^ q - cutLevel (q + w) n / 2 ^ q < 2 ^ w
+taken-small q w n = omega (arith, cut-steps q w n, cut-rest w (n / 2 ^ q), rest-small w (n / 2 ^ q))
 
 -- ════ one place ════
 
 -- a raw number over the own cut
 number-small : (q w : ℕ) (c p : ℤ) → towardZero (q + w) c ≡ p → rawDifference q c p < 2 ^ w
 number-small q w c p e =
-    let n : natAbs p ≡ natAbs c / 2 ^ (q + w) * 2 ^ (q + w) = ap natAbs (sym e) ∙ abs-toward (q + w) c in
+    let n : natAbs p ≡ cutLevel (q + w) (natAbs c) = ap natAbs (sym e) ∙ abs-toward (q + w) c in
     rw n (taken-small q w (natAbs c))
 
 -- without bits below the position, rounded down is not further from zero than cut

@@ -3,15 +3,17 @@ use mathlib.Core.Path.{_≡_, refl, sym, ap, ap₂, _∙_, subst}
 use mathlib.Core.Bool.{Bool, true, false, _&&_, true≢false}
 use mathlib.Core.List.{List, [], _∷_, _++_, append-nil}
 use Prim.Native.Nat.{ℕ, zero, suc, _+_, _-_, _*_, _/_, _^_, _≤_, _<_}
-use native.Mathlib.Nat.{zero-div, div-le-self, div-mul-le-self, div-lt-iff-lt-mul, le-div-iff-mul-le, mul-le-mul-right, add-mul}
+use native.Mathlib.Nat.{zero-div, div-le-self, div-lt-iff-lt-mul, le-div-iff-mul-le, mul-le-mul-right, add-mul}
 use native.Mathlib.Omega.{arith}
-use borrow.Author.Tests.{le-ltb, leb-true}
+use borrow.Author.Tests.{leb-true}
 use lib.IntN.{ℤ, pos, negsuc, negℤ, _+ℤ_, _-ℤ_, +ℤ-idl, +ℤ-idr, negℤ-+ℤ}
 use lib.ListN.{length}
 use lib.Pow.{pow-pos, pow-add}
 use lib.Signed.{mag}
-use Rattle.fixed.specs.Fixed.{clampI16, floorShift, isZero, signOf, addScaled, subScaled, withSign}
+use Rattle.fixed.specs.Fixed.{clampI16, floorShift, isZero, signOf, addScaled, subScaled}
+use Rattle.fixed.specs.Cut.{cutLevel, towardZero, downward}
 use Rattle.fixed.proofs.Clamp.{clamp-same}
+use Rattle.fixed.proofs.Cuts.{cut-below, toward-pos, toward-neg}
 use Rattle.fixed.proofs.Sign.{with-minus, abs-minus}
 use Rattle.bands.specs.Positions.{rowInDomain}
 use Rattle.bands.proofs.Every.{both-true}
@@ -32,7 +34,7 @@ use Rattle.answer.specs.Refusals.{sliceTooShort, outOfDomain, unless, firstOf, 
 use Rattle.progressive_decoder.specs.Upgrade.{srlCoefficient, srlSign, adds, rawCoefficient, signThen, signsAfter, coefficientThen, coefficientsAfter, srlValues, rawNumbers, decodeCoefficients, decodeSigns}
 use Rattle.progressive_encoder.specs.Encode.{srlDifference, rawDifference, srlGiven, srlDifferences, rawGiven, rawDifferences, srlStream, srlBytes, rawBytes, valuesFault, passFault, noRoomFor, encodePassRefusal}
 use Rattle.progressive_encoder.proofs.Placewise.{same-length}
-use Rattle.progressive.specs.Laws.{Small, small, Sent, downward, towardZero, cutBy, cuts, cutSign, cutSigns, Onward, Regained, Regains, regained, PassRoundTrip}
+use Rattle.progressive.specs.Laws.{Small, small, Sent, cutBy, cuts, cutSign, cutSigns, Onward, Regained, Regains, regained, PassRoundTrip}
 
 -- ════ a place with an SRL value ════
 
@@ -70,7 +72,7 @@ floor-room q n l h =
 
 srl-cut : (q : ℕ) (c : ℤ) → q ≤ 15 → mag c < 32768 → srlCoefficient q (floorShift c q) (pos 0) ≡ downward q c
 unfolding subScaled
-srl-cut q (pos n) l h = up-from-zero q (n / 2 ^ q) (omega (arith, div-mul-le-self n (2 ^ q)))
+srl-cut q (pos n) l h = up-from-zero q (n / 2 ^ q) (omega (arith, cut-below q n))
 srl-cut q (negsuc n) l h = ap clampI16 (with-minus (suc (n / 2 ^ q) * 2 ^ q) true refl) ∙ down (suc (n / 2 ^ q) * 2 ^ q) (floor-room q n l h)
 
 -- ════ a place with raw bits ════
@@ -79,7 +81,7 @@ neg-minus : (a b : ℕ) → negℤ (pos a) -ℤ pos b ≡ negℤ (pos (a + b))
 neg-minus a b = sym (negℤ-+ℤ (pos a) (pos b))
 
 -- what is added to the previous magnitude brings the target's
-gained : (q far near : ℕ) → near ≤ far → near / 2 ^ q * 2 ^ q ≡ near → near + (far / 2 ^ q - near / 2 ^ q) * 2 ^ q ≡ far / 2 ^ q * 2 ^ q
+gained : (q far near : ℕ) → near ≤ far → cutLevel q near ≡ near → near + (far / 2 ^ q - near / 2 ^ q) * 2 ^ q ≡ cutLevel q far
 gained q far near l e =
     let a = near / 2 ^ q in
     let b = far / 2 ^ q in
@@ -87,27 +89,17 @@ gained q far near l e =
     let sum : b ≡ a + (b - a) = omega (arith, more) in
     sym (ap (λ (k : ℕ). k * 2 ^ q) sum ∙ add-mul a (b - a) (2 ^ q) ∙ ap (λ (k : ℕ). k + (b - a) * 2 ^ q) e)
 
--- a natural number, cut towards zero
-pub toward-pos : (q n : ℕ) → towardZero q (pos n) ≡ pos (n / 2 ^ q * 2 ^ q)
-toward-pos q n = ap (λ (b : Bool). withSign b (n / 2 ^ q * 2 ^ q)) (le-ltb n 0 (omega arith))
-
-raw-up : (q far near : ℕ) → far < 32768 → near ≤ far → near / 2 ^ q * 2 ^ q ≡ near → addScaled (pos near) (far / 2 ^ q - near / 2 ^ q) q ≡ pos (far / 2 ^ q * 2 ^ q)
+raw-up : (q far near : ℕ) → far < 32768 → near ≤ far → cutLevel q near ≡ near → addScaled (pos near) (far / 2 ^ q - near / 2 ^ q) q ≡ pos (cutLevel q far)
 unfolding addScaled
 raw-up q far near h l e =
     ap (λ (n : ℕ). clampI16 (pos n)) (gained q far near l e)
-    ∙ up (far / 2 ^ q * 2 ^ q) (omega (arith, div-mul-le-self far (2 ^ q)))
+    ∙ up (cutLevel q far) (omega (arith, cut-below q far))
 
-raw-down : (q far near : ℕ) → far ≤ 32768 → near ≤ far → near / 2 ^ q * 2 ^ q ≡ near → subScaled (negℤ (pos near)) (far / 2 ^ q - near / 2 ^ q) q ≡ negℤ (pos (far / 2 ^ q * 2 ^ q))
+raw-down : (q far near : ℕ) → far ≤ 32768 → near ≤ far → cutLevel q near ≡ near → subScaled (negℤ (pos near)) (far / 2 ^ q - near / 2 ^ q) q ≡ negℤ (pos (cutLevel q far))
 unfolding subScaled
 raw-down q far near h l e =
     ap clampI16 (neg-minus near ((far / 2 ^ q - near / 2 ^ q) * 2 ^ q) ∙ ap (λ (n : ℕ). negℤ (pos n)) (gained q far near l e))
-    ∙ down (far / 2 ^ q * 2 ^ q) (omega (arith, div-mul-le-self far (2 ^ q)))
-
-toward-neg : (q far : ℕ) → towardZero q (negℤ (pos far)) ≡ negℤ (pos (far / 2 ^ q * 2 ^ q))
-toward-neg q zero =
-    let none : 0 / 2 ^ q * 2 ^ q ≡ 0 = ap (λ (k : ℕ). k * 2 ^ q) (zero-div (2 ^ q)) ∙ omega arith in
-    ap pos none ∙ sym (ap (λ (n : ℕ). negℤ (pos n)) none)
-toward-neg q (suc n) = refl
+    ∙ down (cutLevel q far) (omega (arith, cut-below q far))
 
 neg-range : (n : ℕ) → mag (negℤ (pos n)) < 32768 → n ≤ 32768
 neg-range zero h = omega arith

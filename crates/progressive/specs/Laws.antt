@@ -3,11 +3,12 @@
 use mathlib.Core.Path.{_≡_}
 use mathlib.Core.Bool.{Bool, not}
 use mathlib.Core.List.{List, [], _∷_}
-use Prim.Native.Nat.{ℕ, _*_, _/_, _^_, _≤_, _<_}
-use lib.IntN.{ℤ, pos, natAbs, _*ℤ_}
+use Prim.Native.Nat.{ℕ, _^_, _≤_, _<_}
+use lib.IntN.{ℤ, pos}
 use lib.ListN.{length}
 use lib.Signed.{mag}
-use Rattle.fixed.specs.Fixed.{floorShift, isNegative, signOf, withSign}
+use Rattle.fixed.specs.Fixed.{floorShift, signOf, withSign}
+use Rattle.fixed.specs.Cut.{cutLevel, towardZero, downward}
 use Rattle.upgrade_steps.specs.Steps.{Step, Source, skipped, srl, raw, source, steps, rawWidths}
 use Rattle.progressive_decoder.specs.Upgrade.{adds, srlValues, rawNumbers, upgradedSigns, upgradedCoefficients, decodeCoefficients, decodeSigns}
 use Rattle.progressive_encoder.specs.Encode.{srlDifferences, rawDifferences, srlBytes, rawBytes, passFault, encodePassRefusal}
@@ -29,15 +30,7 @@ pub record Sent (ts : List Step) (cs ps ss : List ℤ) : Type 0 where
 
 -- ════ the writer's target: the coefficient without the bits below the current position ════
 
--- rounded down, as the SRL rule has it
-abbrev pub downward : ℕ → ℤ → ℤ
-downward q c = floorShift c q *ℤ pos (2 ^ q)
-
--- rounded towards zero, as the raw rule has it
-abbrev pub towardZero : ℕ → ℤ → ℤ
-towardZero q c = withSign (isNegative c) (natAbs c / 2 ^ q * 2 ^ q)
-
--- at a place, by where its value goes: c is the coefficient, p the previous one
+-- at a place, by where its value goes: c is the coefficient, p the previous one. The SRL rule rounds down, the raw rule towards zero
 abbrev pub cutBy : Source → ℕ → ℤ → ℤ → ℤ
 cutBy skipped q c p = p
 cutBy srl q c p = downward q c
@@ -76,7 +69,7 @@ pub record Onward (up : Bool) (q : ℕ) (c p : ℤ) : Type 0 where
   pub from : p ≡ withSign (not up) near
   pub further : near ≤ far
   pub range : mag c < 32768
-  pub clean : near / 2 ^ q * 2 ^ q ≡ near
+  pub clean : cutLevel q near ≡ near
 
 -- with an SRL value: the previous coefficient is 0, as it is at a zero sign of a component that fits; positions and sixteen bits are as everywhere
 abbrev pub Regained : Source → Step → ℤ → ℤ → ℤ → Type 0

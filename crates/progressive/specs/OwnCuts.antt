@@ -8,10 +8,11 @@ use Prim.Native.Nat.{ℕ, _+_, _≤_}
 use lib.IntN.{ℤ}
 use lib.ListN.{length}
 use Rattle.fixed.specs.Fixed.{signOf}
+use Rattle.fixed.specs.Cut.{towardZero}
 use Rattle.answer.specs.Refusals.{magnitudeOutOfRange}
 use Rattle.upgrade_steps.specs.Steps.{Step, steps}
 use Rattle.progressive_encoder.specs.Encode.{encodePassRefusal}
-use Rattle.progressive.specs.Laws.{Sent, towardZero}
+use Rattle.progressive.specs.Laws.{Sent}
 
 -- a place where a pass goes on from the coefficient's own cut: c is the coefficient, p the previous one, s its sign
 pub record OwnCut (t : Step) (c p s : ℤ) : Type 0 where

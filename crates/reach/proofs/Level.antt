@@ -1,9 +1,10 @@
 -- The arithmetic of one level: a number that grows by multiples of 2^q, from a multiple of 2^p.
 use mathlib.Core.Path.{_≡_, refl, sym, ap, _∙_}
-use Prim.Native.Nat.{ℕ, zero, suc, _+_, _-_, _*_, _/_, _%_, _^_, _≤_, _<_}
-use native.Mathlib.Nat.{mul-assoc, add-mul, mul-le-mul-right, mul-lt-mul-of-pos-right, lt-of-mul-lt-mul-right, le-of-mul-le-mul-right, div-add-mod', mod-lt, sub-add-cancel}
+use Prim.Native.Nat.{ℕ, zero, suc, _+_, _-_, _*_, _/_, _^_, _≤_, _<_}
+use native.Mathlib.Nat.{mul-assoc, add-mul, mul-le-mul-right, mul-lt-mul-of-pos-right, lt-of-mul-lt-mul-right, le-of-mul-le-mul-right, sub-add-cancel}
 use native.Mathlib.Omega.{arith}
 use lib.Pow.{pow-pos, pow-add}
+use Rattle.fixed.specs.Cut.{cutLevel}
 use Rattle.reach.specs.Place.{Multiple}
 
 pub pow-split : {p q : ℕ} → q ≤ p → 2 ^ p ≡ 2 ^ (p - q) * 2 ^ q
@@ -40,14 +41,6 @@ room {p} {q} {d} h m l = omega (arith, pow-split h, m .is, mul-le-mul-right (2 ^
     k : suc (m .times) ≤ 2 ^ (p - q)
     k = small-add (m .times) h (omega (arith, m .is))
 
--- n, cut to a multiple of 2^q
-pub cut : ℕ → ℕ → ℕ
-cut q n = n / 2 ^ q * 2 ^ q
-
-pub cut-multiple : (q n : ℕ) → Multiple (2 ^ q) (cut q n)
-unfolding cut
+-- a number that is cut is a multiple of 2^q
+pub cut-multiple : (q n : ℕ) → Multiple (2 ^ q) (cutLevel q n)
 cut-multiple q n = record { times = n / 2 ^ q; is = refl }
-
-pub cut-rest : (q n : ℕ) → (d : ℕ) × (n ≡ cut q n + d) × (d < 2 ^ q)
-unfolding cut
-cut-rest q n = (n % 2 ^ q, sym (div-add-mod' n (2 ^ q)), mod-lt n (pow-pos q))

@@ -3,7 +3,7 @@
 use mathlib.Core.Path.{_≡_, refl, sym, ap, _∙_}
 use mathlib.Core.Logic.{_≢_}
 use mathlib.Core.Bool.{Bool, true, false, not, cond, _||_, true≢false}
-use Prim.Native.Nat.{ℕ, zero, suc, _+_, _-_, _*_, _^_, _≤_, _<_, min}
+use Prim.Native.Nat.{ℕ, zero, suc, _+_, _-_, _*_, _%_, _^_, _≤_, _<_, min}
 use native.Mathlib.Nat.{suc-add, zero-add, zero-mul, mul-pos, zero-lt-suc, add-zero, add-suc, le-trans, le-refl}
 use native.Mathlib.Omega.{arith}
 use native.Mathlib.Decide.{decLt}
@@ -11,8 +11,10 @@ use lib.Dec.{T, ltb, ltb→lt, nltb→le}
 use lib.IntN.{ℤ, pos, negsuc, negℤ, natAbs, _+ℤ_, subℕ, +ℤ-assoc, +ℤ-comm, +ℤ-idl, +ℤ-idr, pos-ne-negsuc}
 use lib.Signed.{mag}
 use lib.Pow.{pow-pos, pow-mono}
-use Rattle.reach.proofs.Level.{multiple-down, multiple-add, multiple-diff, multiple-times, add-small, small-add, room, cut, cut-multiple, cut-rest}
+use Rattle.reach.proofs.Level.{multiple-down, multiple-add, multiple-diff, multiple-times, add-small, small-add, room, cut-multiple}
+use Rattle.fixed.specs.Cut.{cutLevel}
 use Rattle.fixed.proofs.Clamp.{clamp-same}
+use Rattle.fixed.proofs.Cuts.{cut-rest, rest-small}
 use Rattle.fixed.proofs.Sign.{abs-minus}
 use Rattle.fixed.specs.Fixed.{clampI16, isZero, isOne, signOf, addScaled, subScaled}
 use Rattle.progressive_decoder.specs.Upgrade.{srlCoefficient, srlSign, rawCoefficient}
@@ -251,25 +253,25 @@ gain-trans b p q r {x} {y} {z} h f g k = record {
 }
 
 rise-mid : (b : Bool) (p q r : ℕ) (x z : Place) → q ≤ p → Rise b p r x z → (y : Place) × Gains b p q x y × Gains b q r y z
-rise-mid b p q r x z h v = (placeAt (v .family) (v .base + cut q (v .up)), first, second)
+rise-mid b p q r x z h v = (placeAt (v .family) (v .base + cutLevel q (v .up)), first, second)
   where
     d : ℕ
-    d = cut-rest q (v .up) .0
+    d = v .up % 2 ^ q
 
-    e : v .up ≡ cut q (v .up) + d
-    e = cut-rest q (v .up) .1
+    e : v .up ≡ cutLevel q (v .up) + d
+    e = cut-rest q (v .up)
 
-    first : Gains b p q x (placeAt (v .family) (v .base + cut q (v .up)))
+    first : Gains b p q x (placeAt (v .family) (v .base + cutLevel q (v .up)))
     first = rw (v .kind, v .from)
-        (level-gain (v .family) p q (v .base) (cut q (v .up)) (le-trans h (v .low)) (omega (arith, e, v .less)) (omega (arith, e, v .below))
+        (level-gain (v .family) p q (v .base) (cutLevel q (v .up)) (le-trans h (v .low)) (omega (arith, e, v .less)) (omega (arith, e, v .below))
         (multiple-add (multiple-down (v .base) h (v .start)) (cut-multiple q (v .up))))
 
-    same : v .base + v .up ≡ v .base + cut q (v .up) + d
+    same : v .base + v .up ≡ v .base + cutLevel q (v .up) + d
     same = omega (arith, e)
 
-    second : Gains b q r (placeAt (v .family) (v .base + cut q (v .up))) z
+    second : Gains b q r (placeAt (v .family) (v .base + cutLevel q (v .up))) z
     second = rw (v .kind, v .to, same)
-        (level-gain (v .family) q r (v .base + cut q (v .up)) d (v .lower) (cut-rest q (v .up) .2) (rw same at (v .below)) (rw same at (v .last)))
+        (level-gain (v .family) q r (v .base + cutLevel q (v .up)) d (v .lower) (rest-small q (v .up)) (rw same at (v .below)) (rw same at (v .last)))
 
 -- the target, cut at the position between
 pub gain-mid : (b : Bool) (p q r : ℕ) {x z : Place} → q ≤ p → Fits b p x → Gains b p r x z → (y : Place) × Gains b p q x y × Gains b q r y z
