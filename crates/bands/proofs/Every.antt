@@ -21,9 +21,15 @@ module _ {A : Type 0} (f : A → Bool) (l : List A) (j : ℕ) (d : A) where
 pub ends : {A : Type 0} (f : A → Bool) (l : List A) (j : ℕ) → length l ≤ j → every f (drop j l) ≡ true
 ends f l j h = rw (drop-of-length-le l {i = j} h)
 
+-- where two tests hold together, each does
 pub both-true : (a b : Bool) → (a && b) ≡ true → (a ≡ true) × (b ≡ true)
 both-true true b e = (refl, e)
 both-true false b e = absurd (true≢false (sym e))
+
+-- and where each does, both
+pub both-pass : (a b : Bool) → a ≡ true → b ≡ true → (a && b) ≡ true
+both-pass true b p q = q
+both-pass false b p q = p
 
 -- each element passes a test that every one passes
 pub at : {A : Type 0} (f : A → Bool) (l : List A) (i : ℕ) (d : A) → every f l ≡ true → i < length l → f (getD l i d) ≡ true
@@ -32,10 +38,6 @@ at f (x ∷ xs) zero d e h = both-true (f x) (every f xs) e .0
 at f (x ∷ xs) (suc i) d e h = at f xs i d (both-true (f x) (every f xs) e .1) (omega arith)
 
 -- so do those of a part, and those of two lists one after another
-both-pass : (a b : Bool) → a ≡ true → b ≡ true → (a && b) ≡ true
-both-pass true b p q = q
-both-pass false b p q = p
-
 module _ {A : Type 0} (f : A → Bool) where
   take-passes : (n : ℕ) (l : List A) → every f l ≡ true → every f (take n l) ≡ true
   take-passes zero l e = refl

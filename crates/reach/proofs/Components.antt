@@ -9,8 +9,10 @@ use lib.ListN.{getD, length}
 use Rattle.bands.specs.Bands.{isBottom, positionOf}
 use Rattle.upgrade_steps.specs.Steps.{stepOf}
 use Rattle.progressive_decoder.specs.Upgrade.{upgradedCoefficients, upgradedSigns}
+use Rattle.fitting.proofs.Tested.{first-fits, others-fit}
 use Rattle.reach.specs.Place.{Gains}
-use Rattle.reach.specs.Component.{placeAt, ComponentFits, ComponentGains}
+use Rattle.fitting.specs.Component.{placeAt, ComponentFits}
+use Rattle.reach.specs.Component.{ComponentGains}
 use Rattle.reach.proofs.Places.{gain-refl, gain-trans}
 use Rattle.reach.proofs.Passes.{Below, FitsRow, GainsRow, row-same, row-mid, pass-sound, pass-whole, Streams}
 
@@ -23,8 +25,7 @@ fits-in [] p (c ∷ cs) ss f = absurd (omega (arith, f .coefficients))
 fits-in (b ∷ bs) p [] ss f = absurd (omega (arith, f .coefficients))
 fits-in (b ∷ bs) p (c ∷ cs) [] f = absurd (omega (arith, f .signs))
 fits-in (b ∷ bs) p (c ∷ cs) (s ∷ ss) f =
-    FitsRow.one (f .each zero (omega arith))
-    (fits-in bs p cs ss (record { coefficients = suc-inj (f .coefficients); signs = suc-inj (f .signs); each = λ i h. f .each (suc i) (suc-le-suc h) }))
+    FitsRow.one (first-fits f) (fits-in bs p cs ss (others-fit f))
 
 gains-in : (bs p q : List ℕ) {cs ss : List ℤ} (cs′ ss′ : List ℤ) → FitsRow p bs cs ss → ComponentGains bs p q cs ss cs′ ss′ → GainsRow p q bs cs ss cs′ ss′
 gains-in [] p q [] [] FitsRow.none g = GainsRow.none

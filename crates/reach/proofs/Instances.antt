@@ -16,8 +16,10 @@ use Rattle.answer.specs.Refusals.{longEnough}
 use Rattle.planes.specs.Planes.{component, joined, three, of, taken}
 use Rattle.tile.specs.Tile.{fresh, loaded, loadRefusal}
 use Rattle.planes.proofs.Joined.{Long, joined-long, component-joined, row-joined}
-use Rattle.reach.specs.Place.{Multiple, Fits, Gains}
-use Rattle.reach.specs.Component.{ComponentFits, ComponentGains}
+use Rattle.fitting.specs.Place.{Multiple, Fits}
+use Rattle.reach.specs.Place.{Gains}
+use Rattle.fitting.specs.Component.{ComponentFits}
+use Rattle.reach.specs.Component.{ComponentGains}
 use Rattle.reach.specs.Reach.{TileFits, ThreeRows, AllRows, Lower, NoRaise, lastRows, TileGains}
 use Rattle.reach.specs.Corollaries.{rowsAt, dark, sharpening, darker, HypothesesMet}
 use Rattle.reach.proofs.Tiles.{given-row, rows-in-domain}

@@ -1,5 +1,4 @@
 -- Laws of what a list of passes can reach.
-pub mod Level
 pub mod Places
 pub mod Streams
 pub mod Passes

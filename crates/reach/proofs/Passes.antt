@@ -26,11 +26,9 @@ use Rattle.progressive_encoder.specs.Encode.{srlStream, rawStream}
 use Rattle.progressive.proofs.Regained.{read-values, read-numbers}
 use Rattle.bits.proofs.Holds.{pack-holds}
 use Rattle.reach.proofs.Streams.{Stream, srl-stream, raw-stream}
-use Rattle.reach.specs.Place.{Place, Fits, Gains}
+use Rattle.fitting.specs.Place.{Place, place, Fits}
+use Rattle.reach.specs.Place.{Gains}
 use Rattle.reach.proofs.Places.{due, gain-refl, gain-same, gain-mid, raw-sound, raw-whole, srl-sound, srl-whole}
-
-abbrev pub place : ℤ → ℤ → Place
-place c s = record { coefficient = c; sign = s }
 
 -- no position of q is above that of p, row by row
 abbrev pub Below : List ℕ → List ℕ → Type 0

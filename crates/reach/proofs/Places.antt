@@ -1,93 +1,36 @@
--- One place, by its level: a number that only rises. Outside the bottom the level is the magnitude, and the sign picks the family;
--- in the bottom it is the value plus 32768, and the family holds the sign. Every fact about a step is then one about numbers.
+-- One place, by its level: what it may become is a greater level of its family, and a pass brings it there. `fitting` has the families and the levels.
 use mathlib.Core.Path.{_≡_, refl, sym, ap, _∙_}
 use mathlib.Core.Logic.{_≢_}
-use mathlib.Core.Bool.{Bool, true, false, not, cond, _||_, true≢false}
+use mathlib.Core.Bool.{Bool, true, false, _||_, true≢false}
 use Prim.Native.Nat.{ℕ, zero, suc, _+_, _-_, _*_, _%_, _^_, _≤_, _<_, min}
 use native.Mathlib.Nat.{suc-add, zero-add, zero-mul, mul-pos, zero-lt-suc, add-zero, add-suc, le-trans, le-refl}
 use native.Mathlib.Omega.{arith}
 use native.Mathlib.Decide.{decLt}
-use lib.Dec.{T, ltb, ltb→lt, nltb→le}
-use lib.IntN.{ℤ, pos, negsuc, negℤ, natAbs, _+ℤ_, subℕ, +ℤ-assoc, +ℤ-comm, +ℤ-idl, +ℤ-idr, pos-ne-negsuc}
+use lib.IntN.{ℤ, pos, negsuc, negℤ, natAbs, _+ℤ_, +ℤ-assoc, +ℤ-idl, +ℤ-idr, pos-ne-negsuc}
 use lib.Signed.{mag}
 use lib.Pow.{pow-pos, pow-mono}
-use Rattle.reach.proofs.Level.{multiple-down, multiple-add, multiple-diff, multiple-times, add-small, small-add, room, cut-multiple}
 use Rattle.fixed.specs.Cut.{cutLevel}
 use Rattle.fixed.proofs.Clamp.{clamp-same}
 use Rattle.fixed.proofs.Cuts.{cut-rest, rest-small}
 use Rattle.fixed.proofs.Sign.{abs-minus}
 use Rattle.fixed.specs.Fixed.{clampI16, isZero, isOne, signOf, addScaled, subScaled}
 use Rattle.progressive_decoder.specs.Upgrade.{srlCoefficient, srlSign, rawCoefficient}
-use Rattle.reach.specs.Place.{Place, Multiple, Fits, Kept, More, Gains}
-
-abbrev pub own : ℤ → Place
-own z = record { coefficient = z; sign = signOf z }
-
-pub data Family : Type 0 where
-  plus minus : Family
-  floor : ℤ → Family
-
-abbrev pub bottom : Family → Bool
-bottom plus = false
-bottom minus = false
-bottom (floor s) = true
-
-abbrev pub placeAt : Family → ℕ → Place
-placeAt plus m = own (pos m)
-placeAt minus m = own (negℤ (pos m))
-placeAt (floor s) m = record { coefficient = pos m +ℤ negsuc 32767; sign = s }
-
--- levels are below
-abbrev pub top : Family → ℕ
-top plus = 32768
-top minus = 32769
-top (floor s) = 65536
+use Rattle.fitting.specs.Place.{Place, Multiple, Fits}
+use Rattle.fitting.proofs.Level.{multiple-down, multiple-add, multiple-diff, multiple-times, add-small, small-add, room, cut-multiple}
+use Rattle.fitting.proofs.Families.{own, Family, plus, minus, floor, bottom, atLevel, top, sideOf, levelOf, mag-neg, floor-range, more-floor, level-fits, place-path, own-is, floor-is, floor-level, level-below, level-multiple, Levelled, levelled}
+use Rattle.reach.specs.Place.{Kept, More, Gains}
 
 -- ---- integers
 
-sub-case : (P : ℤ → Type 0) (a b : ℕ) → (a < b → P (negsuc (b - suc a))) → (b ≤ a → P (pos (a - b))) → P (subℕ a b)
-sub-case P a b f g = go (ltb a b) (λ t. f (ltb→lt a b t)) (λ t. g (nltb→le a b t))
-  where
-    go : (c : Bool) → (T c → P (negsuc (b - suc a))) → (T (not c) → P (pos (a - b))) → P (cond c (negsuc (b - suc a)) (pos (a - b)))
-    go true f g = f tt
-    go false f g = g tt
-
 clamp-id : (z : ℤ) → mag z < 32768 → clampI16 z ≡ z
 clamp-id z h = sym (clamp-same z h)
-
-mag-neg : (m : ℕ) → m < 32769 → mag (negℤ (pos m)) < 32768
-mag-neg zero h = omega arith
-mag-neg (suc m) h = omega arith
 
 -- away from zero
 down : (a d : ℕ) → negsuc a +ℤ negℤ (pos d) ≡ negℤ (pos (suc a + d))
 down a zero = +ℤ-idr (negsuc a) ∙ ap (λ (x : ℕ). negℤ (pos x)) (sym (add-zero (suc a)))
 down a (suc d) = ap (λ (x : ℕ). negℤ (pos x)) (sym (suc-add a (suc d) ∙ ap suc (add-suc a d)))
 
--- ---- a level fits where its number does
-
-floor-range : (m : ℕ) → m < 65536 → mag (pos m +ℤ negsuc 32767) < 32768
-floor-range m l = sub-case (λ z. mag z < 32768) m 32768 (λ b. omega arith) (λ b. omega arith)
-
-floor-fits : (p m : ℕ) (s : ℤ) → p ≤ 15 → m < 65536 → Multiple (2 ^ p) m → Fits true p (placeAt (floor s) m)
-floor-fits p m s h l k = record {
-  low = h;
-  range = floor-range m l;
-  multiple = sub-case (λ z. Multiple (2 ^ p) (natAbs z)) m 32768
-      (λ b. multiple-diff (suc (32768 - suc m)) (pow-pos p) k all (omega arith))
-      (λ b. multiple-diff (m - 32768) (pow-pos p) all k (omega arith));
-  own = tt;
-}
-  where
-    all : Multiple (2 ^ p) 32768
-    all = multiple-down 32768 h (multiple-times 32768 1)
-
-pub level-fits : (f : Family) (p m : ℕ) → p ≤ 15 → m < top f → Multiple (2 ^ p) m → Fits (bottom f) p (placeAt f m)
-level-fits plus p m h l k = record { low = h; range = l; multiple = k; own = refl }
-level-fits minus p m h l k = record { low = h; range = mag-neg m l; multiple = rw (abs-minus m) k; own = refl }
-level-fits (floor s) p m h l k = floor-fits p m s h l k
-
--- ---- and rises to any greater one
+-- ---- a level rises to any greater one
 
 kept-plus : (a d : ℕ) → Kept false (own (pos a)) (own (pos (a + d)))
 unfolding signOf
@@ -99,46 +42,20 @@ unfolding signOf
 kept-minus zero d = λ f. absurd (f refl)
 kept-minus (suc a) d = λ f. rw (suc-add a d)
 
-more-floor : (a d : ℕ) → pos (a + d) +ℤ negsuc 32767 ≡ (pos a +ℤ negsuc 32767) +ℤ pos d
-more-floor a d = +ℤ-assoc (pos a) (pos d) (negsuc 32767) ∙ ap (λ (z : ℤ). pos a +ℤ z) (+ℤ-comm (pos d) (negsuc 32767)) ∙ sym (+ℤ-assoc (pos a) (negsuc 32767) (pos d))
-
-pub level-gain : (f : Family) (p q a d : ℕ) → q ≤ 15 → d < 2 ^ p → a + d < top f → Multiple (2 ^ q) (a + d) → Gains (bottom f) p q (placeAt f a) (placeAt f (a + d))
+pub level-gain : (f : Family) (p q a d : ℕ) → q ≤ 15 → d < 2 ^ p → a + d < top f → Multiple (2 ^ q) (a + d) → Gains (bottom f) p q (atLevel f a) (atLevel f (a + d))
 level-gain plus p q a d h l t k = record { fits = level-fits plus q (a + d) h t k; kept = kept-plus a d; added = d; more = refl; less = l }
 level-gain minus p q a d h l t k = record { fits = level-fits minus q (a + d) h t k; kept = kept-minus a d; added = d; more = abs-minus (a + d) ∙ ap (λ (x : ℕ). x + d) (sym (abs-minus a)); less = l }
 level-gain (floor s) p q a d h l t k = record { fits = level-fits (floor s) q (a + d) h t k; kept = refl; added = d; more = more-floor a d; less = l }
 
 -- ---- every place that fits is at a level, and what it may become is a greater level of the same family
 
-level : ℤ → ℕ
-level (pos n) = n + 32768
-level (negsuc n) = 32767 - n
-
-level-at : (m : ℕ) → level (pos m +ℤ negsuc 32767) ≡ m
-unfolding level
-level-at m = sub-case (λ z. level z ≡ m) m 32768 (λ b. omega arith) (λ b. omega arith)
-
-level-is : (c : ℤ) → mag c < 32768 → c ≡ pos (level c) +ℤ negsuc 32767
-unfolding level
-level-is (pos n) h = sub-case (λ z. pos n ≡ z) (n + 32768) 32768 (λ b. absurd (omega arith)) (λ b. ap pos (omega arith))
-level-is (negsuc n) h = sub-case (λ z. negsuc n ≡ z) (32767 - n) 32768 (λ b. ap negsuc (omega arith)) (λ b. absurd (omega arith))
-
-level-range : (c : ℤ) → mag c < 32768 → level c < 65536
-unfolding level
-level-range (pos n) h = omega arith
-level-range (negsuc n) h = omega arith
-
-level-multiple : (p : ℕ) (c : ℤ) → p ≤ 15 → mag c < 32768 → Multiple (2 ^ p) (natAbs c) → Multiple (2 ^ p) (level c)
-unfolding level
-level-multiple p (pos n) h l k = multiple-add k (multiple-down 32768 h (multiple-times 32768 1))
-level-multiple p (negsuc n) h l k = multiple-diff (32767 - n) (pow-pos p) k (multiple-down 32768 h (multiple-times 32768 1)) (omega arith)
-
 pub record Rise (b : Bool) (p q : ℕ) (x y : Place) : Type 0 where
   pub family : Family
   pub base : ℕ
   pub up : ℕ
   pub kind : b ≡ bottom family
-  pub from : x ≡ placeAt family base
-  pub to : y ≡ placeAt family (base + up)
+  pub from : x ≡ atLevel family base
+  pub to : y ≡ atLevel family (base + up)
   pub low : p ≤ 15
   pub lower : q ≤ 15
   pub start : Multiple (2 ^ p) base
@@ -149,8 +66,8 @@ pub record Rise (b : Bool) (p q : ℕ) (x y : Place) : Type 0 where
 record Side (c c′ : ℤ) (d : ℕ) : Type 0 where
   family : Family
   kind : false ≡ bottom family
-  from : own c ≡ placeAt family (natAbs c)
-  to : own c′ ≡ placeAt family (natAbs c + d)
+  from : own c ≡ atLevel family (natAbs c)
+  to : own c′ ≡ atLevel family (natAbs c + d)
   below : mag c′ < 32768 → natAbs c + d < top family
 
 side : (c c′ : ℤ) (d : ℕ) → natAbs c′ ≡ natAbs c + d → (signOf c ≢ pos 0 → signOf c′ ≡ signOf c) → Side c c′ d
@@ -162,14 +79,7 @@ side (negsuc n) (pos zero) d e k = absurd (pos-ne-negsuc 0 0 (k (λ f. pos-ne-ne
 side (negsuc n) (pos (suc m)) d e k = absurd (pos-ne-negsuc 1 0 (k (λ f. pos-ne-negsuc 0 0 (sym f))))
 side (negsuc n) (negsuc m) d e k = record { family = minus; kind = refl; from = refl; to = ap (λ (x : ℕ). own (negℤ (pos x))) e; below = λ h. omega arith }
 
-own-is : (x : Place) → x .sign ≡ signOf (x .coefficient) → x ≡ own (x .coefficient)
-own-is x e = λ i. record { coefficient = x .coefficient; sign = e i }
-
-place-path : {x y : Place} → x .coefficient ≡ y .coefficient → x .sign ≡ y .sign → x ≡ y
-place-path e f = λ i. record { coefficient = e i; sign = f i }
-
 pub rise : (b : Bool) (p q : ℕ) {x y : Place} → Fits b p x → Gains b p q x y → Rise b p q x y
-unfolding level
 rise false p q {x} {y} h g = record {
   family = s .family;
   base = natAbs (x .coefficient);
@@ -192,24 +102,24 @@ rise false p q {x} {y} h g = record {
     s = side (x .coefficient) (y .coefficient) (g .added) (g .more) (λ f. sym (g .fits .own) ∙ stays (λ e. f (sym (h .own) ∙ e)) ∙ h .own)
 rise true p q {x} {y} h g = record {
   family = floor (x .sign);
-  base = level (x .coefficient);
+  base = levelOf true (x .coefficient);
   up = g .added;
   kind = refl;
-  from = place-path (level-is (x .coefficient) (h .range)) refl;
+  from = place-path (floor-is (x .coefficient) (h .range)) refl;
   to = place-path here (g .kept);
   low = h .low;
   lower = g .fits .low;
-  start = level-multiple p (x .coefficient) (h .low) (h .range) (h .multiple);
-  last = rw same at (level-multiple q (y .coefficient) (g .fits .low) (g .fits .range) (g .fits .multiple));
+  start = level-multiple true p (x .coefficient) (h .low) (h .range) (h .multiple);
+  last = rw same at (level-multiple true q (y .coefficient) (g .fits .low) (g .fits .range) (g .fits .multiple));
   less = g .less;
-  below = rw same at (level-range (y .coefficient) (g .fits .range));
+  below = rw same at (level-below true y (g .fits .range));
 }
   where
-    here : y .coefficient ≡ pos (level (x .coefficient) + g .added) +ℤ negsuc 32767
-    here = g .more ∙ ap (λ (z : ℤ). z +ℤ pos (g .added)) (level-is (x .coefficient) (h .range)) ∙ sym (more-floor (level (x .coefficient)) (g .added))
+    here : y .coefficient ≡ pos (levelOf true (x .coefficient) + g .added) +ℤ negsuc 32767
+    here = g .more ∙ ap (λ (z : ℤ). z +ℤ pos (g .added)) (floor-is (x .coefficient) (h .range)) ∙ sym (more-floor (levelOf true (x .coefficient)) (g .added))
 
-    same : level (y .coefficient) ≡ level (x .coefficient) + g .added
-    same = ap level here ∙ level-at (level (x .coefficient) + g .added)
+    same : levelOf true (y .coefficient) ≡ levelOf true (x .coefficient) + g .added
+    same = ap (levelOf true) here ∙ floor-level (levelOf true (x .coefficient) + g .added)
 
 -- ---- what a place may become: nothing, one step after another, one step before another
 
@@ -222,7 +132,7 @@ module _ {b : Bool} {p q : ℕ} {x y : Place} (r : Rise b p q x y) where
   up-multiple h = multiple-diff (r .up) (pow-pos q) (multiple-down (r .base) h (r .start)) (r .last) refl
 
 pub gain-same : (b : Bool) (p : ℕ) {x y : Place} → Fits b p x → Gains b p p x y → y ≡ x
-gain-same b p {x} {y} h g = r .to ∙ ap (placeAt (r .family)) none ∙ sym (r .from)
+gain-same b p {x} {y} h g = r .to ∙ ap (atLevel (r .family)) none ∙ sym (r .from)
   where
     r : Rise b p p x y
     r = rise b p p h g
@@ -253,7 +163,7 @@ gain-trans b p q r {x} {y} {z} h f g k = record {
 }
 
 rise-mid : (b : Bool) (p q r : ℕ) (x z : Place) → q ≤ p → Rise b p r x z → (y : Place) × Gains b p q x y × Gains b q r y z
-rise-mid b p q r x z h v = (placeAt (v .family) (v .base + cutLevel q (v .up)), first, second)
+rise-mid b p q r x z h v = (atLevel (v .family) (v .base + cutLevel q (v .up)), first, second)
   where
     d : ℕ
     d = v .up % 2 ^ q
@@ -261,7 +171,7 @@ rise-mid b p q r x z h v = (placeAt (v .family) (v .base + cutLevel q (v .up)), 
     e : v .up ≡ cutLevel q (v .up) + d
     e = cut-rest q (v .up)
 
-    first : Gains b p q x (placeAt (v .family) (v .base + cutLevel q (v .up)))
+    first : Gains b p q x (atLevel (v .family) (v .base + cutLevel q (v .up)))
     first = rw (v .kind, v .from)
         (level-gain (v .family) p q (v .base) (cutLevel q (v .up)) (le-trans h (v .low)) (omega (arith, e, v .less)) (omega (arith, e, v .below))
         (multiple-add (multiple-down (v .base) h (v .start)) (cut-multiple q (v .up))))
@@ -269,7 +179,7 @@ rise-mid b p q r x z h v = (placeAt (v .family) (v .base + cutLevel q (v .up)), 
     same : v .base + v .up ≡ v .base + cutLevel q (v .up) + d
     same = omega (arith, e)
 
-    second : Gains b q r (placeAt (v .family) (v .base + cutLevel q (v .up))) z
+    second : Gains b q r (atLevel (v .family) (v .base + cutLevel q (v .up))) z
     second = rw (v .kind, v .to, same)
         (level-gain (v .family) q r (v .base + cutLevel q (v .up)) d (v .lower) (rest-small q (v .up)) (rw same at (v .below)) (rw same at (v .last)))
 
@@ -295,7 +205,7 @@ rawPlace b q r x = record { coefficient = rawCoefficient (b || isOne (x .sign)) 
 -- ---- raw bits
 
 -- a level that raw bits reach rises by them
-raw-step : (f : Family) (q a r : ℕ) → due (bottom f) (placeAt f a .sign) ≡ false → a + r * 2 ^ q < top f → rawPlace (bottom f) q r (placeAt f a) ≡ placeAt f (a + r * 2 ^ q)
+raw-step : (f : Family) (q a r : ℕ) → due (bottom f) (atLevel f a .sign) ≡ false → a + r * 2 ^ q < top f → rawPlace (bottom f) q r (atLevel f a) ≡ atLevel f (a + r * 2 ^ q)
 unfolding signOf isZero isOne addScaled subScaled
 raw-step plus q zero r e h = absurd (true≢false e)
 raw-step plus q (suc a) r e h = place-path (clamp-id (pos (suc a + r * 2 ^ q)) h) (rw (suc-add a (r * 2 ^ q)))
@@ -305,38 +215,38 @@ raw-step minus q (suc a) r e h =
 raw-step (floor s) q a r e h = place-path (ap clampI16 (sym (more-floor a (r * 2 ^ q))) ∙ clamp-id (pos (a + r * 2 ^ q) +ℤ negsuc 32767) (floor-range (a + r * 2 ^ q) h)) refl
 
 -- −32768 stays
-raw-stuck : (q a r : ℕ) → due false (placeAt minus a .sign) ≡ false → 32768 ≤ a → a < 32769 → rawPlace false q r (placeAt minus a) ≡ placeAt minus a
+raw-stuck : (q a r : ℕ) → due false (atLevel minus a .sign) ≡ false → 32768 ≤ a → a < 32769 → rawPlace false q r (atLevel minus a) ≡ atLevel minus a
 unfolding signOf isZero isOne addScaled subScaled clampI16
 raw-stuck q zero r e h l = absurd (true≢false e)
 raw-stuck q (suc a) r e h l = place-path (ap clampI16 (down a (r * 2 ^ q)) ∙ ap (λ (x : ℕ). clampI16 (negℤ (pos x))) (suc-add a (r * 2 ^ q)) ∙ ap negsuc {x = min (a + r * 2 ^ q) 32767} {y = a} (omega arith)) refl
 
 -- raw bits, at a level
 module _ (p q r : ℕ) (h : q ≤ p) (u : p ≤ 15) (l : r < 2 ^ (p - q)) where
-  raw-rises : (f : Family) (a : ℕ) → due (bottom f) (placeAt f a .sign) ≡ false → a + 2 ^ p ≤ top f → Multiple (2 ^ p) a → Gains (bottom f) p q (placeAt f a) (rawPlace (bottom f) q r (placeAt f a))
+  raw-rises : (f : Family) (a : ℕ) → due (bottom f) (atLevel f a .sign) ≡ false → a + 2 ^ p ≤ top f → Multiple (2 ^ p) a → Gains (bottom f) p q (atLevel f a) (rawPlace (bottom f) q r (atLevel f a))
   raw-rises f a e t m =
       let s : r * 2 ^ q < 2 ^ p = add-small r h l in
       rw (raw-step f q a r e (omega arith))
       (level-gain f p q a (r * 2 ^ q) (omega arith) s (omega arith) (multiple-add (multiple-down a h m) (multiple-times (2 ^ q) r)))
 
-  raw-level : (f : Family) (a : ℕ) → due (bottom f) (placeAt f a .sign) ≡ false → a < top f → Multiple (2 ^ p) a → Gains (bottom f) p q (placeAt f a) (rawPlace (bottom f) q r (placeAt f a))
+  raw-level : (f : Family) (a : ℕ) → due (bottom f) (atLevel f a .sign) ≡ false → a < top f → Multiple (2 ^ p) a → Gains (bottom f) p q (atLevel f a) (rawPlace (bottom f) q r (atLevel f a))
   raw-level plus a e t m = raw-rises plus a e (room {p = 15} u m t) m
   raw-level (floor s) a e t m = raw-rises (floor s) a e (room {p = 16} (omega arith) m t) m
   raw-level minus a e t m = pick (decLt a 32768)
     where
-      stays : 32768 ≤ a → Gains false p q (placeAt minus a) (placeAt minus a)
+      stays : 32768 ≤ a → Gains false p q (atLevel minus a) (atLevel minus a)
       stays b = rw add-zero at (level-gain minus p q a 0 (omega arith) (pow-pos p) (omega arith) (rw (add-zero a) (multiple-down a h m)))
 
-      pick : Dec (a < 32768) → Gains false p q (placeAt minus a) (rawPlace false q r (placeAt minus a))
+      pick : Dec (a < 32768) → Gains false p q (atLevel minus a) (rawPlace false q r (atLevel minus a))
       pick (yes b) = raw-rises minus a e (omega (arith, room {p = 15} u m b)) m
       pick (no b) = rw (raw-stuck q a r e (omega arith) t) (stays (omega arith))
 
 -- raw bits give what a place may become
-raw-rise : (b : Bool) (p q r : ℕ) (x : Place) → q ≤ p → Rise b p p x x → due b (x .sign) ≡ false → r < 2 ^ (p - q) → Gains b p q x (rawPlace b q r x)
-raw-rise b p q r x h v e l = rw (v .kind, v .from)
-    (raw-level p q r h (v .low) l (v .family) (v .base) (rw (v .kind, v .from) at e) (omega (arith, v .below)) (v .start))
+raw-rise : (b : Bool) (p q r : ℕ) (x : Place) → q ≤ p → Levelled b p x → due b (x .sign) ≡ false → r < 2 ^ (p - q) → Gains b p q x (rawPlace b q r x)
+raw-rise b p q r x h v e l = rw (v .kind, v .is)
+    (raw-level p q r h (v .low) l (v .family) (v .level) (rw (v .kind, v .is) at e) (v .below) (v .multiple))
 
 pub raw-sound : (b : Bool) (p q r : ℕ) {x : Place} → q ≤ p → Fits b p x → due b (x .sign) ≡ false → r < 2 ^ (p - q) → Gains b p q x (rawPlace b q r x)
-raw-sound b p q r {x} h f e l = raw-rise b p q r x h (rise b p p f (gain-refl b p f)) e l
+raw-sound b p q r {x} h f e l = raw-rise b p q r x h (levelled b p f) e l
 
 -- and all of it
 rise-raw : (b : Bool) (p q : ℕ) (x y : Place) → q ≤ p → due b (x .sign) ≡ false → (v : Rise b p q x y) → (m : Multiple (2 ^ q) (v .up)) → (r : ℕ) × (r < 2 ^ (p - q)) × (rawPlace b q r x ≡ y)
@@ -361,10 +271,6 @@ due-zero false p x f e = (refl, own-is x (f .own) ∙ ap own (go (x .coefficient
     go (pos (suc n)) e = absurd (true≢false (sym e))
     go (negsuc n) e = absurd (true≢false (sym e))
 
-family-of : ℤ → Family
-family-of (pos n) = plus
-family-of (negsuc n) = minus
-
 sgn-pos : (k : ℕ) → 0 < k → pos 1 ≡ signOf (pos k)
 unfolding signOf
 sgn-pos zero h = absurd (omega arith)
@@ -375,8 +281,8 @@ unfolding signOf
 sgn-neg zero h = absurd (omega arith)
 sgn-neg (suc k) h = refl
 
-srl-step : (q : ℕ) (v : ℤ) → natAbs v * 2 ^ q < 32768 → srlPlace q v (own (pos 0)) ≡ placeAt (family-of v) (natAbs v * 2 ^ q)
-unfolding family-of signOf addScaled subScaled
+srl-step : (q : ℕ) (v : ℤ) → natAbs v * 2 ^ q < 32768 → srlPlace q v (own (pos 0)) ≡ atLevel (sideOf v) (natAbs v * 2 ^ q)
+unfolding signOf addScaled subScaled
 srl-step q (pos zero) h = ap (λ (n : ℕ). own (pos n)) (sym (zero-mul (2 ^ q)))
 srl-step q (pos (suc n)) h =
     place-path (ap (λ (k : ℕ). clampI16 (pos k)) (zero-add (suc n * 2 ^ q)) ∙ clamp-id (pos (suc n * 2 ^ q)) h) (sgn-pos (suc n * 2 ^ q) (mul-pos (zero-lt-suc n) (pow-pos q)))
@@ -384,8 +290,7 @@ srl-step q (negsuc n) h =
     place-path (ap clampI16 (+ℤ-idl (negℤ (pos (suc n * 2 ^ q)))) ∙ clamp-id (negℤ (pos (suc n * 2 ^ q))) (mag-neg (suc n * 2 ^ q) (omega arith)))
     (sgn-neg (suc n * 2 ^ q) (mul-pos (zero-lt-suc n) (pow-pos q)))
 
-side-gain : (v : ℤ) (p q k : ℕ) → q ≤ 15 → k < 2 ^ p → k < 32768 → Multiple (2 ^ q) k → Gains false p q (own (pos 0)) (placeAt (family-of v) k)
-unfolding family-of
+side-gain : (v : ℤ) (p q k : ℕ) → q ≤ 15 → k < 2 ^ p → k < 32768 → Multiple (2 ^ q) k → Gains false p q (own (pos 0)) (atLevel (sideOf v) k)
 side-gain (pos n) p q k h l t m = rw (zero-add k) at (level-gain plus p q 0 k h l (omega arith) (rw (zero-add k) m))
 side-gain (negsuc n) p q k h l t m = rw (zero-add k) at (level-gain minus p q 0 k h l (omega arith) (rw (zero-add k) m))
 
@@ -398,7 +303,6 @@ srl-sound b p q v {x} h f e l =
     (side-gain v p q (natAbs v * 2 ^ q) (omega (arith, f .low)) small range (multiple-times (2 ^ q) (natAbs v)))
 
 srl-value : (q k : ℕ) (c : ℤ) → natAbs c ≡ k * 2 ^ q → natAbs c < 32768 → (v : ℤ) × (natAbs v ≡ k) × (srlPlace q v (own (pos 0)) ≡ own c)
-unfolding family-of
 srl-value q k (pos n) e h = (pos k, refl, srl-step q (pos k) (omega arith) ∙ ap (λ (n : ℕ). own (pos n)) (sym e))
 srl-value q zero (negsuc n) e h = absurd (omega arith)
 srl-value q (suc k) (negsuc n) e h = (negsuc k, refl, srl-step q (negsuc k) (omega arith) ∙ ap (λ (n : ℕ). own (negℤ (pos n))) (sym e))

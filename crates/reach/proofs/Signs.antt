@@ -20,7 +20,8 @@ use Rattle.tile.specs.Tile.{upgraded, upgradeRefusal}
 use Rattle.tile.specs.declared.TileState.{TileState}
 use Rattle.planes.proofs.Joined.{Long, joined-long, parts-long, component-joined}
 use Rattle.components.proofs.Passes.{signs-long}
-use Rattle.reach.specs.Place.{Place, Fits, Gains}
+use Rattle.fitting.specs.Place.{Place, Fits}
+use Rattle.reach.specs.Place.{Gains}
 use Rattle.reach.specs.Reach.{Call, afterCall, after}
 use Rattle.reach.specs.Corollaries.{signAt, NonzeroSignsKept, InWords, OwnSignInWords, FittingPreserved}
 use Rattle.reach.proofs.AnyList.{along}

@@ -11,8 +11,8 @@ use Rattle.bands.specs.Bands.{perPlace, bandsOf, isBottom}
 use Rattle.planes.specs.Planes.{component, joined, three, of}
 use Rattle.tile.specs.Tile.{fresh, loaded, loadRefusal}
 use Rattle.tile.specs.declared.TileState.{TileState}
-use Rattle.reach.specs.Place.{Place, OwnSign}
-use Rattle.reach.specs.Component.{ComponentFits}
+use Rattle.fitting.specs.Place.{Place, OwnSign}
+use Rattle.fitting.specs.Component.{ComponentFits}
 use Rattle.reach.specs.Reach.{TileFits, Pass, Call, after, passesOf, ThreeRows, AllRows, NoRaise, Picture, Reached}
 
 -- ════ fitting lasts ════

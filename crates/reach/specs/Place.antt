@@ -1,36 +1,10 @@
--- One place of a component: when it fits its position, and what it may become from one position to a lower one (docs/SCOPE.md, "What any list of passes can reach").
+-- What a place of a component may become from one position to a lower one (docs/SCOPE.md, "What any list of passes can reach").
 use mathlib.Core.Path.{_≡_}
 use mathlib.Core.Logic.{_≢_}
 use mathlib.Core.Bool.{Bool, true, false}
-use Prim.Native.Nat.{ℕ, _+_, _*_, _^_, _≤_, _<_}
-use lib.IntN.{ℤ, pos, natAbs, _+ℤ_}
-use lib.Signed.{mag}
-use Rattle.fixed.specs.Fixed.{signOf}
-
--- what stands at a place
-pub record Place : Type 0 where
-  pub coefficient : ℤ
-  pub sign : ℤ
-
--- n is a multiple of m
-pub record Multiple (m n : ℕ) : Type 0 where
-  pub times : ℕ
-  pub is : n ≡ times * m
-
--- "outside the bottom every sign is -1, 0 or 1, zero only with coefficient 0, else the coefficient's own sign"; a sign of the bottom may be any
-abbrev pub OwnSign : Bool → Place → Type 0
-OwnSign true x = Unit {0}
-OwnSign false x = x .sign ≡ signOf (x .coefficient)
-
--- a place fits the position p of its band; the bottom is told by the flag
-pub record Fits (bottom : Bool) (p : ℕ) (x : Place) : Type 0 where
-  -- a position is "a whole number from 0 to 15"
-  pub low : p ≤ 15
-  -- a coefficient is "a signed 16-bit number": `mag` is n both for n and for -(n + 1)
-  pub range : mag (x .coefficient) < 32768
-  -- "every coefficient, in the bottom too, is a multiple of 2^(position of its band)"
-  pub multiple : Multiple (2 ^ p) (natAbs (x .coefficient))
-  pub own : OwnSign bottom x
+use Prim.Native.Nat.{ℕ, _+_, _^_, _<_}
+use lib.IntN.{pos, natAbs, _+ℤ_}
+use Rattle.fitting.specs.Place.{Place, Fits}
 
 -- "a nonzero sign stays, and every sign of the bottom"
 abbrev pub Kept : Bool → Place → Place → Type 0

@@ -14,7 +14,8 @@ use Rattle.answer.specs.declared.Answer.{Answer}
 use Rattle.planes.specs.Planes.{component, rowOf, joined, of}
 use Rattle.tile.specs.Tile.{upgradeRefusal, decodeUpgrade}
 use Rattle.tile.specs.declared.TileState.{TileState}
-use Rattle.reach.specs.Component.{ComponentFits, ComponentGains}
+use Rattle.fitting.specs.Component.{ComponentFits}
+use Rattle.reach.specs.Component.{ComponentGains}
 
 -- ════ a tile that fits ════
 

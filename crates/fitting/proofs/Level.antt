@@ -5,7 +5,7 @@ use native.Mathlib.Nat.{mul-assoc, add-mul, mul-le-mul-right, mul-lt-mul-of-pos-
 use native.Mathlib.Omega.{arith}
 use lib.Pow.{pow-pos, pow-add}
 use Rattle.fixed.specs.Cut.{cutLevel}
-use Rattle.reach.specs.Place.{Multiple}
+use Rattle.fitting.specs.Place.{Multiple}
 
 pub pow-split : {p q : ℕ} → q ≤ p → 2 ^ p ≡ 2 ^ (p - q) * 2 ^ q
 pow-split {p} {q} h = ap (λ (n : ℕ). 2 ^ n) (sym (sub-add-cancel h)) ∙ pow-add 2 (p - q) q
