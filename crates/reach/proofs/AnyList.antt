@@ -1,22 +1,22 @@
 -- The theorem, by induction over the list of passes: whatever the streams hold (`always`), and all of it (`whole`).
 use mathlib.Core.Path.{_≡_, refl, sym, ap, _∙_, subst}
-use mathlib.Core.Bool.{Bool, true, false, cond, _&&_}
+use mathlib.Core.Bool.{Bool, true, false, _&&_}
 use mathlib.Core.List.{List, [], _∷_}
 use Prim.Native.Nat.{ℕ, zero, suc}
 use native.Mathlib.Omega.{arith}
 use Rattle.bands.specs.Bands.{bandsOf}
 use Rattle.bands.specs.Positions.{rowInDomain, rowsInDomain}
-use Rattle.answer.specs.Refusals.{answered, unlessRefused}
+use Rattle.answer.specs.Refusals.{outOfDomain, unless, answered, unlessRefused}
 use Rattle.answer.specs.declared.Answer.{Answer}
 use Rattle.planes.specs.Planes.{component, rowOf, joined, of, three}
-use Rattle.tile.specs.Tile.{upgraded, upgradeRefusal}
+use Rattle.tile.specs.Tile.{upgraded, rowsRefusal, upgradeRefusal}
 use Rattle.tile.specs.declared.TileState.{TileState}
 use Rattle.reach.specs.Component.{ComponentGains}
 use Rattle.reach.specs.Reach.{TileFits, Pass, Call, after, answersTo, answersBy, passesOf, ThreeRows, AllRows, lastRows, Lower, NoRaise, lastOf, Picture, picture, TileGains, ThreeStreams, AllStreams, Reached, Exact, ReachablePictures}
 use Rattle.reach.proofs.Tiles.{tile-refl, tile-same, step-fits, step-trans, step-whole, StreamsTo, Halfway, halfway}
 
 -- an accepted pass has its rows in the domain
-accepted-rows : (a b : Bool) → cond {A = ℕ} (a && b) 0 2 ≡ 0 → a ≡ true
+accepted-rows : (a b : Bool) → unless (a && b) outOfDomain ≡ 0 → a ≡ true
 accepted-rows true b e = refl
 accepted-rows false b e = absurd (omega (arith, e))
 
@@ -47,14 +47,14 @@ module _ (k : Call) (ks : List Call) {t : TileState} (f : TileFits t) (w : Three
       record { kind = step-trans f (k .pass) w (l refl) (k .srlData) (k .rawData) (lastOf u (passesOf ks)) (picture (after u ks)) (h .kind); positions = h .positions; fits = h .fits }
   always-step (suc n) d l r = ih t f r
 
-refusal-rows : (positions quants : List ℕ) (o : Pass) → upgradeRefusal positions quants (o .rows) ≡ 0 → rowsInDomain (o .rows) ≡ true
+refusal-rows : (positions quants : List ℕ) (o : Pass) → rowsRefusal positions quants (o .rows) ≡ 0 → rowsInDomain (o .rows) ≡ true
 refusal-rows positions quants o e = accepted-rows (rowsInDomain (o .rows)) (rowInDomain positions && rowInDomain quants) e
 
 always : (ks : List Call) (t : TileState) → TileFits t → AllRows (passesOf ks) → NoRaise (t .«base_quant») (t .«prog_quant») (passesOf ks) → Holds t (lastOf t (passesOf ks)) (after t ks)
 unfolding lastRows NoRaise after
 always [] t f w n = record { kind = tile-refl f; positions = refl; fits = f }
 always (k ∷ ks) t f (AllRows.one w ws) n =
-    always-step k ks f w (λ u g r. always ks u g ws r) (upgradeRefusal (t .«prog_quant») (t .«base_quant») (k .pass .rows))
+    always-step k ks f w (λ u g r. always ks u g ws r) (upgradeRefusal t (k .pass .rows))
     (refusal-rows (t .«prog_quant») (t .«base_quant») (k .pass)) (n .0) (n .1)
 
 -- ════ and all of it ════
@@ -115,10 +115,10 @@ whole : (os : List Pass) (t : TileState) → TileFits t → AllRows os → (x : 
 unfolding lastRows NoRaise after
 whole [] t f w x n g = record { calls = []; streams = AllStreams.none; same = refl; gives = tile-same f x g }
 whole (o ∷ os) t f (AllRows.one w ws) x n g =
-    join (whole-step o os f w x (λ u h r k. whole os u h ws x r k) (upgradeRefusal (t .«prog_quant») (t .«base_quant») (o .rows))
+    join (whole-step o os f w x (λ u h r k. whole os u h ws x r k) (upgradeRefusal t (o .rows))
     (refusal-rows (t .«prog_quant») (t .«base_quant») o) (n .0) (n .1) g)
   where
-    join : First (upgradeRefusal (t .«prog_quant») (t .«base_quant») (o .rows)) t o os x → Reached t (o ∷ os) x
+    join : First (upgradeRefusal t (o .rows)) t o os x → Reached t (o ∷ os) x
     join r = record {
       calls = record { pass = o; srlData = r .srlData; rawData = r .rawData } ∷ r .rest .calls;
       streams = AllStreams.one (r .srl) (r .raw) (r .rest .streams);
@@ -138,7 +138,7 @@ answers : (ks : List Call) (t : TileState) → answersTo t ks ≡ answersBy (t .
 unfolding answersTo answersBy
 answers [] t = refl
 answers (k ∷ ks) t =
-    let n = upgradeRefusal (t .«prog_quant») (t .«base_quant») (k .pass .rows) in
+    let n = upgradeRefusal t (k .pass .rows) in
     ap (λ (l : List Answer). answered n ∷ l) (answers-step n k ks t (answers ks))
 
 -- ════ the theorem ════

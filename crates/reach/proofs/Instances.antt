@@ -12,7 +12,7 @@ use Rattle.bands.specs.Bands.{perPlace, bandsOf, isBottom, positionOf}
 use Rattle.bands.specs.Positions.{every, rowsInDomain}
 use Rattle.bands.proofs.Every.{both-true}
 use Rattle.bands.proofs.Spread.{place-whole, bands-whole, place-map, one-of-ten}
-use Rattle.answer.specs.Refusals.{longEnough}
+use Rattle.answer.specs.Refusals.{sliceTooShort, outOfDomain, unless, firstOf, longEnough}
 use Rattle.planes.specs.Planes.{component, joined, three, of, taken}
 use Rattle.tile.specs.Tile.{fresh, loaded, loadRefusal}
 use Rattle.planes.proofs.Joined.{Long, joined-long, component-joined, row-joined}
@@ -27,10 +27,10 @@ use Rattle.reach.proofs.AnyList.{reachable-pictures}
 
 -- ════ a loaded tile ════
 
-accepted-load : (a b c d : Bool) → cond {A = ℕ} (a && b) (cond (c && d) 0 2) 1 ≡ 0 → (c ≡ true) × (d ≡ true)
+accepted-load : (a b c d : Bool) → firstOf (unless (a && b) sliceTooShort) (unless (c && d) outOfDomain) ≡ 0 → (c ≡ true) × (d ≡ true)
 accepted-load true true c d e = by (c && d) refl e
   where
-    by : (z : Bool) → (c && d) ≡ z → cond {A = ℕ} z 0 2 ≡ 0 → (c ≡ true) × (d ≡ true)
+    by : (z : Bool) → (c && d) ≡ z → unless z outOfDomain ≡ 0 → (c ≡ true) × (d ≡ true)
     by true z e = both-true c d z
     by false z e = absurd (omega (arith, e))
 accepted-load true false c d e = absurd (omega (arith, e))

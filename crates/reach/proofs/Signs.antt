@@ -102,7 +102,7 @@ calls-kept : (ks : List Call) (t : TileState) → length (t .sign) ≡ 12288 →
 unfolding after
 calls-kept [] t h = record { long = h; kept = λ k i p e. refl }
 calls-kept (c ∷ ks) t h =
-    let first : KeptIn t (afterCall t c) = call-kept (upgradeRefusal (t .«prog_quant») (t .«base_quant») (c .pass .rows)) t h c in
+    let first : KeptIn t (afterCall t c) = call-kept (upgradeRefusal t (c .pass .rows)) t h c in
     kept-trans first (calls-kept ks (afterCall t c) (first .long))
 
 -- ════ coefficients of a tile that fits ════

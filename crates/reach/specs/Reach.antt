@@ -12,7 +12,7 @@ use Rattle.bands.specs.Positions.{rowInDomain}
 use Rattle.answer.specs.Refusals.{answered, unlessRefused}
 use Rattle.answer.specs.declared.Answer.{Answer}
 use Rattle.planes.specs.Planes.{component, rowOf, joined, of}
-use Rattle.tile.specs.Tile.{upgradeRefusal, decodeUpgrade}
+use Rattle.tile.specs.Tile.{rowsRefusal, decodeUpgrade}
 use Rattle.tile.specs.declared.TileState.{TileState}
 use Rattle.fitting.specs.Component.{ComponentFits}
 use Rattle.reach.specs.Component.{ComponentGains}
@@ -75,7 +75,7 @@ pub data AllRows : List Pass → Type 0 where
 
 -- the tile's positions after a pass: those given, or if it is refused the former ones
 abbrev pub rowsThen : List ℕ → List ℕ → Pass → List ℕ
-rowsThen quants positions o = unlessRefused (upgradeRefusal positions quants (o .rows)) (joined (of (o .rows))) positions
+rowsThen quants positions o = unlessRefused (rowsRefusal positions quants (o .rows)) (joined (of (o .rows))) positions
 
 -- "those of the last accepted pass, or the starting ones if there is none"
 unfoldable pub lastRows : List ℕ → List ℕ → List Pass → List ℕ
@@ -85,7 +85,7 @@ lastRows quants positions (o ∷ os) = lastRows quants (rowsThen quants position
 -- what each pass answers, by the rows alone
 unfoldable pub answersBy : List ℕ → List ℕ → List Pass → List Answer
 answersBy quants positions [] = []
-answersBy quants positions (o ∷ os) = answered (upgradeRefusal positions quants (o .rows)) ∷ answersBy quants (rowsThen quants positions o) os
+answersBy quants positions (o ∷ os) = answered (rowsRefusal positions quants (o .rows)) ∷ answersBy quants (rowsThen quants positions o) os
 
 -- no position of q is above that of p, "for the same band and component"
 abbrev pub Lower : List ℕ → List ℕ → Type 0
@@ -95,7 +95,7 @@ Lower p q = (j : ℕ) → j < 30 → getD q j 0 ≤ getD p j 0
 unfoldable pub NoRaise : List ℕ → List ℕ → List Pass → Type 0
 NoRaise quants positions [] = Unit {0}
 NoRaise quants positions (o ∷ os) =
-    (upgradeRefusal positions quants (o .rows) ≡ 0 → Lower positions (joined (of (o .rows)))) × NoRaise quants (rowsThen quants positions o) os
+    (rowsRefusal positions quants (o .rows) ≡ 0 → Lower positions (joined (of (o .rows)))) × NoRaise quants (rowsThen quants positions o) os
 
 -- the last positions of a list of passes from a tile on
 abbrev pub lastOf : TileState → List Pass → List ℕ

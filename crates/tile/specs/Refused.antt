@@ -9,11 +9,7 @@ use Rattle.pixels.specs.Pixels.{pixelsRefusal}
 use Rattle.tile.specs.Tile.{fresh, loadRefusal, load, upgradeRefusal, decodeUpgrade, reconstructAnswer, reconstructPixels}
 use Rattle.tile.specs.declared.TileState.{TileState}
 
--- why a pass over the tile is refused
-abbrev pub refusalOf : TileState → List (List ℕ) → ℕ
-refusalOf t rows = upgradeRefusal (t .«prog_quant») (t .«base_quant») rows
-
--- why its pixels are
+-- why a tile's pixels are refused
 abbrev pub pixelsRefusalOf : TileState → List ℕ → ℕ
 pixelsRefusalOf t px = pixelsRefusal (t .«prog_quant») (t .«base_quant») (t .«use_reduce_extrapolate») px
 
@@ -22,7 +18,7 @@ pub record TileRefusals : Type 0 where
   pub load-number : (cs ss : List (List ℤ)) (rows quants : List (List ℕ)) (e : Bool) → numberOf (load cs ss rows quants e .answer) ≡ loadRefusal cs ss rows quants
   -- no tile is handed in
   pub load-fresh : (cs ss : List (List ℤ)) (rows quants : List (List ℕ)) (e : Bool) (k : ℕ) → loadRefusal cs ss rows quants ≡ suc k → load cs ss rows quants e .tile ≡ fresh
-  pub upgrade-number : (t : TileState) (srlData rawData rows : List (List ℕ)) (q : ℕ) → numberOf (decodeUpgrade t srlData rawData rows q .answer) ≡ refusalOf t rows
-  pub upgrade-kept : (t : TileState) (srlData rawData rows : List (List ℕ)) (q k : ℕ) → refusalOf t rows ≡ suc k → decodeUpgrade t srlData rawData rows q .tile ≡ t
+  pub upgrade-number : (t : TileState) (srlData rawData rows : List (List ℕ)) (q : ℕ) → numberOf (decodeUpgrade t srlData rawData rows q .answer) ≡ upgradeRefusal t rows
+  pub upgrade-kept : (t : TileState) (srlData rawData rows : List (List ℕ)) (q k : ℕ) → upgradeRefusal t rows ≡ suc k → decodeUpgrade t srlData rawData rows q .tile ≡ t
   pub pixels-number : (t : TileState) (px : List ℕ) → numberOf (reconstructAnswer t px) ≡ pixelsRefusalOf t px
   pub pixels-kept : (t : TileState) (px : List ℕ) (k : ℕ) → pixelsRefusalOf t px ≡ suc k → reconstructPixels t px ≡ px

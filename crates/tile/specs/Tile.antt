@@ -1,6 +1,6 @@
 -- A tile: made, loaded, upgraded, and its pixels (docs/SCOPE.md, "Tile").
 use mathlib.Core.Path.{_≡_}
-use mathlib.Core.Bool.{Bool, false, cond, _&&_}
+use mathlib.Core.Bool.{Bool, false, _&&_}
 use mathlib.Core.List.{List}
 use Prim.Native.Nat.{ℕ, _+_, min}
 use lib.IntN.{ℤ, pos}
@@ -84,9 +84,13 @@ upgraded t srlData rawData rows q = record {
   «use_reduce_extrapolate» = t .«use_reduce_extrapolate»;
 }
 
--- 2: "a position or quantizer above 15, given or anywhere in the tile handed in"; the tile's arrays are never too short
-abbrev pub upgradeRefusal : List ℕ → List ℕ → List (List ℕ) → ℕ
-upgradeRefusal positions quants rows = cond (rowsInDomain rows && (rowInDomain positions && rowInDomain quants)) 0 2
+-- "a position or quantizer above 15, given or anywhere in the tile handed in": by the tile's positions and quantizers and the rows given
+abbrev pub rowsRefusal : List ℕ → List ℕ → List (List ℕ) → ℕ
+rowsRefusal positions quants rows = unless (rowsInDomain rows && (rowInDomain positions && rowInDomain quants)) outOfDomain
+
+-- of a pass over a tile; its arrays are never too short
+abbrev pub upgradeRefusal : TileState → List (List ℕ) → ℕ
+upgradeRefusal t rows = rowsRefusal (t .«prog_quant») (t .«base_quant») rows
 
 -- the answer by the refusal, and the tile: new, or if refused the old one
 abbrev pub upgradedBy : ℕ → TileState → TileState → Upgraded
@@ -94,8 +98,7 @@ upgradedBy n new old = record { answer = answered n; tile = unlessRefused n new 
 
 -- what `decode_upgrade` answers: "a refusal gives .. the state handed in"
 abbrev pub decodeUpgrade : TileState → List (List ℕ) → List (List ℕ) → List (List ℕ) → ℕ → Upgraded
-decodeUpgrade t srlData rawData rows q =
-    upgradedBy (upgradeRefusal (t .«prog_quant») (t .«base_quant») rows) (upgraded t srlData rawData rows q) t
+decodeUpgrade t srlData rawData rows q = upgradedBy (upgradeRefusal t rows) (upgraded t srlData rawData rows q) t
 
 -- ════ its pixels ════
 

@@ -1,7 +1,8 @@
 -- `tile::refusals` meets its contract. Assumes nothing.
 use Rattle.answer.proofs.Numbers.{number-answered, kept}
 use Rattle.tile.specs.Tile.{fresh, loadRefusal, loaded, upgraded}
-use Rattle.tile.specs.Refused.{refusalOf, pixelsRefusalOf}
+use Rattle.tile.specs.Tile.{upgradeRefusal}
+use Rattle.tile.specs.Refused.{pixelsRefusalOf}
 use Rattle.tile.proofs.refusals.Statement.{statement}
 use Rattle.tile.proofs.refusals.Tie as tie
 
@@ -9,7 +10,7 @@ returns : tie.Need-returns
 returns c = record {
   load-number = λ cs ss rows quants e. number-answered (loadRefusal cs ss rows quants);
   load-fresh = λ cs ss rows quants e k n. kept (loaded cs ss rows quants e) fresh n;
-  upgrade-number = λ t srlData rawData rows q. number-answered (refusalOf t rows);
+  upgrade-number = λ t srlData rawData rows q. number-answered (upgradeRefusal t rows);
   upgrade-kept = λ t srlData rawData rows q k n. kept (upgraded t srlData rawData rows q) t n;
   pixels-number = λ t px. number-answered (pixelsRefusalOf t px);
   pixels-kept = λ t px k n. kept _ px n;
