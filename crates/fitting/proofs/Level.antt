@@ -7,16 +7,20 @@ use lib.Pow.{pow-pos, pow-add}
 use Rattle.fixed.specs.Cut.{cutLevel}
 use Rattle.fitting.specs.Place.{Multiple}
 
+-- a power of two is 2^q so many times
 pub pow-split : {p q : ℕ} → q ≤ p → 2 ^ p ≡ 2 ^ (p - q) * 2 ^ q
 pow-split {p} {q} h = ap (λ (n : ℕ). 2 ^ n) (sym (sub-add-cancel h)) ∙ pow-add 2 (p - q) q
 
+-- a multiple of 2^p is one of every smaller power
 pub multiple-down : {p q : ℕ} (n : ℕ) → q ≤ p → Multiple (2 ^ p) n → Multiple (2 ^ q) n
 multiple-down {p} {q} n h m =
     record { times = m .times * 2 ^ (p - q); is = m .is ∙ ap (λ (x : ℕ). m .times * x) (pow-split h) ∙ sym (mul-assoc (m .times) (2 ^ (p - q)) (2 ^ q)) }
 
+-- r times m is a multiple of m
 pub multiple-times : (m r : ℕ) → Multiple m (r * m)
 multiple-times m r = record { times = r; is = refl }
 
+-- a sum of two multiples is one
 pub multiple-add : {m a b : ℕ} → Multiple m a → Multiple m b → Multiple m (a + b)
 multiple-add {m} {a} {b} k l = record { times = k .times + l .times; is = omega (arith, add-mul (k .times) (l .times) m) }
 
@@ -31,6 +35,7 @@ multiple-diff {m} {a} {b} d hm k l e = record { times = l .times - k .times; is 
 pub add-small : {p q : ℕ} (r : ℕ) → q ≤ p → r < 2 ^ (p - q) → r * 2 ^ q < 2 ^ p
 add-small {p} {q} r h l = rw (pow-split h) (mul-lt-mul-of-pos-right l (pow-pos q))
 
+-- and what stays below 2^p has p - q bits
 pub small-add : {p q : ℕ} (r : ℕ) → q ≤ p → r * 2 ^ q < 2 ^ p → r < 2 ^ (p - q)
 small-add {p} {q} r h l = lt-of-mul-lt-mul-right (2 ^ q) (rw (pow-split h) at l)
 

@@ -24,6 +24,7 @@ use Rattle.fitting.specs.Tested.{FitsTested}
 pub multiple-yes : (p n : ℕ) → n % 2 ^ p ≡ 0 → Multiple (2 ^ p) n
 multiple-yes p n e = record { times = n / 2 ^ p; is = omega (arith, cut-rest p n, e) }
 
+-- and a multiple has no rest
 pub multiple-rest : (p n : ℕ) → Multiple (2 ^ p) n → n % 2 ^ p ≡ 0
 multiple-rest p n m = rw (m .is) (mul-mod-left (m .times) (2 ^ p))
 

@@ -13,18 +13,23 @@ use Rattle.fixed.proofs.Sizes.{add-mag, sub-mag, times-mag, quot-mag}
 pub record Under (N : ℕ) (z : ℤ) : Type 0 where
   pub under : mag z < N
 
+-- what is under a bound is under a larger one
 pub under-more : {M N : ℕ} {z : ℤ} → Under M z → T (leb M N) → Under N z
 under-more {M} {N} u t = record { under = lt-of-lt-of-le (u .under) (leb→le M N t) }
 
+-- a literal that is not negative
 pub under-pos : {N : ℕ} (k : ℕ) → T (ltb k N) → Under N (pos k)
 under-pos {N} k t = record { under = ltb→lt k N t }
 
+-- a negative literal
 pub under-neg : {N : ℕ} (k : ℕ) → T (ltb k N) → Under N (negsuc k)
 under-neg {N} k t = record { under = ltb→lt k N t }
 
+-- a sum
 pub under-add : {N : ℕ} {x y : ℤ} → Under (N / 2) x → Under (N / 2) y → Under N (x +ℤ y)
 under-add {N} {x} {y} p q = record { under = add-mag x y N (p .under) (q .under) }
 
+-- a difference
 pub under-sub : {N : ℕ} {x y : ℤ} → Under (N / 2) x → Under (N / 2) y → Under N (x -ℤ y)
 under-sub {N} {x} {y} p q = record { under = sub-mag x y N (p .under) (q .under) }
 
@@ -32,11 +37,14 @@ under-sub {N} {x} {y} p q = record { under = sub-mag x y N (p .under) (q .under)
 pub under-times : {N : ℕ} {x : ℤ} (k : ℕ) → Under ((N - 1) / k) x → Under N (x *ℤ pos k)
 under-times {N} {x} k p = record { under = times-mag x k N (p .under) }
 
+-- the literal on the left
 pub under-lit-times : {N : ℕ} {x : ℤ} (k : ℕ) → Under ((N - 1) / k) x → Under N (pos k *ℤ x)
 under-lit-times k p = rw *ℤ-comm (under-times k p)
 
+-- a quotient, rounded towards zero
 pub under-quot : {N : ℕ} {x : ℤ} (k : ℕ) → Under N x → Under N (quotZ x (pos k))
 under-quot {N} {x} k p = record { under = lt-of-le-of-lt (quot-mag x k) (p .under) }
 
+-- a shift right
 pub under-shr : {N : ℕ} {x : ℤ} (m : ℕ) → Under N x → Under N (shrZ x m)
 under-shr {N} {x} m p = record { under = lt-of-le-of-lt (mag-shr x m) (p .under) }

@@ -19,6 +19,7 @@ use Rattle.fixed.proofs.Sizes.{subℕ-pos, subℕ-neg}
 pub power-small : {k : ℕ} → k ≤ 15 → 2 ^ k ≤ 32768
 power-small h = pow-mono h
 
+-- 15 places or more: 32768 or more
 pub power-large : {k : ℕ} → 15 ≤ k → 32768 ≤ 2 ^ k
 power-large h = pow-mono h
 
@@ -33,6 +34,7 @@ floor-whole : (v : ℤ) (m : ℕ) → mag v < 32768 → 32768 ≤ m → shrZ v 3
 floor-whole (pos n) m h p = ap pos (div-small n 32768 h ∙ sym (div-small n m (omega arith)))
 floor-whole (negsuc n) m h p = ap negsuc (div-small n 32768 h ∙ sym (div-small n m (omega arith)))
 
+-- 15 places or more leave what 15 leave
 pub floor-far : (v : ℤ) (k : ℕ) → mag v < 32768 → 15 ≤ k → shrZ v 32768 ≡ floorShift v k
 floor-far v k h p = floor-whole v (2 ^ k) h (power-large p)
 
@@ -42,6 +44,7 @@ round-zero (pos n) m h p = ap pos (sym (div-small (n + m / 2) m (omega arith)))
 round-zero (negsuc n) m h p =
     rw (subℕ-pos (m / 2) (suc n) (omega arith)) (ap pos (sym (div-small (m / 2 - suc n) m (omega arith))))
 
+-- more than 15 places leave 0
 pub round-far : (v : ℤ) (k : ℕ) → mag v < 32768 → 15 < k → pos 0 ≡ roundShift v k
 unfolding roundShift
 round-far v k h p = round-zero v (2 ^ k) h (pow-mono p)
@@ -54,6 +57,7 @@ round-mag (negsuc n) m h p = pick (ltb (m / 2) (suc n))
     pick true = div-below (suc n - suc (m / 2)) m 32768 p (omega arith)
     pick false = div-below (m / 2 - suc n) m 32768 p (omega arith)
 
+-- what is rounded fits sixteen bits
 pub round-under : (v : ℤ) (k : ℕ) → mag v < 32768 → Under 32768 (roundShift v k)
 unfolding roundShift
 round-under v k h = record { under = round-mag v (2 ^ k) h (pow-pos k) }
@@ -96,6 +100,7 @@ round-two v m h =
     ∙ half-more (shrZ v m)
     ∙ ap (λ (z : ℤ). shrZ v m -ℤ z) (sym (nested v m)))
 
+-- of a shift by k places: what k - 1 places leave, less what k leave
 pub round-less : (v : ℤ) (k : ℕ) → 0 < k → floorShift v (k - 1) -ℤ floorShift v k ≡ roundShift v k
 unfolding roundShift
 round-less v k h =
@@ -133,6 +138,7 @@ lowered (negsuc n) p m h = ap (λ (x : ℕ). shrZ (negℤ (pos x)) m) (sym (mul-
         let e : suc q * m ≡ suc (q * m + (m - 1)) = omega (arith, suc-mul q m) in
         ap (λ (x : ℕ). shrZ (negℤ (pos x)) m) e ∙ ap negsuc (digits-div q {m = m} {r = m - 1} (omega arith))
 
+-- up to 15 places: what is shifted down from the top of thirty-two bits, clamped
 pub left-is : (v : ℤ) (k : ℕ) → k ≤ 15 → clampI16 (shrZ (v *ℤ pos 65536) (2 ^ (16 - k))) ≡ shiftLeftClamp v k
 unfolding shiftLeftClamp
 left-is v k h =
@@ -161,6 +167,7 @@ left-whole (pos zero) m p = ap (λ (q : ℕ). clampI16 (pos q)) (omega arith)
 left-whole (pos (suc n)) m p = high (suc n * 32768) (omega arith) ∙ sym (high (suc n * m) (grown n p))
 left-whole (negsuc n) m p = low (suc n * 32768) (omega arith) ∙ sym (low (suc n * m) (grown n p))
 
+-- 15 places or more give what 15 give
 pub left-far : (v : ℤ) (k : ℕ) → 15 ≤ k → clampI16 (v *ℤ pos 32768) ≡ shiftLeftClamp v k
 unfolding shiftLeftClamp
 left-far v k p = left-whole v (2 ^ k) (power-large p)

@@ -12,20 +12,24 @@ use Rattle.fixed.specs.Fixed.{isZero, isOne, signOf, withSign}
 use Rattle.fixed.proofs.Machine.{same-bits}
 
 -- ---- tests, at every width: what `v == 0` and `v == 1` say of the bits
+-- bits of 0: the number is 0
 pub zero-yes : (w : Width) (v : ℤ) → SFits w v → SFits w (pos 0) → ofZ w v ≡ 0 → true ≡ isZero v
 unfolding isZero
 zero-yes w v f g e = let s : v ≡ pos 0 = same-bits w v (pos 0) f g e in cc
 
+-- other bits: it is not
 pub zero-no : (w : Width) (v : ℤ) → (ofZ w v ≡ 0 → ⊥) → false ≡ isZero v
 unfolding isZero
 zero-no w (pos zero) f = absurd (f refl)
 zero-no w (pos (suc n)) f = refl
 zero-no w (negsuc n) f = refl
 
+-- bits of 1: the number is 1
 pub one-yes : (w : Width) (v : ℤ) → SFits w v → SFits w (pos 1) → ofZ w v ≡ 1 → true ≡ isOne v
 unfolding isOne
 one-yes w v f g e = let s : v ≡ pos 1 = same-bits w v (pos 1) f g e in cc
 
+-- other bits: it is not
 pub one-no : (w : Width) (v : ℤ) → (ofZ w v ≡ 1 → ⊥) → false ≡ isOne v
 unfolding isOne
 one-no w (pos zero) f = refl
@@ -35,22 +39,26 @@ one-no w (negsuc n) f = refl
 
 -- ---- the sign of a value
 
+-- what the test calls 0 is 0
 pub zero-is : (v : ℤ) → isZero v ≡ true → v ≡ pos 0
 unfolding isZero
 zero-is (pos zero) e = refl
 zero-is (pos (suc n)) e = absurd (true≢false (sym e))
 zero-is (negsuc n) e = absurd (true≢false (sym e))
 
+-- that of 0 is 0
 pub sign-zero : (v : ℤ) → v ≡ pos 0 → pos 0 ≡ signOf v
 unfolding signOf
 sign-zero v e = cc
 
+-- that of a number above 0 is 1
 pub sign-pos : (v : ℤ) → ltZ (pos 0) v ≡ true → pos 1 ≡ signOf v
 unfolding signOf
 sign-pos (pos zero) e = cc
 sign-pos (pos (suc n)) e = refl
 sign-pos (negsuc n) e = cc
 
+-- that of the others is -1
 pub sign-neg : (v : ℤ) → (v ≡ pos 0 → ⊥) → ltZ (pos 0) v ≡ false → negsuc 0 ≡ signOf v
 unfolding signOf
 sign-neg (pos zero) f e = absurd (f refl)
@@ -62,10 +70,12 @@ pub abs-pos : (v : ℤ) → ltZ v (pos 0) ≡ false → v ≡ pos (natAbs v)
 abs-pos (pos n) e = refl
 abs-pos (negsuc n) e = cc
 
+-- of a negative number it is 0 less the number
 pub abs-neg : (v : ℤ) → ltZ v (pos 0) ≡ true → pos 0 -ℤ v ≡ pos (natAbs v)
 abs-neg (pos n) e = absurd (omega (arith, ltb-true))
 abs-neg (negsuc n) e = ap pos (omega arith)
 
+-- the negative of m has the magnitude m
 pub abs-minus : (m : ℕ) → natAbs (negℤ (pos m)) ≡ m
 abs-minus zero = refl
 abs-minus (suc m) = refl
@@ -74,5 +84,6 @@ abs-minus (suc m) = refl
 pub with-minus : (m : ℕ) (b : Bool) → b ≡ true → pos 0 -ℤ pos m ≡ withSign b m
 with-minus m b e = rw e (+ℤ-idl (negℤ (pos m)))
 
+-- without a minus it is the magnitude itself
 pub with-plus : (m : ℕ) (b : Bool) → b ≡ false → pos m ≡ withSign b m
 with-plus m b e = rw e

@@ -24,6 +24,7 @@ shifted b m h e = rw e (pick (ltb (m * 65536) 2147483648) (ltb m 32768) refl ref
     pick false true e f = absurd (omega (arith, ltb-true, ltb-false))
     pick false false e f = ap negsuc (omega arith)
 
+-- shifted up to the top of thirty-two bits and down again, a number keeps its low sixteen, read as signed
 pub wrap-shifts : (v : ℤ) → mag v < 2147483648 → shrZ (toZ w32 (ofZ w32 v * 65536 % 4294967296)) 65536 ≡ wrapI16 v
 unfolding wrapI16 low16
 wrap-shifts (pos n) h = shifted n (n % 65536) (omega arith) (omega arith)

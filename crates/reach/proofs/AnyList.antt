@@ -144,6 +144,7 @@ answers (k ∷ ks) t =
 -- ════ the theorem ════
 
 module _ {t : TileState} (f : TileFits t) {os : List Pass} (w : AllRows os) (n : NoRaise (t .«base_quant») (t .«prog_quant») os) where
+  -- whatever the streams hold, a list of passes of which none raises a position leads to a tile of the kind, at the last positions
   pub along : (ks : List Call) → passesOf ks ≡ os → Holds t (lastOf t os) (after t ks)
   along ks e = subst (λ (os : List Pass). Holds t (lastOf t os) (after t ks)) e
       (always ks t f (subst AllRows (sym e) w) (subst (λ (os : List Pass). NoRaise (t .«base_quant») (t .«prog_quant») os) (sym e) n))
@@ -156,5 +157,6 @@ module _ {t : TileState} (f : TileFits t) {os : List Pass} (w : AllRows os) (n :
     reached = λ x. (λ r. subst (λ (y : Picture). TileGains t (lastOf t os) y) (r .gives) (along (r .calls) (r .same) .kind), whole os t f w x n);
   }
 
+-- the theorem: what a list of passes reaches is exactly what the kind has
 pub reachable-pictures : ReachablePictures
 reachable-pictures = record { exact = λ t f os w n. exact f w n }

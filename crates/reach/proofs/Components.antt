@@ -71,12 +71,15 @@ module _ {bs p : List ℕ} {cs ss : List ℤ} (f : ComponentFits bs p cs ss) whe
   list : FitsRow p bs cs ss
   list = fits-in bs p cs ss f
 
+  -- from its positions to the same a component may stay
   pub component-refl : ComponentGains bs p p cs ss cs ss
   component-refl = record { coefficients = f .coefficients; signs = f .signs; each = λ i h. gain-refl (isBottom (getD bs i 0)) (positionOf p (getD bs i 0)) (f .each i h) }
 
+  -- and cannot change
   pub component-same : {cs′ ss′ : List ℤ} → ComponentGains bs p p cs ss cs′ ss′ → (cs′ ≡ cs) × (ss′ ≡ ss)
   component-same {cs′} {ss′} g = row-same list (gains-in bs p p cs′ ss′ list g)
 
+  -- two gains one after the other are one
   pub component-trans : {q r : List ℕ} {cs′ ss′ cs″ ss″ : List ℤ} → Below p q → ComponentGains bs p q cs ss cs′ ss′ → ComponentGains bs q r cs′ ss′ cs″ ss″
       → ComponentGains bs p r cs ss cs″ ss″
   component-trans {q} {r} l g k = record {
@@ -85,13 +88,16 @@ module _ {bs p : List ℕ} {cs ss : List ℤ} (f : ComponentFits bs p cs ss) whe
     each = λ i h. gain-trans (isBottom (getD bs i 0)) (positionOf p (getD bs i 0)) (positionOf q (getD bs i 0)) (positionOf r (getD bs i 0)) (l (getD bs i 0)) (f .each i h) (g .each i h) (k .each i h);
   }
 
+  -- a pass gives what a component may become, whatever the streams hold
   pub component-sound : {q : List ℕ} → Below p q → (srlData rawData : List ℕ)
       → ComponentGains bs p q cs ss (upgradedCoefficients (map (stepOf p q) bs) srlData rawData cs ss) (upgradedSigns (map (stepOf p q) bs) srlData ss)
   component-sound l srlData rawData = gains-out (pass-sound l list srlData rawData)
 
+  -- and all of it, by some streams
   pub component-whole : {q : List ℕ} {cs′ ss′ : List ℤ} → Below p q → ComponentGains bs p q cs ss cs′ ss′ → Streams p q bs cs ss cs′ ss′
   component-whole {q} {cs′} {ss′} l g = pass-whole l list (gains-in bs p q cs′ ss′ list g)
 
+  -- what it may become goes by way of any positions between
   pub component-mid : {r : List ℕ} {cs″ ss″ : List ℤ} (q : List ℕ) → Below p q → ComponentGains bs p r cs ss cs″ ss″ → Middle bs p q r cs ss cs″ ss″
   component-mid {r} {cs″} {ss″} q l g =
       let m = row-mid q l list (gains-in bs p r cs″ ss″ list g) in

@@ -198,6 +198,7 @@ darker-gained e =
     start c k h =
         component-joined (λ k. take 4096 (of (replicate 3 (replicate 4096 c)) k)) (λ k h. ap length (whole-part c k h) ∙ length-replicate 4096 c) k h ∙ whole-part c k h
 
+-- the tiles and the list of passes, and what they reach
 pub hypotheses-met : HypothesesMet
 unfolding lastRows loaded
 hypotheses-met = record {

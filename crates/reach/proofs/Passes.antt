@@ -47,6 +47,7 @@ pub data GainsRow (p q : List ℕ) : List ℕ → List ℤ → List ℤ → List
 
 -- ════ from a position to itself, and by a position between ════
 
+-- from their positions to the same, places do not change
 pub row-same : {p bs : List ℕ} {cs ss cs′ ss′ : List ℤ} → FitsRow p bs cs ss → GainsRow p p bs cs ss cs′ ss′ → (cs′ ≡ cs) × (ss′ ≡ ss)
 row-same FitsRow.none GainsRow.none = (refl, refl)
 row-same {p} (FitsRow.one {b = b} f fs) (GainsRow.one g gs) =
@@ -61,6 +62,7 @@ pub record Between (p q r bs : List ℕ) (cs ss cs″ ss″ : List ℤ) : Type 0
   pub before : GainsRow p q bs cs ss coefficients signs
   pub behind : GainsRow q r bs coefficients signs cs″ ss″
 
+-- what places may become goes by way of any positions between
 pub row-mid : {p r bs : List ℕ} {cs ss cs″ ss″ : List ℤ} (q : List ℕ) → Below p q → FitsRow p bs cs ss → GainsRow p r bs cs ss cs″ ss″ → Between p q r bs cs ss cs″ ss″
 row-mid q l FitsRow.none GainsRow.none = record { coefficients = []; signs = []; before = GainsRow.none; behind = GainsRow.none }
 row-mid {p} {r} q l (FitsRow.one {b = b} f fs) (GainsRow.one g gs) =

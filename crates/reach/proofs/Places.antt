@@ -42,6 +42,7 @@ unfolding signOf
 kept-minus zero d = λ f. absurd (f refl)
 kept-minus (suc a) d = λ f. rw (suc-add a d)
 
+-- a place may become that of any level of its family that is less than 2^p above its own
 pub level-gain : (f : Family) (p q a d : ℕ) → q ≤ 15 → d < 2 ^ p → a + d < top f → Multiple (2 ^ q) (a + d) → Gains (bottom f) p q (atLevel f a) (atLevel f (a + d))
 level-gain plus p q a d h l t k = record { fits = level-fits plus q (a + d) h t k; kept = kept-plus a d; added = d; more = refl; less = l }
 level-gain minus p q a d h l t k = record { fits = level-fits minus q (a + d) h t k; kept = kept-minus a d; added = d; more = abs-minus (a + d) ∙ ap (λ (x : ℕ). x + d) (sym (abs-minus a)); less = l }
@@ -49,6 +50,7 @@ level-gain (floor s) p q a d h l t k = record { fits = level-fits (floor s) q (a
 
 -- ---- every place that fits is at a level, and what it may become is a greater level of the same family
 
+-- both places by their levels: from base at the position p to base + up at q
 pub record Rise (b : Bool) (p q : ℕ) (x y : Place) : Type 0 where
   pub family : Family
   pub base : ℕ
@@ -79,6 +81,7 @@ side (negsuc n) (pos zero) d e k = absurd (pos-ne-negsuc 0 0 (k (λ f. pos-ne-ne
 side (negsuc n) (pos (suc m)) d e k = absurd (pos-ne-negsuc 1 0 (k (λ f. pos-ne-negsuc 0 0 (sym f))))
 side (negsuc n) (negsuc m) d e k = record { family = minus; kind = refl; from = refl; to = ap (λ (x : ℕ). own (negℤ (pos x))) e; below = λ h. omega arith }
 
+-- what a place that fits may become is a greater level of its family
 pub rise : (b : Bool) (p q : ℕ) {x y : Place} → Fits b p x → Gains b p q x y → Rise b p q x y
 rise false p q {x} {y} h g = record {
   family = s .family;
@@ -123,6 +126,7 @@ rise true p q {x} {y} h g = record {
 
 -- ---- what a place may become: nothing, one step after another, one step before another
 
+-- from a position to the same a place may stay
 pub gain-refl : (b : Bool) (p : ℕ) {x : Place} → Fits b p x → Gains b p p x x
 gain-refl true p {x} h = record { fits = h; kept = refl; added = 0; more = sym (+ℤ-idr (x .coefficient)); less = pow-pos p }
 gain-refl false p h = record { fits = h; kept = λ f. refl; added = 0; more = omega arith; less = pow-pos p }
@@ -131,6 +135,7 @@ module _ {b : Bool} {p q : ℕ} {x y : Place} (r : Rise b p q x y) where
   up-multiple : q ≤ p → Multiple (2 ^ q) (r .up)
   up-multiple h = multiple-diff (r .up) (pow-pos q) (multiple-down (r .base) h (r .start)) (r .last) refl
 
+-- from a position to the same it cannot change
 pub gain-same : (b : Bool) (p : ℕ) {x y : Place} → Fits b p x → Gains b p p x y → y ≡ x
 gain-same b p {x} {y} h g = r .to ∙ ap (atLevel (r .family)) none ∙ sym (r .from)
   where
@@ -153,6 +158,7 @@ unfolding rise
 added-multiple true p q h f g = up-multiple (rise true p q f g) h
 added-multiple false p q h f g = up-multiple (rise false p q f g) h
 
+-- two gains one after the other are one
 pub gain-trans : (b : Bool) (p q r : ℕ) {x y z : Place} → q ≤ p → Fits b p x → Gains b p q x y → Gains b q r y z → Gains b p r x z
 gain-trans b p q r {x} {y} {z} h f g k = record {
   fits = k .fits;
@@ -240,15 +246,16 @@ module _ (p q r : ℕ) (h : q ≤ p) (u : p ≤ 15) (l : r < 2 ^ (p - q)) where
       pick (yes b) = raw-rises minus a e (omega (arith, room {p = 15} u m b)) m
       pick (no b) = rw (raw-stuck q a r e (omega arith) t) (stays (omega arith))
 
--- raw bits give what a place may become
+-- by its level
 raw-rise : (b : Bool) (p q r : ℕ) (x : Place) → q ≤ p → Levelled b p x → due b (x .sign) ≡ false → r < 2 ^ (p - q) → Gains b p q x (rawPlace b q r x)
 raw-rise b p q r x h v e l = rw (v .kind, v .is)
     (raw-level p q r h (v .low) l (v .family) (v .level) (rw (v .kind, v .is) at e) (v .below) (v .multiple))
 
+-- raw bits bring a place that fits to what it may become
 pub raw-sound : (b : Bool) (p q r : ℕ) {x : Place} → q ≤ p → Fits b p x → due b (x .sign) ≡ false → r < 2 ^ (p - q) → Gains b p q x (rawPlace b q r x)
 raw-sound b p q r {x} h f e l = raw-rise b p q r x h (levelled b p f) e l
 
--- and all of it
+-- the bits that bring it to a greater level
 rise-raw : (b : Bool) (p q : ℕ) (x y : Place) → q ≤ p → due b (x .sign) ≡ false → (v : Rise b p q x y) → (m : Multiple (2 ^ q) (v .up)) → (r : ℕ) × (r < 2 ^ (p - q)) × (rawPlace b q r x ≡ y)
 rise-raw b p q x y h e v m = (m .times, small-add (m .times) h (rw (m .is) at (v .less)), same)
   where
@@ -256,6 +263,7 @@ rise-raw b p q x y h e v m = (m .times, small-add (m .times) h (rw (m .is) at (v
     same = rw (v .to, m .is, v .kind, v .from)
         (raw-step (v .family) q (v .base) (m .times) (rw (v .kind, v .from) at e) (rw (m .is) at (v .below)))
 
+-- and to all of it, by some bits
 pub raw-whole : (b : Bool) (p q : ℕ) {x y : Place} → q ≤ p → Fits b p x → due b (x .sign) ≡ false → Gains b p q x y → (r : ℕ) × (r < 2 ^ (p - q)) × (rawPlace b q r x ≡ y)
 raw-whole b p q {x} {y} h f e g = rise-raw b p q x y h e (rise b p q f g) (up-multiple (rise b p q f g) h)
 
@@ -294,7 +302,7 @@ side-gain : (v : ℤ) (p q k : ℕ) → q ≤ 15 → k < 2 ^ p → k < 32768 →
 side-gain (pos n) p q k h l t m = rw (zero-add k) at (level-gain plus p q 0 k h l (omega arith) (rw (zero-add k) m))
 side-gain (negsuc n) p q k h l t m = rw (zero-add k) at (level-gain minus p q 0 k h l (omega arith) (rw (zero-add k) m))
 
--- an SRL value gives what a place may become
+-- an SRL value brings a place that fits to what it may become
 pub srl-sound : (b : Bool) (p q : ℕ) (v : ℤ) {x : Place} → q ≤ p → Fits b p x → due b (x .sign) ≡ true → natAbs v < 2 ^ (p - q) → Gains b p q x (srlPlace q v x)
 srl-sound b p q v {x} h f e l =
     let small : natAbs v * 2 ^ q < 2 ^ p = add-small (natAbs v) h l in
@@ -307,7 +315,7 @@ srl-value q k (pos n) e h = (pos k, refl, srl-step q (pos k) (omega arith) ∙ a
 srl-value q zero (negsuc n) e h = absurd (omega arith)
 srl-value q (suc k) (negsuc n) e h = (negsuc k, refl, srl-step q (negsuc k) (omega arith) ∙ ap (λ (n : ℕ). own (negℤ (pos n))) (sym e))
 
--- and all of it
+-- the value that brings 0 there
 zero-whole : (p q : ℕ) (y : Place) → q ≤ p → p ≤ 15 → Gains false p q (own (pos 0)) y → (v : ℤ) × (natAbs v < 2 ^ (p - q)) × (srlPlace q v (own (pos 0)) ≡ y)
 zero-whole p q y h u g = (w .0, rw (w .1) (small-add (m .times) h (omega (arith, m .is, g .more, g .less))), w .2 ∙ sym (own-is y (g .fits .own)))
   where
@@ -317,5 +325,6 @@ zero-whole p q y h u g = (w .0, rw (w .1) (small-add (m .times) h (omega (arith,
     w : (v : ℤ) × (natAbs v ≡ m .times) × (srlPlace q v (own (pos 0)) ≡ own (y .coefficient))
     w = srl-value q (m .times) (y .coefficient) (m .is) (omega (arith, g .more, g .less, pow-mono {j = 15} u))
 
+-- and to all of it, by some value
 pub srl-whole : (b : Bool) (p q : ℕ) {x y : Place} → q ≤ p → Fits b p x → due b (x .sign) ≡ true → Gains b p q x y → (v : ℤ) × (natAbs v < 2 ^ (p - q)) × (srlPlace q v x ≡ y)
 srl-whole b p q {x} {y} h f e g = rw (due-zero b p x f e .1) (zero-whole p q y h (f .low) (rw (due-zero b p x f e .0, due-zero b p x f e .1) at g))

@@ -111,6 +111,7 @@ own-kept : (b : Bool) {p q : ℕ} {x y : Place} → b ≡ false → Fits b p x �
 own-kept true e f g h = absurd (true≢false e)
 own-kept false e f g h = sym (g .fits .own) ∙ g .kept (λ z. h (sym (f .own) ∙ z)) ∙ f .own
 
+-- passes keep every nonzero sign, and in a tile that fits every coefficient keeps its own
 pub nonzero-signs-kept : NonzeroSignsKept
 nonzero-signs-kept = record {
   signs = λ t h ks. calls-kept ks t h .kept;
@@ -119,6 +120,7 @@ nonzero-signs-kept = record {
       (along f w n ks refl .kind .each k p .each i (omega (arith, l, bands-whole (t .«use_reduce_extrapolate»))));
 }
 
+-- a tile that fits still fits after passes of which none raises a position
 pub fitting-preserved : FittingPreserved
 fitting-preserved = record { preserved = λ t f ks w n. along f w n ks refl .fits }
 
@@ -136,6 +138,7 @@ sign-one-of (pos zero) = inr (inl refl)
 sign-one-of (pos (suc n)) = inr (inr refl)
 sign-one-of (negsuc n) = inl refl
 
+-- a sign is the coefficient's own just where the sentence says so, clause by clause
 pub own-sign-in-words : OwnSignInWords
 unfolding signOf
 own-sign-in-words = record { same = λ x. (there x, λ w. back x w (w .one-of)) }

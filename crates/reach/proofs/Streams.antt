@@ -17,6 +17,7 @@ pub record Stream (s : List ℕ) (n : ℕ) : Type 0 where
   pub bytes : Bytes s
   pub short : length s ≤ 4098 * n + 6
 
+-- the SRL stream of values that are not too large together
 pub srl-stream : (ws : List ℕ) (vs : List ℤ) (n : ℕ) → length vs ≤ n → magnitudes vs ≤ 32768 * n → Stream (srlStream ws vs) n
 srl-stream ws vs n h l = record { bytes = by vs; short = surely ws vs (4098 * n + 6) (omega arith) }
   where
@@ -26,6 +27,7 @@ srl-stream ws vs n h l = record { bytes = by vs; short = surely ws vs (4098 * n 
         let bits = streamBits 8 0 ws (v ∷ vs) in
         bytes-append (pack 0 0 bits) (0 ∷ []) (pack-bytes bits 0 0 (omega arith) (omega arith)) (bytes-cons 0 [] (omega arith) bytes-none)
 
+-- the raw stream of at most fifteen bits a place
 pub raw-stream : (us ms : List ℕ) (n : ℕ) → length (bitsOfAll us ms) ≤ 15 * n → Stream (rawStream us ms) n
 raw-stream us ms n h =
     let bits = bitsOfAll us ms in

@@ -50,6 +50,7 @@ lower-row p q l k h b = by (decLt b 10)
 pub given-row : (rows : List (List ℕ)) → ThreeRows rows → (k : ℕ) → k < 3 → rowOf k (joined (of rows)) ≡ of rows k
 given-row rows h = row-joined (of rows) (h .ten)
 
+-- rows in the domain are so one after another too
 pub rows-in-domain : (rows : List (List ℕ)) → ThreeRows rows → rowsInDomain rows ≡ true → rowInDomain (joined (of rows)) ≡ true
 rows-in-domain rows h d =
     let r : (k : ℕ) → k < 3 → rowInDomain (of rows k) ≡ true = λ k l. at rowInDomain rows k [] d (omega (arith, h .three)) in
@@ -57,6 +58,7 @@ rows-in-domain rows h d =
 
 -- ════ a tile from its positions to the same ones, and by positions between ════
 
+-- from its positions to the same a tile may stay
 pub tile-refl : {t : TileState} → TileFits t → TileGains t (t .«prog_quant») (picture t)
 tile-refl f = record { coefficients = f .coefficients; sign = f .sign; each = λ k h. component-refl (f .each k h) }
 
@@ -71,6 +73,7 @@ by-components f l h e = joined-path f (λ k. component k l) e ∙ joined-compone
 picture-path : {x y : Picture} → x .coefficients ≡ y .coefficients → x .sign ≡ y .sign → x ≡ y
 picture-path e f = λ i. record { coefficients = e i; sign = f i }
 
+-- and cannot change
 pub tile-same : {t : TileState} → TileFits t → (x : Picture) → TileGains t (t .«prog_quant») x → picture t ≡ x
 tile-same {t} f x g = picture-path
     (sym (joined-components (t .coefficients) (f .coefficients)) ∙ by-components (λ k. component k (t .coefficients)) (x .coefficients) (g .coefficients) (λ k h. sym (component-same (f .each k h) (g .each k h) .0)))
