@@ -44,9 +44,9 @@ kept-minus (suc a) d = λ f. rw (suc-add a d)
 
 -- a place may become that of any level of its family that is less than 2^p above its own
 pub level-gain : (f : Family) (p q a d : ℕ) → q ≤ 15 → d < 2 ^ p → a + d < top f → Multiple (2 ^ q) (a + d) → Gains (bottom f) p q (atLevel f a) (atLevel f (a + d))
-level-gain plus p q a d h l t k = record { fits = level-fits plus q (a + d) h t k; kept = kept-plus a d; added = d; more = refl; less = l }
-level-gain minus p q a d h l t k = record { fits = level-fits minus q (a + d) h t k; kept = kept-minus a d; added = d; more = abs-minus (a + d) ∙ ap (λ (x : ℕ). x + d) (sym (abs-minus a)); less = l }
-level-gain (floor s) p q a d h l t k = record { fits = level-fits (floor s) q (a + d) h t k; kept = refl; added = d; more = more-floor a d; less = l }
+level-gain plus p q a d h l t k = record { fits = level-fits plus q (a + d) h t k; kept = kept-plus a d; added = d; more = refl; less = omega arith }
+level-gain minus p q a d h l t k = record { fits = level-fits minus q (a + d) h t k; kept = kept-minus a d; added = d; more = abs-minus (a + d) ∙ ap (λ (x : ℕ). x + d) (sym (abs-minus a)); less = omega arith }
+level-gain (floor s) p q a d h l t k = record { fits = level-fits (floor s) q (a + d) h t k; kept = refl; added = d; more = more-floor a d; less = omega arith }
 
 -- ---- every place that fits is at a level, and what it may become is a greater level of the same family
 
@@ -94,7 +94,7 @@ rise false p q {x} {y} h g = record {
   lower = g .fits .low;
   start = h .multiple;
   last = rw (g .more) at (g .fits .multiple);
-  less = g .less;
+  less = omega (arith, g .less, pow-pos p);
   below = s .below (g .fits .range);
 }
   where
@@ -114,7 +114,7 @@ rise true p q {x} {y} h g = record {
   lower = g .fits .low;
   start = level-multiple true p (x .coefficient) (h .low) (h .range) (h .multiple);
   last = rw same at (level-multiple true q (y .coefficient) (g .fits .low) (g .fits .range) (g .fits .multiple));
-  less = g .less;
+  less = omega (arith, g .less, pow-pos p);
   below = rw same at (level-below true y (g .fits .range));
 }
   where
@@ -128,8 +128,8 @@ rise true p q {x} {y} h g = record {
 
 -- from a position to the same a place may stay
 pub gain-refl : (b : Bool) (p : ℕ) {x : Place} → Fits b p x → Gains b p p x x
-gain-refl true p {x} h = record { fits = h; kept = refl; added = 0; more = sym (+ℤ-idr (x .coefficient)); less = pow-pos p }
-gain-refl false p h = record { fits = h; kept = λ f. refl; added = 0; more = omega arith; less = pow-pos p }
+gain-refl true p {x} h = record { fits = h; kept = refl; added = 0; more = sym (+ℤ-idr (x .coefficient)); less = omega (arith, pow-pos p) }
+gain-refl false p h = record { fits = h; kept = λ f. refl; added = 0; more = omega arith; less = omega (arith, pow-pos p) }
 
 module _ {b : Bool} {p q : ℕ} {x y : Place} (r : Rise b p q x y) where
   up-multiple : q ≤ p → Multiple (2 ^ q) (r .up)
