@@ -11,7 +11,11 @@ pub struct Span {
 
 // The places of the band numbered `b`; past the tenth there are none.
 pub fn band_span(use_reduce_extrapolate: bool, b: usize) -> Span
-    ensures { λ r. ⌜ (r .from ≡ bandAt «use_reduce_extrapolate» b .offset) × (r .to ≡ r .from + countOf (bandAt «use_reduce_extrapolate» b)) × (r .to ≤ 4096) ⌝ }
+    ensures { λ r. ⌜
+        (r .from ≡ bandAt «use_reduce_extrapolate» b .offset)
+        × (r .to ≡ r .from + countOf (bandAt «use_reduce_extrapolate» b))
+        × (r .to ≤ 4096)
+        ⌝ }
 {
     let info = crate::band(use_reduce_extrapolate, b);
     let from = info.offset;
