@@ -11,7 +11,7 @@ use lib.Dec.{eqb}
 use lib.ListN.{length, getD, drop, replicate}
 use lib.Pow.{shl-shr, shr-shr}
 use lib.Seq.{drop-drop, getD-drop}
-use Rattle.bits.specs.Bits.{odd, bitOf, bitAt, num, zeros}
+use Rattle.bits.specs.Bits.{isOdd, bitOf, bitAt, num, zeros}
 use Rattle.bits.specs.Written.{bitsOf, pack}
 use Rattle.bits.proofs.Numbers.{bit-le, odd-bit, num-split, num-none}
 use Rattle.bits.proofs.Puts.{length-bitsOf}
@@ -52,9 +52,9 @@ num-last s n k = ap (num s n) (sym (add-one k)) ∙ num-split s n k 1 ∙ omega 
 pub num-holds : (s : List ℕ) (n k x : ℕ) → x < 2 ^ k → Holds s n (bitsOf k x) → num s n k ≡ x
 num-holds s n zero x j h = num-none s n ∙ omega arith
 num-holds s n (suc k) x j h =
-    let r = holds-append s n (bitsOf k (x / 2)) (odd x ∷ []) h in
+    let r = holds-append s n (bitsOf k (x / 2)) (isOdd x ∷ []) h in
     let v = num-holds s n k (x / 2) (omega (arith, rw (pow-suc 2 k) at j)) (r .0) in
-    let b : bitAt s (n + k) ≡ odd x = subst (λ (i : ℕ). bitAt s (n + i) ≡ odd x) (length-bitsOf k (x / 2)) (r .1 .0) in
+    let b : bitAt s (n + k) ≡ isOdd x = subst (λ (i : ℕ). bitAt s (n + i) ≡ isOdd x) (length-bitsOf k (x / 2)) (r .1 .0) in
     num-last s n k ∙ rw (v, b, odd-bit x) (omega arith)
 
 -- ════ bytes ════
@@ -83,7 +83,7 @@ top (c ∷ bs) cur n b tail h = by (eqb n 7) refl (top bs (cur * 2 + bitOf b) (n
         let g = getD (pack (cur * 2 + bitOf b) (n + 1) (c ∷ bs) ++ tail) 0 0 in
         ap (λ (x : ℕ). g / 2 ^ x) k ∙ sym (shr-shr g (7 - (n + 1)) 1) ∙ ap (λ (x : ℕ). x / 2) (ih (omega arith)) ∙ omega (arith, bit-le c)
 
-bit-odd : (b : Bool) (x : ℕ) → odd (x * 2 + bitOf b) ≡ b
+bit-odd : (b : Bool) (x : ℕ) → isOdd (x * 2 + bitOf b) ≡ b
 bit-odd true x = ap (λ (m : ℕ). eqb m 1) {x = (x * 2 + 1) % 2} {y = 1} (omega arith)
 bit-odd false x = ap (λ (m : ℕ). eqb m 1) {x = (x * 2 + 0) % 2} {y = 0} (omega arith)
 

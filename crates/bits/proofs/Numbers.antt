@@ -9,7 +9,7 @@ use borrow.Author.Tests.{eqb-true, eqb-false}
 use lib.Dec.{eqb}
 use lib.ListN.{length, getD, List·getD-eq-default}
 use lib.Pow.{pow-pos, pow-add, mod-pow-add}
-use Rattle.bits.specs.Bits.{odd, bitOf, bitAt, num}
+use Rattle.bits.specs.Bits.{isOdd, bitOf, bitAt, num}
 
 -- every element is a byte
 abbrev pub Bytes : List ℕ → Type 0
@@ -21,7 +21,7 @@ bit-le true = omega arith
 bit-le false = omega arith
 
 -- the lowest bit as a number
-pub odd-bit : (x : ℕ) → bitOf (odd x) ≡ x % 2
+pub odd-bit : (x : ℕ) → bitOf (isOdd x) ≡ x % 2
 odd-bit x = by (eqb (x % 2) 1) refl
   where
     by : (b : Bool) → eqb (x % 2) 1 ≡ b → bitOf b ≡ x % 2
@@ -31,7 +31,7 @@ odd-bit x = by (eqb (x % 2) 1) refl
 -- past the last byte every bit is 0
 pub bit-past : (s : List ℕ) (n : ℕ) → 8 * length s ≤ n → bitAt s n ≡ false
 bit-past s n h =
-    ap (λ (x : ℕ). odd (x / 2 ^ (7 - n % 8))) (List·getD-eq-default s 0 {n = n / 8} (omega arith)) ∙ ap odd (zero-div (2 ^ (7 - n % 8)))
+    ap (λ (x : ℕ). isOdd (x / 2 ^ (7 - n % 8))) (List·getD-eq-default s 0 {n = n / 8} (omega arith)) ∙ ap isOdd (zero-div (2 ^ (7 - n % 8)))
 
 -- the number of no bits is 0
 pub num-none : (s : List ℕ) (n : ℕ) → num s n 0 ≡ 0
@@ -78,7 +78,7 @@ num-within s b (suc k) h =
   where
     bit : bitOf (bitAt s (8 * b + (8 - suc k))) ≡ getD s b 0 / 2 ^ k % 2
     bit =
-        ap₂ (λ (i j : ℕ). bitOf (odd (getD s i 0 / 2 ^ j))) {x = (8 * b + (8 - suc k)) / 8} {y = b} {u = 7 - (8 * b + (8 - suc k)) % 8} {v = k} (omega arith) (omega arith)
+        ap₂ (λ (i j : ℕ). bitOf (isOdd (getD s i 0 / 2 ^ j))) {x = (8 * b + (8 - suc k)) / 8} {y = b} {u = 7 - (8 * b + (8 - suc k)) % 8} {v = k} (omega arith) (omega arith)
         ∙ odd-bit (getD s b 0 / 2 ^ k)
 
 -- one byte more

@@ -10,8 +10,8 @@ use lib.Dec.{eqb}
 use lib.ListN.{length, set, replicate, length-append, replicate-append-replicate}
 use lib.Pow.{pow-pos, shr-shr, mod-pow-add, high, split}
 use borrow.Author.Tests.{eqb-false, ne-eqb}
-use Rattle.bits.specs.Bits.{odd, bitOf}
-use Rattle.bits.specs.Written.{bitsOf, writer, step, after}
+use Rattle.bits.specs.Bits.{isOdd, bitOf}
+use Rattle.bits.specs.Written.{bitsOf, writer, afterBit, after}
 use Rattle.bits.specs.Inner.{Sound, putBit, write, Wrote}
 use Rattle.bits.specs.declared.writer.BitWriter.{BitWriter}
 use Rattle.bits.proofs.Numbers.{bit-le, odd-bit}
@@ -22,12 +22,12 @@ use Rattle.bits.proofs.Numbers.{bit-le, odd-bit}
 pub byte-fits : (k : BitWriter) (b : Bool) → Sound k → k .current * 2 + bitOf b < 2 ^ (k .«bit_count» + 1)
 byte-fits k b h = rw (add-one (k .«bit_count»), pow-suc 2 (k .«bit_count»)) (omega (arith, bit-le b))
 
--- `step`, by what its test says
+-- `afterBit`, by what its test says
 abbrev stepBy : BitWriter → Bool → Bool → BitWriter
 stepBy k b e = cond e (writer (k .at + 1) 0 0) (writer (k .at) (k .current * 2 + bitOf b) (k .«bit_count» + 1))
 
 -- a bit more leaves fewer than 8 bits waiting, as a number
-pub step-sound : (k : BitWriter) (b : Bool) → Sound k → Sound (step k b)
+pub step-sound : (k : BitWriter) (b : Bool) → Sound k → Sound (afterBit k b)
 step-sound k b h = by (eqb (k .«bit_count») 7) refl
   where
     by : (e : Bool) → eqb (k .«bit_count») 7 ≡ e → Sound (stepBy k b e)
@@ -41,14 +41,14 @@ step-at k b false = (omega arith, omega arith)
 -- some bits leave fewer than 8 bits waiting, as a number
 pub after-sound : (k : BitWriter) (bs : List Bool) → Sound k → Sound (after k bs)
 after-sound k [] h = h
-after-sound k (b ∷ bs) h = after-sound (step k b) bs (step-sound k b h)
+after-sound k (b ∷ bs) h = after-sound (afterBit k b) bs (step-sound k b h)
 
 -- the bytes are counted up, and there are no more of them than bits
 pub after-at : (k : BitWriter) (bs : List Bool) → (k .at ≤ after k bs .at) × (after k bs .at ≤ k .at + length bs)
 after-at k [] = (omega arith, omega arith)
 after-at k (b ∷ bs) =
     let s = step-at k b (eqb (k .«bit_count») 7) in
-    let a = after-at (step k b) bs in
+    let a = after-at (afterBit k b) bs in
     (omega (arith, s .0, a .0), omega (arith, s .1, a .1))
 
 -- ════ bits in a row ════
@@ -56,12 +56,12 @@ after-at k (b ∷ bs) =
 -- the writer after bits in a row
 pub after-append : (k : BitWriter) (a b : List Bool) → after k (a ++ b) ≡ after (after k a) b
 after-append k [] b = refl
-after-append k (x ∷ a) b = after-append (step k x) a b
+after-append k (x ∷ a) b = after-append (afterBit k x) a b
 
 -- the output after bits in a row
 pub write-append : (out : List ℕ) (k : BitWriter) (a b : List Bool) → write out k (a ++ b) ≡ write (write out k a) (after k a) b
 write-append out k [] b = refl
-write-append out k (x ∷ a) b = write-append (putBit out k x) (step k x) a b
+write-append out k (x ∷ a) b = write-append (putBit out k x) (afterBit k x) a b
 
 -- two writes in a row are one write of both
 pub then : (out : List ℕ) (k : BitWriter) (a b : List Bool) {x y : BitWriter} {o p : List ℕ} → Wrote out k a x o → Wrote o x b y p → Wrote out k (a ++ b) y p
@@ -97,8 +97,8 @@ bits-append i zero x =
 bits-append i (suc m) x =
     let e : 1 + m ≡ suc m = omega arith in
     ap (λ j. bitsOf j x) (add-suc i m)
-    ∙ ap (λ l. l ++ (odd x ∷ [])) (bits-append i m (x / 2))
-    ∙ append-assoc (bitsOf i (x / 2 / 2 ^ m)) (bitsOf m (x / 2)) (odd x ∷ [])
+    ∙ ap (λ l. l ++ (isOdd x ∷ [])) (bits-append i m (x / 2))
+    ∙ append-assoc (bitsOf i (x / 2 / 2 ^ m)) (bitsOf m (x / 2)) (isOdd x ∷ [])
     ∙ ap (λ y. bitsOf i y ++ bitsOf (suc m) x) (shr-shr x 1 m ∙ ap (λ j. x / 2 ^ j) e)
 
 -- what stands above them does not matter
@@ -108,8 +108,8 @@ bits-low (suc m) hi lo =
     let p : hi * 2 ^ suc m ≡ hi * 2 ^ m * 2 = ap (λ y. hi * y) (pow-suc 2 m) ∙ sym (mul-assoc hi (2 ^ m) 2) in
     let half : (hi * 2 ^ suc m + lo) / 2 ≡ hi * 2 ^ m + lo / 2 = omega (arith, p) in
     let bit : (hi * 2 ^ suc m + lo) % 2 ≡ lo % 2 = omega (arith, p) in
-    ap (λ y. bitsOf m y ++ (odd (hi * 2 ^ suc m + lo) ∷ [])) half
-    ∙ ap (λ l. l ++ (odd (hi * 2 ^ suc m + lo) ∷ [])) (bits-low m hi (lo / 2))
+    ap (λ y. bitsOf m y ++ (isOdd (hi * 2 ^ suc m + lo) ∷ [])) half
+    ∙ ap (λ l. l ++ (isOdd (hi * 2 ^ suc m + lo) ∷ [])) (bits-low m hi (lo / 2))
     ∙ ap (λ y. bitsOf m (lo / 2) ++ (eqb y 1 ∷ [])) bit
 
 -- two numbers side by side
@@ -133,28 +133,28 @@ bits-zero (suc n) = ap (λ l. l ++ (false ∷ [])) (bits-zero n) ∙ replicate-a
 -- fewer than 8 wait
 pub waits : (out : List ℕ) (at n x : ℕ) → n ≤ 7 → Wrote out (writer at 0 0) (bitsOf n x) (writer at (x % 2 ^ n) n) out
 waits out at zero x h = let z : x % 1 ≡ 0 = omega arith in (ap (λ c. writer at c 0) z, refl)
-waits out at (suc n) x h = then out (writer at 0 0) (bitsOf n (x / 2)) (odd x ∷ []) (waits out at n (x / 2) (omega arith)) last
+waits out at (suc n) x h = then out (writer at 0 0) (bitsOf n (x / 2)) (isOdd x ∷ []) (waits out at n (x / 2) (omega arith)) last
   where
     more : eqb n 7 ≡ false
     more = ne-eqb n 7 (λ e. omega arith)
 
-    grown : x % 2 ^ suc n ≡ x / 2 % 2 ^ n * 2 + bitOf (odd x)
+    grown : x % 2 ^ suc n ≡ x / 2 % 2 ^ n * 2 + bitOf (isOdd x)
     grown =
         let e : suc n ≡ n + 1 = omega arith in
         ap (λ j. x % 2 ^ j) e ∙ mod-pow-add x n 1 ∙ ap (λ b. x / 2 % 2 ^ n * 2 + b) (sym (odd-bit x))
 
-    last : Wrote out (writer at (x / 2 % 2 ^ n) n) (odd x ∷ []) (writer at (x % 2 ^ suc n) (suc n)) out
+    last : Wrote out (writer at (x / 2 % 2 ^ n) n) (isOdd x ∷ []) (writer at (x % 2 ^ suc n) (suc n)) out
     last = (
-      ap (λ c. writer at c (suc n)) grown ∙ ap (writer at (x / 2 % 2 ^ n * 2 + bitOf (odd x))) (sym (add-one n))
-          ∙ ap (λ e. cond e (writer (at + 1) 0 0) (writer at (x / 2 % 2 ^ n * 2 + bitOf (odd x)) (n + 1))) (sym more),
-      ap (λ e. cond e (set out at (x / 2 % 2 ^ n * 2 + bitOf (odd x))) out) (sym more),
+      ap (λ c. writer at c (suc n)) grown ∙ ap (writer at (x / 2 % 2 ^ n * 2 + bitOf (isOdd x))) (sym (add-one n))
+          ∙ ap (λ e. cond e (writer (at + 1) 0 0) (writer at (x / 2 % 2 ^ n * 2 + bitOf (isOdd x)) (n + 1))) (sym more),
+      ap (λ e. cond e (set out at (x / 2 % 2 ^ n * 2 + bitOf (isOdd x))) out) (sym more),
     )
 
 -- 8 make a byte
 pub byte : (out : List ℕ) (at x : ℕ) → Wrote out (writer at 0 0) (bitsOf 8 x) (writer (at + 1) 0 0) (set out at (x % 256))
 byte out at x =
-    let e : x % 256 ≡ x / 2 % 128 * 2 + bitOf (odd x) = omega (arith, odd-bit x) in
-    then out (writer at 0 0) (bitsOf 7 (x / 2)) (odd x ∷ []) (waits out at 7 (x / 2) (omega arith)) (refl, ap (set out at) e)
+    let e : x % 256 ≡ x / 2 % 128 * 2 + bitOf (isOdd x) = omega (arith, odd-bit x) in
+    then out (writer at 0 0) (bitsOf 7 (x / 2)) (isOdd x ∷ []) (waits out at 7 (x / 2) (omega arith)) (refl, ap (set out at) e)
 
 -- a writer is what its waiting bits make
 pub fresh : (out : List ℕ) (k : BitWriter) → Sound k → Wrote out (writer (k .at) 0 0) (bitsOf (k .«bit_count») (k .current)) k out

@@ -8,8 +8,8 @@ use lib.ListN.{length, getD}
 use Rattle.bits.specs.declared.reader.BitReader.{BitReader}
 
 -- a number's lowest bit
-abbrev pub odd : ℕ → Bool
-odd x = eqb (x % 2) 1
+abbrev pub isOdd : ℕ → Bool
+isOdd x = eqb (x % 2) 1
 
 -- a bit as a number
 abbrev pub bitOf : Bool → ℕ
@@ -18,7 +18,7 @@ bitOf false = 0
 
 -- bit n of a stream: in byte n / 8, "highest first"; past the last byte `getD` gives the byte 0, and so the bit is 0
 abbrev pub bitAt : List ℕ → ℕ → Bool
-bitAt s n = odd (getD s (n / 8) 0 / 2 ^ (7 - n % 8))
+bitAt s n = isOdd (getD s (n / 8) 0 / 2 ^ (7 - n % 8))
 
 -- the number that w bits are, from bit n on, highest first
 unfoldable pub num : List ℕ → ℕ → ℕ → ℕ

@@ -8,7 +8,7 @@ use lib.Dec.{eqb}
 use lib.ListN.{set}
 use Rattle.bits.specs.declared.writer.BitWriter.{BitWriter}
 use Rattle.bits.specs.declared.writer.BitCount.{BitCount}
-use Rattle.bits.specs.Written.{step, after}
+use Rattle.bits.specs.Written.{afterBit, after}
 
 -- the top v bits of the word a are the v bits from bit n of the stream on, and its other bits are 0
 pub record Top (v a : ℕ) (s : List ℕ) (n : ℕ) : Type 0 where
@@ -36,7 +36,7 @@ putBit out k b = cond (eqb (k .«bit_count») 7) (set out (k .at) (k .current * 
 -- the output after some bits
 abbrev pub write : List ℕ → BitWriter → List Bool → List ℕ
 write out k [] = out
-write out k (b ∷ bs) = write (putBit out k b) (step k b) bs
+write out k (b ∷ bs) = write (putBit out k b) (afterBit k b) bs
 
 -- bits were written: x is the writer after them, o the output
 abbrev pub Wrote : List ℕ → BitWriter → List Bool → BitWriter → List ℕ → Type 0

@@ -4,13 +4,13 @@ use mathlib.Core.Bool.{Bool, cond}
 use mathlib.Core.List.{List, [], _∷_, _++_}
 use Prim.Native.Nat.{ℕ, zero, suc, _+_, _-_, _*_, _/_, _^_}
 use lib.Dec.{eqb}
-use Rattle.bits.specs.Bits.{odd, bitOf}
+use Rattle.bits.specs.Bits.{isOdd, bitOf}
 use Rattle.bits.specs.declared.writer.BitWriter.{BitWriter}
 
 -- the low k bits of a number, highest first
 abbrev pub bitsOf : ℕ → ℕ → List Bool
 bitsOf zero x = []
-bitsOf (suc k) x = bitsOf k (x / 2) ++ (odd x ∷ [])
+bitsOf (suc k) x = bitsOf k (x / 2) ++ (isOdd x ∷ [])
 
 -- the bits of some numbers, the low w of each, where w is its width
 unfoldable pub bitsOfAll : List ℕ → List ℕ → List Bool
@@ -39,11 +39,11 @@ abbrev pub writer : ℕ → ℕ → ℕ → BitWriter
 writer at current count = record { at = at; current = current; «bit_count» = count }
 
 -- the writer after one bit
-abbrev pub step : BitWriter → Bool → BitWriter
-step k b =
+abbrev pub afterBit : BitWriter → Bool → BitWriter
+afterBit k b =
     cond (eqb (k .«bit_count») 7) (writer (k .at + 1) 0 0) (writer (k .at) (k .current * 2 + bitOf b) (k .«bit_count» + 1))
 
 -- the writer after some bits
 abbrev pub after : BitWriter → List Bool → BitWriter
 after k [] = k
-after k (b ∷ bs) = after (step k b) bs
+after k (b ∷ bs) = after (afterBit k b) bs

@@ -1,5 +1,5 @@
 -- The laws of `color`, for its own proofs.
-mod Halves
+mod HalfWords
 mod Late
 mod Split
 mod Picture

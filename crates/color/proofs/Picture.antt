@@ -13,7 +13,7 @@ use lib.ListN.{length, getD, set, take, drop, length-set, length-append, take-ap
 use lib.Seq.{drop-cons, drop-set-lt, length-take-le, take-at, sets-eq, getD-set-same, getD-set-other}
 use Rattle.fixed.proofs.Clamp.{byte-fits}
 use Rattle.color.specs.Color.{red, green, blue, picture}
-use Rattle.color.specs.Inner.{redGreen, blueFull, fourAt, answer, Room, Written}
+use Rattle.color.specs.Inner.{redGreen, blueFull, fourAt, answer, PixelRoom, PixelsWritten}
 
 red-fits : (y cr : ℤ) → red y cr < 256
 unfolding red
@@ -45,8 +45,8 @@ digits y cb cr v e =
     (omega arith, omega arith, omega arith, omega arith)
 
 -- one pixel more, whose number v is stored
-pub pixel-turn : (y cb cr : List ℤ) (d d′ : List ℕ) (i j v : ℕ) → i < length y → Room y cb cr d → v ≡ redGreen y cb cr i + 65536 * blueFull y cb i → j ≡ i + 1 → d′ ≡ fourAt d (4 * i) v
-    → Written y cb cr d i d′ j
+pub pixel-turn : (y cb cr : List ℤ) (d d′ : List ℕ) (i j v : ℕ) → i < length y → PixelRoom y cb cr d → v ≡ redGreen y cb cr i + 65536 * blueFull y cb i → j ≡ i + 1 → d′ ≡ fourAt d (4 * i) v
+    → PixelsWritten y cb cr d i d′ j
 unfolding picture answer
 pixel-turn y cb cr d d′ i j v h room e more stores =
     let n : ℕ = 4 * length y in
@@ -66,7 +66,7 @@ pixel-turn y cb cr d d′ i j v h room e more stores =
     )
 
 -- then others
-pub written-on : (y cb cr : List ℤ) (d d′ d″ : List ℕ) (i j k : ℕ) → Written y cb cr d i d′ j → Written y cb cr d′ j d″ k → Written y cb cr d i d″ k
+pub written-on : (y cb cr : List ℤ) (d d′ d″ : List ℕ) (i j k : ℕ) → PixelsWritten y cb cr d i d′ j → PixelsWritten y cb cr d′ j d″ k → PixelsWritten y cb cr d i d″ k
 written-on y cb cr d d′ d″ i j k p q = (q .0 ∙ p .0, q .1 ∙ p .1)
 
 -- all left, and none

@@ -27,9 +27,9 @@ unfoldable pub answer : List ℤ → List ℤ → List ℤ → List ℕ → ℕ 
 answer y cb cr d i = take (4 * i) d ++ picture (drop i y) (drop i cb) (drop i cr) ++ drop (4 * length y) d
 
 -- there is a place for each pixel
-abbrev pub Room : List ℤ → List ℤ → List ℤ → List ℕ → Type 0
-Room y cb cr d = (length cb ≡ length y) × (length cr ≡ length y) × (4 * length y ≤ length d)
+abbrev pub PixelRoom : List ℤ → List ℤ → List ℤ → List ℕ → Type 0
+PixelRoom y cb cr d = (length cb ≡ length y) × (length cr ≡ length y) × (4 * length y ≤ length d)
 
 -- d′ is d with the pixels from i to j stored: with the rest of them both will be the same
-abbrev pub Written : List ℤ → List ℤ → List ℤ → List ℕ → ℕ → List ℕ → ℕ → Type 0
-Written y cb cr d i d′ j = (length d′ ≡ length d) × (answer y cb cr d′ j ≡ answer y cb cr d i)
+abbrev pub PixelsWritten : List ℤ → List ℤ → List ℤ → List ℕ → ℕ → List ℕ → ℕ → Type 0
+PixelsWritten y cb cr d i d′ j = (length d′ ≡ length d) × (answer y cb cr d′ j ≡ answer y cb cr d i)

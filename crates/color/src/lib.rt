@@ -6,7 +6,7 @@ ghost use lib.IntN.{pos, _+ℤ_};
 ghost use lib.ListN.{length, getD, drop};
 ghost use Rattle.fixed.specs.Fixed.{clampU8};
 ghost use Rattle.color.specs.Color.{rounded, red, green, blue, rgb, picture};
-ghost use Rattle.color.specs.Inner.{Within, redGreen, blueFull, fourAt, Room, Written};
+ghost use Rattle.color.specs.Inner.{Within, redGreen, blueFull, fourAt, PixelRoom, PixelsWritten};
 
 // Red.
 pub fn red(y: i16, cr: i16) -> u8
@@ -156,8 +156,8 @@ fn put_word(pixels: &mut [u8], o: usize, v: u32)
 
 // 64 pixels from `at` on.
 fn write_64(y: &[i16], cb: &[i16], cr: &[i16], pixels: &mut [u8], at: usize)
-    requires { ⌜ (at + 64 ≤ length (now y)) × Room (now y) (now cb) (now cr) (now pixels) ⌝ }
-    ensures { λ _. ⌜ Written (now (y .entry)) (now (cb .entry)) (now (cr .entry)) (now (pixels .entry)) at (now (pixels .exit)) (at + 64) ⌝ }
+    requires { ⌜ (at + 64 ≤ length (now y)) × PixelRoom (now y) (now cb) (now cr) (now pixels) ⌝ }
+    ensures { λ _. ⌜ PixelsWritten (now (y .entry)) (now (cb .entry)) (now (cr .entry)) (now (pixels .entry)) at (now (pixels .exit)) (at + 64) ⌝ }
 {
     let all = words(y, cb, cr, at);
     let mut i: usize = 0;
@@ -169,8 +169,8 @@ fn write_64(y: &[i16], cb: &[i16], cr: &[i16], pixels: &mut [u8], at: usize)
 
 // One pixel.
 fn write_one(y: &[i16], cb: &[i16], cr: &[i16], pixels: &mut [u8], at: usize)
-    requires { ⌜ (at < length (now y)) × Room (now y) (now cb) (now cr) (now pixels) ⌝ }
-    ensures { λ _. ⌜ Written (now (y .entry)) (now (cb .entry)) (now (cr .entry)) (now (pixels .entry)) at (now (pixels .exit)) (at + 1) ⌝ }
+    requires { ⌜ (at < length (now y)) × PixelRoom (now y) (now cb) (now cr) (now pixels) ⌝ }
+    ensures { λ _. ⌜ PixelsWritten (now (y .entry)) (now (cb .entry)) (now (cr .entry)) (now (pixels .entry)) at (now (pixels .exit)) (at + 1) ⌝ }
 {
     let l = y[at];
     let b = cb[at];

@@ -10,7 +10,7 @@ use lib.IntN.{ℤ, pos}
 use lib.ListN.{length, getD, set, take, drop, length-set, length-append, drop-of-length-le, List·getD-append}
 use lib.Seq.{take-all, length-take-le, paste, paste-zero, paste-suc, length-paste, take-paste, getD-take, set-append-left, take-set-lt, drop-set-lt}
 use Rattle.dwt_lines.specs.Line.{edge, even, odd, half, mean, oddTail}
-use Rattle.dwt_columns.specs.Inner.{zipWith3, pairRows, lastRows, tailRows}
+use Rattle.dwt_columns.specs.Inner.{zipWith3, pairRows, endRows, tailRows}
 use Rattle.dwt_columns.proofs.Places.{zip-length, zip-get, zip3-length, zip3-get}
 
 -- ════ one front ════
@@ -218,8 +218,8 @@ module _ (l h m d₀ : List ℤ) (eh : length h ≡ length l) (em : length m ≡
       ∙ paste-more Q′ (w + w + w) M i z (omega arith) (omega arith) gz
 
   -- after all
-  pub last-done : (d : List ℤ) (i : ℕ) → i ≡ length l → LastDone l h m d₀ i d → d ≡ lastRows l h m (take (length l) d₀)
-  unfolding lastRows
+  pub last-done : (d : List ℤ) (i : ℕ) → i ≡ length l → LastDone l h m d₀ i d → d ≡ endRows l h m (take (length l) d₀)
+  unfolding endRows
   last-done d i e f =
       let w = length l in
       let X = zipWith half l h in

@@ -13,7 +13,7 @@ use Rattle.dwt_lines.specs.Line.{edge, even, odd}
 use Rattle.dwt_lines.specs.Inner.{Halves}
 use Rattle.dwt_lines.proofs.Lines.{even-edge}
 use Rattle.dwt_columns.specs.Columns.{rows}
-use Rattle.dwt_columns.specs.Inner.{zipWith3, fromRows, lineRows, pairRows, lastRows, tailRows, putPart}
+use Rattle.dwt_columns.specs.Inner.{zipWith3, fromRows, lineRows, pairRows, endRows, tailRows, putPart}
 use Rattle.dwt_columns.proofs.Products.{scale}
 use Rattle.dwt_columns.proofs.Put.{part-length, drop-more, put-kept}
 use Rattle.dwt_columns.proofs.Places.{zip3-length}
@@ -27,8 +27,8 @@ module _ (low f g d u : List ℤ) (w l h k i a b e j n : ℕ) (ea : a ≡ w) (eb
   pair-put q = rw (q, ej, ea, eb, ee, part-length low w l nl, take-take w n (drop i d) nw)
 
   -- the last three rows
-  pub last-put : u ≡ lastRows (take a (drop l low)) (take b (drop h f)) (take e (drop k g)) (take (length (take a (drop l low))) (take j (drop i d)))
-      → putPart i j d u ≡ putPart i n d (lastRows (take w (drop l low)) (take w (drop h f)) (take w (drop k g)) (take w (drop i d)))
+  pub last-put : u ≡ endRows (take a (drop l low)) (take b (drop h f)) (take e (drop k g)) (take (length (take a (drop l low))) (take j (drop i d)))
+      → putPart i j d u ≡ putPart i n d (endRows (take w (drop l low)) (take w (drop h f)) (take w (drop k g)) (take w (drop i d)))
   last-put q = rw (q, ej, ea, eb, ee, part-length low w l nl, take-take w n (drop i d) nw)
 
 -- the last row
@@ -119,8 +119,8 @@ module _ (low high d : List ℤ) (w l h i : ℕ) (Y D d₀ hs : List ℤ) (r z n
   cols-one er en e = rw (e, rest (3 * w) en (omega arith), even-same (take w (drop l low)) (take w (drop h high)), p, er, ez) (simp (append-assoc, append-nil))
 
   -- two are left
-  pub cols-two : r ≡ 2 → i + 4 * w ≡ n → D ≡ putPart i (4 * w) d (lastRows (take w (drop l low)) (take w (drop h high)) (take w (drop (l + w) low)) (take w (drop i d))) → D ≡ Y ++ drop n d₀
-  unfolding lastRows fromRows flatten rows
+  pub cols-two : r ≡ 2 → i + 4 * w ≡ n → D ≡ putPart i (4 * w) d (endRows (take w (drop l low)) (take w (drop h high)) (take w (drop (l + w) low)) (take w (drop i d))) → D ≡ Y ++ drop n d₀
+  unfolding endRows fromRows flatten rows
   cols-two er en e = rw (e, rest (4 * w) en (omega arith), p, er, ez, ← drop-drop w l low) (simp (append-assoc, append-nil))
 
 -- ════ the whole ════

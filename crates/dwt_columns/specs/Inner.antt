@@ -31,8 +31,8 @@ unfoldable pub pairRows : List ℤ → List ℤ → List ℤ → List ℤ → Li
 pairRows l h k x = x ++ (zipWith3 odd x (zipWith3 even l h k) h ++ zipWith3 even l h k)
 
 -- the even row x, and the last three, where there are two low rows more than high ones
-unfoldable pub lastRows : List ℤ → List ℤ → List ℤ → List ℤ → List ℤ
-lastRows l h m x = x ++ (zipWith3 odd x (zipWith half l h) h ++ (zipWith half l h ++ zipWith mean (zipWith half l h) m))
+unfoldable pub endRows : List ℤ → List ℤ → List ℤ → List ℤ → List ℤ
+endRows l h m x = x ++ (zipWith3 odd x (zipWith half l h) h ++ (zipWith half l h ++ zipWith mean (zipWith half l h) m))
 
 -- the even row x, and the last one, where there are no more low rows than high ones
 unfoldable pub tailRows : List ℤ → List ℤ → List ℤ

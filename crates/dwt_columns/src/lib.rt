@@ -7,7 +7,7 @@ ghost use lib.ListN.{length, take, drop};
 ghost use Rattle.dwt_lines.specs.Line.{edge};
 ghost use Rattle.dwt_lines.specs.Inner.{Halves};
 ghost use Rattle.dwt_columns.specs.Columns.{rows, down};
-ghost use Rattle.dwt_columns.specs.Inner.{fromRows, lineRows, pairRows, lastRows, tailRows, putPart};
+ghost use Rattle.dwt_columns.specs.Inner.{fromRows, lineRows, pairRows, endRows, tailRows, putPart};
 
 // The first row of all columns.
 fn edge_row(l: &[i16], h: &[i16], d: &mut [i16])
@@ -41,7 +41,7 @@ fn pair_rows(l: &[i16], h: &[i16], k: &[i16], d: &mut [i16])
 fn last_rows(l: &[i16], h: &[i16], m: &[i16], d: &mut [i16])
     requires { ⌜ (length (now h) ≡ length (now l)) × (length (now m) ≡ length (now l)) ⌝ }
     requires { ⌜ length (now d) ≡ 4 * length (now l) ⌝ }
-    ensures { λ _. ⌜ now (d .exit) ≡ lastRows (now (l .entry)) (now (h .entry)) (now (m .entry)) (take (length (now (l .entry))) (now (d .entry))) ⌝ }
+    ensures { λ _. ⌜ now (d .exit) ≡ endRows (now (l .entry)) (now (h .entry)) (now (m .entry)) (take (length (now (l .entry))) (now (d .entry))) ⌝ }
 {
     let w = l.len();
     let mut i: usize = 0;
@@ -104,7 +104,7 @@ fn last_at(
 )
     requires { ⌜ (l + w ≤ length (now low)) × (h + w ≤ length (now high)) × (m + w ≤ length (now low)) × (d + 4 * w ≤ length (now dst)) ⌝ }
     ensures { λ _. ⌜ now (dst .exit) ≡ putPart d (4 * w) (now (dst .entry))
-        (lastRows (take w (drop l (now (low .entry)))) (take w (drop h (now (high .entry))))
+        (endRows (take w (drop l (now (low .entry)))) (take w (drop h (now (high .entry))))
         (take w (drop m (now (low .entry)))) (take w (drop d (now (dst .entry))))) ⌝ }
 {
     last_rows(

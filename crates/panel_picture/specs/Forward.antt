@@ -24,7 +24,7 @@ unfoldable pub lowPast : ℤ → ℤ → ℤ
 lowPast x y = wrapI16 (pos 2 *ℤ y -ℤ x)
 
 -- so many low and high samples make a line of at most 64 places: 33/31, 17/16 and 9/8 do
-pub record Halves (low high : ℕ) : Type 0 where
+pub record ForwardHalves (low high : ℕ) : Type 0 where
   pub some : 1 ≤ high
   pub least : high < low
   pub most : low ≤ high + 2

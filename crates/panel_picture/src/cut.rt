@@ -44,7 +44,7 @@ pub fn cut_component(full: &[i16], positions: [u8; 10], out: &mut [i16], signs: 
     requires { ⌜ (4096 ≤ length (now full)) × (4096 ≤ length (now out)) × (4096 ≤ length (now signs)) ⌝ }
 {
     let mut b: usize = 0;
-    while b < 10 {
+    while b < bands::NUM_BANDS {
         let at = span::band_span(true, b);
         cut_places(full, at.from, at.to, positions[b], out, signs);
         b += 1;

@@ -72,8 +72,8 @@ fn digit(plane: &mut [i16], left: usize, bits: u8, value: i16)
 }
 
 // One component of the panel, with its value on the ground and on the strokes.
-pub fn plane(ground: i16, stroke: i16) -> [i16; 4096] {
-    let mut p = [ground; 4096];
+pub fn plane(ground: i16, stroke: i16) -> [i16; bands::COEFFICIENTS_PER_COMPONENT] {
+    let mut p = [ground; bands::COEFFICIENTS_PER_COMPONENT];
     rectangle(&mut p, MINUS_LEFT, MINUS_TOP, 10, 4, stroke);
     digit(&mut p, 15, 0b0111111, stroke);
     rectangle(&mut p, 29, TOP + 24, 4, 4, stroke);

@@ -4,7 +4,7 @@
 ghost use mathlib.Core.Path.{_≡_};
 ghost use Prim.Native.Nat.{_+_, _*_, _≤_, _<_};
 ghost use lib.ListN.{length};
-ghost use Rattle.panel_picture.specs.Forward.{high, lowEdge, lowBetween, lowHalf, lowPast, Halves};
+ghost use Rattle.panel_picture.specs.Forward.{high, lowEdge, lowBetween, lowHalf, lowPast, ForwardHalves};
 
 // ---- one sample. `/` rounds towards zero, and `fixed::t` keeps the low sixteen bits
 
@@ -47,7 +47,7 @@ fn low_past(x: i16, y: i16) -> i16
 
 // The high samples.
 fn highs(line: &[i16], low: usize, high: usize, out: &mut [i16])
-    requires { ⌜ Halves low high × (length (now line) ≡ 64) × (length (now out) ≡ 64) ⌝ }
+    requires { ⌜ ForwardHalves low high × (length (now line) ≡ 64) × (length (now out) ≡ 64) ⌝ }
 {
     let mut j: usize = 0;
     while j < high {
@@ -58,7 +58,7 @@ fn highs(line: &[i16], low: usize, high: usize, out: &mut [i16])
 
 // The low samples that have a high one on their right.
 fn lows(line: &[i16], low: usize, high: usize, out: &mut [i16])
-    requires { ⌜ Halves low high × (length (now line) ≡ 64) × (length (now out) ≡ 64) ⌝ }
+    requires { ⌜ ForwardHalves low high × (length (now line) ≡ 64) × (length (now out) ≡ 64) ⌝ }
 {
     out[0] = low_edge(line[0], out[low]);
     let mut j: usize = 1;
@@ -70,7 +70,7 @@ fn lows(line: &[i16], low: usize, high: usize, out: &mut [i16])
 
 // The low samples at the line's end: one, or two where the line has 64 places.
 fn low_end(line: &[i16], low: usize, high: usize, out: &mut [i16])
-    requires { ⌜ Halves low high × (length (now line) ≡ 64) × (length (now out) ≡ 64) ⌝ }
+    requires { ⌜ ForwardHalves low high × (length (now line) ≡ 64) × (length (now out) ≡ 64) ⌝ }
 {
     let x = line[2 * high];
     let h = out[low + high - 1];
@@ -83,7 +83,7 @@ fn low_end(line: &[i16], low: usize, high: usize, out: &mut [i16])
 }
 
 fn split(line: &[i16], low: usize, high: usize, out: &mut [i16])
-    requires { ⌜ Halves low high × (length (now line) ≡ 64) × (length (now out) ≡ 64) ⌝ }
+    requires { ⌜ ForwardHalves low high × (length (now line) ≡ 64) × (length (now out) ≡ 64) ⌝ }
 {
     highs(line, low, high, out);
     lows(line, low, high, out);
@@ -133,7 +133,7 @@ fn put_column(line: &[i16], column: usize, count: usize, plane: &mut [i16])
 }
 
 fn split_row(plane: &mut [i16], row: usize, low: usize, high: usize)
-    requires { ⌜ (row < 64) × Halves low high × (length (now plane) ≡ 4096) ⌝ }
+    requires { ⌜ (row < 64) × ForwardHalves low high × (length (now plane) ≡ 4096) ⌝ }
 {
     let mut line = [0i16; 64];
     let mut out = [0i16; 64];
@@ -143,7 +143,7 @@ fn split_row(plane: &mut [i16], row: usize, low: usize, high: usize)
 }
 
 fn split_column(plane: &mut [i16], column: usize, low: usize, high: usize)
-    requires { ⌜ (column < 64) × Halves low high × (length (now plane) ≡ 4096) ⌝ }
+    requires { ⌜ (column < 64) × ForwardHalves low high × (length (now plane) ≡ 4096) ⌝ }
 {
     let mut line = [0i16; 64];
     let mut out = [0i16; 64];
@@ -155,7 +155,7 @@ fn split_column(plane: &mut [i16], column: usize, low: usize, high: usize)
 // ---- a level, and all three
 
 fn split_columns(plane: &mut [i16], low: usize, high: usize)
-    requires { ⌜ Halves low high × (length (now plane) ≡ 4096) ⌝ }
+    requires { ⌜ ForwardHalves low high × (length (now plane) ≡ 4096) ⌝ }
 {
     let mut column: usize = 0;
     while column < low + high {
@@ -165,7 +165,7 @@ fn split_columns(plane: &mut [i16], low: usize, high: usize)
 }
 
 fn split_rows(plane: &mut [i16], low: usize, high: usize)
-    requires { ⌜ Halves low high × (length (now plane) ≡ 4096) ⌝ }
+    requires { ⌜ ForwardHalves low high × (length (now plane) ≡ 4096) ⌝ }
 {
     let mut row: usize = 0;
     while row < low + high {
@@ -235,7 +235,9 @@ fn third_bands(plane: &[i16], out: &mut [i16])
 }
 
 // The coefficients of a component, in band order.
-pub fn coefficients(plane: [i16; 4096]) -> [i16; 4096] {
+pub fn coefficients(
+    plane: [i16; bands::COEFFICIENTS_PER_COMPONENT],
+) -> [i16; bands::COEFFICIENTS_PER_COMPONENT] {
     let mut p = plane;
     split_columns(&mut p, 33, 31);
     split_rows(&mut p, 33, 31);
@@ -243,7 +245,7 @@ pub fn coefficients(plane: [i16; 4096]) -> [i16; 4096] {
     split_rows(&mut p, 17, 16);
     split_columns(&mut p, 9, 8);
     split_rows(&mut p, 9, 8);
-    let mut out = [0i16; 4096];
+    let mut out = [0i16; bands::COEFFICIENTS_PER_COMPONENT];
     first_bands(&p, &mut out);
     second_bands(&p, &mut out);
     third_bands(&p, &mut out);

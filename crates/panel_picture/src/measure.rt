@@ -60,8 +60,8 @@ fn undecided_at(signs: &[i8], rows: [u8; 30], k: usize) -> u64
     requires { ⌜ (k ≤ 2) × (length (now signs) ≡ 12288) ⌝ }
     ensures { λ r. ⌜ r ≤ 36864 ⌝ }
 {
-    let from = 4096 * k;
-    let to = from + 4096;
+    let from = bands::COEFFICIENTS_PER_COMPONENT * k;
+    let to = from + bands::COEFFICIENTS_PER_COMPONENT;
     undecided(&signs[from..to], planes::row_at(rows, 10 * k))
 }
 

@@ -9,7 +9,7 @@ use native.Mathlib.Omega.{arith}
 use lib.Dec.{eqb}
 use lib.ListN.{length, getD, set, take, drop, replicate, length-append, length-drop, length-replicate, length-map, List·getD-map}
 use lib.Seq.{paste, paste-suc, take-paste, length-take-le, take-at, take-take, take-append-seam, take-append-add, drop-append-add, getD-take, getD-drop, getD-at}
-use Rattle.places.specs.Inner.{onesOf, rowOf, rowsFrom, placeRows, Listed}
+use Rattle.places.specs.Inner.{onesOf, onesRow, rowsFrom, placeRows, Listed}
 
 -- at most k of k bits are ones
 pub ones-few : (k m : ℕ) → length (onesOf k m) ≤ k
@@ -27,31 +27,31 @@ ones-few (suc k) m = by (eqb (m % 2) 1) (onesOf k (m / 2)) (ones-few k (m / 2))
 eight : (m : ℕ) → length (take 8 (onesOf 8 m ++ replicate 8 0)) ≡ 8
 eight m = length-take-le 8 (onesOf 8 m ++ replicate 8 0) (omega (arith, length-append (onesOf 8 m) (replicate 8 0), length-replicate {A = ℕ} 8 0))
 
-row-length : (m : ℕ) → length (rowOf m) ≡ 9
+row-length : (m : ℕ) → length (onesRow m) ≡ 9
 row-length m = length-append (take 8 (onesOf 8 m ++ replicate 8 0)) (length (onesOf 8 m) ∷ []) ∙ ap (λ (l : ℕ). l + 1) (eight m)
 
-row-at : (c m n : ℕ) → m < c → take 9 (drop (9 * m) (rowsFrom c n)) ≡ rowOf (n + m)
+row-at : (c m n : ℕ) → m < c → take 9 (drop (9 * m) (rowsFrom c n)) ≡ onesRow (n + m)
 unfolding rowsFrom
 row-at zero m n h = absurd (omega arith)
-row-at (suc c) zero n h = take-at (rowOf n) (rowsFrom c (suc n)) 9 (row-length n) ∙ ap rowOf (sym (add-zero n))
+row-at (suc c) zero n h = take-at (onesRow n) (rowsFrom c (suc n)) 9 (row-length n) ∙ ap onesRow (sym (add-zero n))
 row-at (suc c) (suc m) n h =
-    let e : 9 * suc m ≡ length (rowOf n) + 9 * m = omega (arith, row-length n) in
+    let e : 9 * suc m ≡ length (onesRow n) + 9 * m = omega (arith, row-length n) in
     let s : suc n + m ≡ n + suc m = omega arith in
-    ap (λ (j : ℕ). take 9 (drop j (rowOf n ++ rowsFrom c (suc n)))) e ∙ ap (take 9) (drop-append-add (rowOf n) (rowsFrom c (suc n)) (9 * m)) ∙ row-at c m (suc n) (omega arith) ∙ ap rowOf s
+    ap (λ (j : ℕ). take 9 (drop j (onesRow n ++ rowsFrom c (suc n)))) e ∙ ap (take 9) (drop-append-add (onesRow n) (rowsFrom c (suc n)) (9 * m)) ∙ row-at c m (suc n) (omega arith) ∙ ap onesRow s
 
-row-is : (m : ℕ) → m < 256 → take 9 (drop (9 * m) placeRows) ≡ rowOf m
-row-is m h = row-at 256 m 0 h ∙ ap rowOf (zero-add m)
+row-is : (m : ℕ) → m < 256 → take 9 (drop (9 * m) placeRows) ≡ onesRow m
+row-is m h = row-at 256 m 0 h ∙ ap onesRow (zero-add m)
 
 pub rows-length : length placeRows ≡ 2304
 unfolding rowsFrom onesOf
 rows-length = refl
 
 -- its first eight
-pub row-eight : (m : ℕ) → m < 256 → take 8 (drop (9 * m) placeRows) ≡ take 8 (rowOf m)
+pub row-eight : (m : ℕ) → m < 256 → take 8 (drop (9 * m) placeRows) ≡ take 8 (onesRow m)
 row-eight m h = sym (take-take 8 9 (drop (9 * m) placeRows) (omega arith)) ∙ ap (take 8) (row-is m h)
 
 -- the first of them are the ones
-row-ones : (m : ℕ) → take (length (onesOf 8 m)) (take 8 (rowOf m)) ≡ onesOf 8 m
+row-ones : (m : ℕ) → take (length (onesOf 8 m)) (take 8 (onesRow m)) ≡ onesOf 8 m
 row-ones m =
     ap (take (length (onesOf 8 m))) (take-at (take 8 (onesOf 8 m ++ replicate 8 0)) (length (onesOf 8 m) ∷ []) 8 (eight m))
     ∙ take-take (length (onesOf 8 m)) 8 (onesOf 8 m ++ replicate 8 0) (ones-few 8 m)
@@ -85,26 +85,26 @@ map-take f (suc c) (x ∷ l) = ap (λ (a : List ℕ). f x ∷ a) (map-take f c l
 
 -- the row of m, where the table's numbers from 9 * m on were stored
 pub row-stored : (base m n : ℕ) (start : List ℕ) → m < 256
-    → paste start n (map (λ p. base + p) (drop (9 * m) placeRows)) 8 ≡ paste start n (map (λ p. base + p) (rowOf m)) 8
+    → paste start n (map (λ p. base + p) (drop (9 * m) placeRows)) 8 ≡ paste start n (map (λ p. base + p) (onesRow m)) 8
 row-stored base m n start h =
     ap (λ (a : List ℕ). take n start ++ a ++ drop (n + 8) start)
-    (map-take (λ p. base + p) 8 (drop (9 * m) placeRows) ∙ ap (map (λ p. base + p)) (row-eight m h) ∙ sym (map-take (λ p. base + p) 8 (rowOf m)))
+    (map-take (λ p. base + p) 8 (drop (9 * m) placeRows) ∙ ap (map (λ p. base + p)) (row-eight m h) ∙ sym (map-take (λ p. base + p) 8 (onesRow m)))
 
 -- what is in the list then: what was in, and the ones
 pub listed-ones : (m base n r : ℕ) (start list : List ℕ) → n + 8 ≤ length start → Listed m base n r start list → take r list ≡ take n start ++ map (λ p. base + p) (onesOf 8 m)
 listed-ones m base n r start list h p =
     let c = length (onesOf 8 m) in
     let front = take n start in
-    let eights = map (λ p. base + p) (take 8 (rowOf m)) in
+    let eights = map (λ p. base + p) (take 8 (onesRow m)) in
     let f : length front ≡ n = length-take-le n start (omega arith) in
     let q : n + c ≡ length front + c = omega (arith, f) in
     let whole : take (n + 8) list ≡ front ++ eights =
     ap (take (n + 8)) (p .list)
-    ∙ take-paste start n (map (λ p. base + p) (rowOf m)) 8 (omega arith) (omega (arith, length-map (rowOf m) (λ p. base + p), row-length m))
-    ∙ ap (λ (a : List ℕ). front ++ a) (map-take (λ p. base + p) 8 (rowOf m)) in
+    ∙ take-paste start n (map (λ p. base + p) (onesRow m)) 8 (omega arith) (omega (arith, length-map (onesRow m) (λ p. base + p), row-length m))
+    ∙ ap (λ (a : List ℕ). front ++ a) (map-take (λ p. base + p) 8 (onesRow m)) in
     ap (λ (j : ℕ). take j list) (p .count)
     ∙ sym (take-take (n + c) (n + 8) list (omega (arith, ones-few 8 m)))
     ∙ ap (take (n + c)) whole
     ∙ ap (λ (j : ℕ). take j (front ++ eights)) q
     ∙ take-append-add front eights c
-    ∙ ap (λ (a : List ℕ). front ++ a) (map-take (λ p. base + p) c (take 8 (rowOf m)) ∙ ap (map (λ p. base + p)) (row-ones m))
+    ∙ ap (λ (a : List ℕ). front ++ a) (map-take (λ p. base + p) c (take 8 (onesRow m)) ∙ ap (map (λ p. base + p)) (row-ones m))

@@ -25,13 +25,13 @@ onesOf (suc k) m = cond (eqb (m % 2) 1) (0 ∷ map suc (onesOf k (m / 2))) (map 
 -- ════ the table ════
 
 -- of a byte, with zeros behind them: eight numbers, and then how many ones there are
-abbrev pub rowOf : ℕ → List ℕ
-rowOf m = take 8 (onesOf 8 m ++ replicate 8 0) ++ (length (onesOf 8 m) ∷ [])
+abbrev pub onesRow : ℕ → List ℕ
+onesRow m = take 8 (onesOf 8 m ++ replicate 8 0) ++ (length (onesOf 8 m) ∷ [])
 
 -- the rows of c bytes from m on, one after another
 unfoldable pub rowsFrom : ℕ → ℕ → List ℕ
 rowsFrom zero m = []
-rowsFrom (suc c) m = rowOf m ++ rowsFrom c (suc m)
+rowsFrom (suc c) m = onesRow m ++ rowsFrom c (suc m)
 
 -- of all bytes
 abbrev pub placeRows : List ℕ
@@ -42,4 +42,4 @@ placeRows = rowsFrom 256 0
 -- eight numbers of a byte's row, counted from base on, stand in a list behind the n that were in, and the rest stays; of these the ones count, r are in then
 pub record Listed (m base n r : ℕ) (before after : List ℕ) : Type 0 where
   pub count : r ≡ n + length (onesOf 8 m)
-  pub list : after ≡ paste before n (map (λ p. base + p) (rowOf m)) 8
+  pub list : after ≡ paste before n (map (λ p. base + p) (onesRow m)) 8

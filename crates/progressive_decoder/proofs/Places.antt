@@ -15,7 +15,7 @@ use Rattle.places.proofs.Ones.{places-suc, places-more, mask-not, ones-both}
 use Rattle.places.proofs.Table.{listed-ones}
 use Rattle.upgrade_steps.specs.Steps.{Step}
 use Rattle.upgrade_steps.specs.Inner.{fromSrl}
-use Rattle.progressive_decoder.specs.Inner.{srlPlaces, rawPlaces, Split, Within}
+use Rattle.progressive_decoder.specs.Inner.{srlPlaces, rawPlaces, Split, PlacesWithin}
 
 -- a place stored behind the n that are in counts if it has the property
 stored : (f : ℤ → Bool) (ss : List ℤ) (i n z : ℕ) (l : List ℕ) → i < length ss → n < length l → take n l ≡ placesOf f (take i ss)
@@ -107,7 +107,7 @@ place-within f (x ∷ ss) j h = by (f x) j h (place-within f ss)
 pub split-whole : (t : Step) (ss : List ℤ) (n : ℕ) (zeros others : List ℕ) → Split t ss (length ss) n zeros others → (take n zeros ≡ srlPlaces t ss) × (take (length ss - n) others ≡ rawPlaces t ss)
 split-whole t ss n zeros others p = (p .srl ∙ ap (srlPlaces t) (take-length ss), p .raw ∙ ap (rawPlaces t) (take-length ss))
 
-pub list-within : (f : ℤ → Bool) (ss : List ℤ) (n : ℕ) (l : List ℕ) → n ≤ length l → take n l ≡ placesOf f ss → Within l n (length ss)
+pub list-within : (f : ℤ → Bool) (ss : List ℤ) (n : ℕ) (l : List ℕ) → n ≤ length l → take n l ≡ placesOf f ss → PlacesWithin l n (length ss)
 list-within f ss n l h e j k =
     let m : length (placesOf f ss) ≡ n = ap length (sym e) ∙ length-take-le n l h in
     let same : getD (placesOf f ss) j 0 ≡ getD l j 0 = ap (λ (is : List ℕ). getD is j 0) (sym e) ∙ getD-take n l j 0 k in

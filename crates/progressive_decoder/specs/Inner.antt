@@ -100,8 +100,8 @@ over o srlData rawData t [] w = w
 over o srlData rawData t (i ∷ is) w = over o srlData rawData t is (steppedFrom o srlData rawData t i w)
 
 -- the first n numbers of a list are places of a slice
-abbrev pub Within : List ℕ → ℕ → ℕ → Type 0
-Within list n len = (j : ℕ) → j < n → getD list j 0 < len
+abbrev pub PlacesWithin : List ℕ → ℕ → ℕ → Type 0
+PlacesWithin list n len = (j : ℕ) → j < n → getD list j 0 < len
 
 -- the sign that a nonzero value sets
 abbrev pub signBy : Bool → ℤ

@@ -15,7 +15,7 @@ ghost use Rattle.bands.specs.Positions.{rowInDomain};
 ghost use Rattle.upgrade_steps.specs.Steps.{steps, srl, raw};
 ghost use Rattle.upgrade_steps.specs.Inner.{bandStep};
 ghost use Rattle.progressive_decoder.specs.Upgrade.{adds, rawCoefficient};
-ghost use Rattle.progressive_decoder.specs.Inner.{walked, over, signBy, Within, Early, BandWalked, Upgrades};
+ghost use Rattle.progressive_decoder.specs.Inner.{walked, over, signBy, PlacesWithin, Early, BandWalked, Upgrades};
 
 // A reader for each stream: the SRL decoder's state, and the count of raw bits read.
 pub struct Readers {
@@ -94,7 +94,7 @@ fn raw_list(
         × (from ≤ 2 ^ 60)
         × (n ≤ 1024)
         × (n ≤ length (now list))
-        × Within (now list) n (length (now coefficients))
+        × PlacesWithin (now list) n (length (now coefficients))
         × (length (now sign) ≡ length (now coefficients)) ⌝ }
     ensures { λ r. ⌜ ((s : List ℕ) (q : Reader)
         → over raw s (now («raw_data» .entry)) (bandStep t) (take n (now (list .entry))) (walked (now (coefficients .entry)) (now (sign .entry)) q from)
@@ -180,7 +180,7 @@ fn srl_list(
         × (bitsRead (from .reader) ≤ 2 ^ 41)
         × (n ≤ 1024)
         × (n ≤ length (now list))
-        × Within (now list) n (length (now coefficients))
+        × PlacesWithin (now list) n (length (now coefficients))
         × (length (now sign) ≡ length (now coefficients)) ⌝ }
     ensures { λ r. ⌜
         ((d : List ℕ) (m : ℕ)

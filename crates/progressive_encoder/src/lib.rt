@@ -27,13 +27,13 @@ pub fn encode_upgrade_pass(
     ensures { λ r. ⌜ EncodesPass (now (coefficients .entry)) (now («prev_coefficients» .entry)) prev curr (now (sign .entry))
         «use_reduce_extrapolate» (now («srl_out» .entry)) (now («raw_out» .entry)) r (now («srl_out» .exit)) (now («raw_out» .exit)) ⌝ }
 {
-    if coefficients.len() < 4096 {
+    if coefficients.len() < bands::COEFFICIENTS_PER_COMPONENT {
         return Written::Refused(answer::SLICE_TOO_SHORT);
     }
-    if prev_coefficients.len() < 4096 {
+    if prev_coefficients.len() < bands::COEFFICIENTS_PER_COMPONENT {
         return Written::Refused(answer::SLICE_TOO_SHORT);
     }
-    if sign.len() < 4096 {
+    if sign.len() < bands::COEFFICIENTS_PER_COMPONENT {
         return Written::Refused(answer::SLICE_TOO_SHORT);
     }
     if !upgrade_steps::positions::rows_ok(prev, curr) {

@@ -176,7 +176,7 @@ fn survey_bands(
         bad: false,
     };
     let mut b: usize = 0;
-    while b < 10 {
+    while b < bands::NUM_BANDS {
         let t = upgrade_steps::band_step(b, prev[b], curr[b]);
         let place = bands::span::band_span(use_reduce_extrapolate, b);
         let from = place.from;
@@ -276,7 +276,7 @@ fn measure_bands(
 {
     let mut cur = measured_of(0, 0, 8, 0);
     let mut b: usize = 0;
-    while b < 10 {
+    while b < bands::NUM_BANDS {
         let t = upgrade_steps::band_step(b, prev[b], curr[b]);
         let place = bands::span::band_span(use_reduce_extrapolate, b);
         let from = place.from;
@@ -505,7 +505,7 @@ fn write_bands(
 {
     let mut cur = sinks_of(0, 0, 0, 8, 0, 0, 0, 0);
     let mut b: usize = 0;
-    while b < 10 {
+    while b < bands::NUM_BANDS {
         let t = upgrade_steps::band_step(b, prev[b], curr[b]);
         let place = bands::span::band_span(use_reduce_extrapolate, b);
         let from = place.from;

@@ -12,7 +12,7 @@ use Rattle.planes.specs.Planes.{component, rowOf, joined, of, three}
 use Rattle.tile.specs.Tile.{upgraded, rowsRefusal, upgradeRefusal}
 use Rattle.tile.specs.declared.TileState.{TileState}
 use Rattle.reach.specs.Component.{ComponentGains}
-use Rattle.reach.specs.Reach.{TileFits, Pass, Call, after, answersTo, answersBy, passesOf, ThreeRows, AllRows, lastRows, Lower, NoRaise, lastOf, Picture, picture, TileGains, ThreeStreams, AllStreams, Reached, Exact, ReachablePictures}
+use Rattle.reach.specs.Reach.{TileFits, Pass, Call, afterCalls, answersTo, answersBy, passesOf, ThreeRows, AllRows, lastRows, Lower, NoRaise, lastOf, Picture, pictureOf, TileGains, ThreeStreams, AllStreams, Reached, Exact, ReachablePictures}
 use Rattle.reach.proofs.Tiles.{tile-refl, tile-same, step-fits, step-trans, step-whole, StreamsTo, Halfway, halfway}
 
 -- an accepted pass has its rows in the domain
@@ -31,27 +31,27 @@ positionsBy n t o = unlessRefused n (joined (of (o .rows))) (t .«prog_quant»)
 
 -- the result is of the kind, and it fits
 pub record Holds (t : TileState) (last : List ℕ) (u : TileState) : Type 0 where
-  pub kind : TileGains t last (picture u)
+  pub kind : TileGains t last (pictureOf u)
   pub positions : u .«prog_quant» ≡ last
   pub fits : TileFits u
 
 module _ (k : Call) (ks : List Call) {t : TileState} (f : TileFits t) (w : ThreeRows (k .pass .rows))
-    (ih : (u : TileState) → TileFits u → NoRaise (u .«base_quant») (u .«prog_quant») (passesOf ks) → Holds u (lastOf u (passesOf ks)) (after u ks)) where
+    (ih : (u : TileState) → TileFits u → NoRaise (u .«base_quant») (u .«prog_quant») (passesOf ks) → Holds u (lastOf u (passesOf ks)) (afterCalls u ks)) where
   always-step : (n : ℕ) → (n ≡ 0 → rowsInDomain (k .pass .rows) ≡ true) → (n ≡ 0 → Lower (t .«prog_quant») (joined (of (k .pass .rows))))
       → NoRaise (t .«base_quant») (positionsBy n t (k .pass)) (passesOf ks)
-      → Holds t (lastRows (t .«base_quant») (positionsBy n t (k .pass)) (passesOf ks)) (after (given n t k) ks)
+      → Holds t (lastRows (t .«base_quant») (positionsBy n t (k .pass)) (passesOf ks)) (afterCalls (given n t k) ks)
   unfolding upgraded
   always-step zero d l r =
       let u = given zero t k in
       let h = ih u (step-fits f (k .pass) w (l refl) (d refl) (k .srlData) (k .rawData)) r in
-      record { kind = step-trans f (k .pass) w (l refl) (k .srlData) (k .rawData) (lastOf u (passesOf ks)) (picture (after u ks)) (h .kind); positions = h .positions; fits = h .fits }
+      record { kind = step-trans f (k .pass) w (l refl) (k .srlData) (k .rawData) (lastOf u (passesOf ks)) (pictureOf (afterCalls u ks)) (h .kind); positions = h .positions; fits = h .fits }
   always-step (suc n) d l r = ih t f r
 
 refusal-rows : (positions quants : List ℕ) (o : Pass) → rowsRefusal positions quants (o .rows) ≡ 0 → rowsInDomain (o .rows) ≡ true
 refusal-rows positions quants o e = accepted-rows (rowsInDomain (o .rows)) (rowInDomain positions && rowInDomain quants) e
 
-always : (ks : List Call) (t : TileState) → TileFits t → AllRows (passesOf ks) → NoRaise (t .«base_quant») (t .«prog_quant») (passesOf ks) → Holds t (lastOf t (passesOf ks)) (after t ks)
-unfolding lastRows NoRaise after
+always : (ks : List Call) (t : TileState) → TileFits t → AllRows (passesOf ks) → NoRaise (t .«base_quant») (t .«prog_quant») (passesOf ks) → Holds t (lastOf t (passesOf ks)) (afterCalls t ks)
+unfolding lastRows NoRaise afterCalls
 always [] t f w n = record { kind = tile-refl f; positions = refl; fits = f }
 always (k ∷ ks) t f (AllRows.one w ws) n =
     always-step k ks f w (λ u g r. always ks u g ws r) (upgradeRefusal t (k .pass .rows))
@@ -112,7 +112,7 @@ module _ (o : Pass) (os : List Pass) {t : TileState} (f : TileFits t) (w : Three
       }
 
 whole : (os : List Pass) (t : TileState) → TileFits t → AllRows os → (x : Picture) → NoRaise (t .«base_quant») (t .«prog_quant») os → TileGains t (lastOf t os) x → Reached t os x
-unfolding lastRows NoRaise after
+unfolding lastRows NoRaise afterCalls
 whole [] t f w x n g = record { calls = []; streams = AllStreams.none; same = refl; gives = tile-same f x g }
 whole (o ∷ os) t f (AllRows.one w ws) x n g =
     join (whole-step o os f w x (λ u h r k. whole os u h ws x r k) (upgradeRefusal t (o .rows))
@@ -145,8 +145,8 @@ answers (k ∷ ks) t =
 
 module _ {t : TileState} (f : TileFits t) {os : List Pass} (w : AllRows os) (n : NoRaise (t .«base_quant») (t .«prog_quant») os) where
   -- whatever the streams hold, a list of passes of which none raises a position leads to a tile of the kind, at the last positions
-  pub along : (ks : List Call) → passesOf ks ≡ os → Holds t (lastOf t os) (after t ks)
-  along ks e = subst (λ (os : List Pass). Holds t (lastOf t os) (after t ks)) e
+  pub along : (ks : List Call) → passesOf ks ≡ os → Holds t (lastOf t os) (afterCalls t ks)
+  along ks e = subst (λ (os : List Pass). Holds t (lastOf t os) (afterCalls t ks)) e
       (always ks t f (subst AllRows (sym e) w) (subst (λ (os : List Pass). NoRaise (t .«base_quant») (t .«prog_quant») os) (sym e) n))
 
   exact : Exact t os

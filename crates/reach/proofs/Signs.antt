@@ -22,8 +22,8 @@ use Rattle.planes.proofs.Joined.{Long, joined-long, parts-long, component-joine
 use Rattle.components.proofs.Passes.{signs-long}
 use Rattle.fitting.specs.Place.{Place, Fits}
 use Rattle.reach.specs.Place.{Gains}
-use Rattle.reach.specs.Reach.{Call, afterCall, after}
-use Rattle.reach.specs.Corollaries.{signAt, NonzeroSignsKept, InWords, OwnSignInWords, FittingPreserved}
+use Rattle.reach.specs.Reach.{Call, afterCall, afterCalls}
+use Rattle.reach.specs.Corollaries.{tileSign, NonzeroSignsKept, InWords, OwnSignInWords, FittingPreserved}
 use Rattle.reach.proofs.AnyList.{along}
 
 -- ════ a pass over places ════
@@ -69,7 +69,7 @@ all-kept (t ∷ ts) (s ∷ ss) vs i = place-kept (source t s) s ss vs (signsAfte
 -- as many signs as before, and no nonzero one lost
 record KeptIn (t u : TileState) : Type 0 where
   long : length (u .sign) ≡ 12288
-  kept : (k i : ℕ) → k < 3 → signAt t k i ≢ pos 0 → signAt u k i ≡ signAt t k i
+  kept : (k i : ℕ) → k < 3 → tileSign t k i ≢ pos 0 → tileSign u k i ≡ tileSign t k i
 
 upgraded-kept : (t : TileState) → length (t .sign) ≡ 12288 → (srlData rawData rows : List (List ℕ)) (q : ℕ) → KeptIn t (upgraded t srlData rawData rows q)
 unfolding upgraded passSigns KeptAt
@@ -98,8 +98,8 @@ call-kept (suc n) t h c = record { long = h; kept = λ k i p e. refl }
 kept-trans : {t u v : TileState} → KeptIn t u → KeptIn u v → KeptIn t v
 kept-trans a b = record { long = b .long; kept = λ k i p e. b .kept k i p (λ z. e (sym (a .kept k i p e) ∙ z)) ∙ a .kept k i p e }
 
-calls-kept : (ks : List Call) (t : TileState) → length (t .sign) ≡ 12288 → KeptIn t (after t ks)
-unfolding after
+calls-kept : (ks : List Call) (t : TileState) → length (t .sign) ≡ 12288 → KeptIn t (afterCalls t ks)
+unfolding afterCalls
 calls-kept [] t h = record { long = h; kept = λ k i p e. refl }
 calls-kept (c ∷ ks) t h =
     let first : KeptIn t (afterCall t c) = call-kept (upgradeRefusal t (c .pass .rows)) t h c in

@@ -21,7 +21,7 @@ use Rattle.tile.specs.Tile.{upgraded}
 use Rattle.tile.specs.declared.TileState.{TileState}
 use Rattle.planes.proofs.Joined.{Long, joined-long, component-joined, row-joined, joined-components}
 use Rattle.reach.specs.Component.{ComponentGains}
-use Rattle.reach.specs.Reach.{TileFits, Pass, ThreeRows, Lower, Picture, picture, TileGains, ThreeStreams}
+use Rattle.reach.specs.Reach.{TileFits, Pass, ThreeRows, Lower, Picture, pictureOf, TileGains, ThreeStreams}
 use Rattle.reach.proofs.Streams.{Stream}
 use Rattle.reach.proofs.Passes.{Below, Streams}
 use Rattle.reach.proofs.Components.{component-fits, component-sound, component-whole, component-trans, component-refl, component-same, component-mid, Middle}
@@ -59,7 +59,7 @@ rows-in-domain rows h d =
 -- ════ a tile from its positions to the same ones, and by positions between ════
 
 -- from its positions to the same a tile may stay
-pub tile-refl : {t : TileState} → TileFits t → TileGains t (t .«prog_quant») (picture t)
+pub tile-refl : {t : TileState} → TileFits t → TileGains t (t .«prog_quant») (pictureOf t)
 tile-refl f = record { coefficients = f .coefficients; sign = f .sign; each = λ k h. component-refl (f .each k h) }
 
 -- three parts that are alike
@@ -74,7 +74,7 @@ picture-path : {x y : Picture} → x .coefficients ≡ y .coefficients → x .si
 picture-path e f = λ i. record { coefficients = e i; sign = f i }
 
 -- and cannot change
-pub tile-same : {t : TileState} → TileFits t → (x : Picture) → TileGains t (t .«prog_quant») x → picture t ≡ x
+pub tile-same : {t : TileState} → TileFits t → (x : Picture) → TileGains t (t .«prog_quant») x → pictureOf t ≡ x
 tile-same {t} f x g = picture-path
     (sym (joined-components (t .coefficients) (f .coefficients)) ∙ by-components (λ k. component k (t .coefficients)) (x .coefficients) (g .coefficients) (λ k h. sym (component-same (f .each k h) (g .each k h) .0)))
     (sym (joined-components (t .sign) (f .sign)) ∙ by-components (λ k. component k (t .sign)) (x .sign) (g .sign) (λ k h. sym (component-same (f .each k h) (g .each k h) .1)))
@@ -116,7 +116,7 @@ module _ {t : TileState} (f : TileFits t) (o : Pass) (w : ThreeRows (o .rows)) (
       }
 
   -- whatever the streams hold
-  pub step-sound : (srlData rawData : List (List ℕ)) → TileGains t (joined (of (o .rows))) (picture (upgraded t srlData rawData (o .rows) (o .quality)))
+  pub step-sound : (srlData rawData : List (List ℕ)) → TileGains t (joined (of (o .rows))) (pictureOf (upgraded t srlData rawData (o .rows) (o .quality)))
   unfolding upgraded passCoefficients passSigns FromTo e
   step-sound srlData rawData = gathered _ _ (λ k h. by k h)
     where
@@ -158,7 +158,7 @@ module _ {t : TileState} (f : TileFits t) (o : Pass) (w : ThreeRows (o .rows)) (
     pub rawData : List (List ℕ)
     pub srl : ThreeStreams srlData
     pub raw : ThreeStreams rawData
-    pub gives : picture (upgraded t srlData rawData (o .rows) (o .quality)) ≡ x
+    pub gives : pictureOf (upgraded t srlData rawData (o .rows) (o .quality)) ≡ x
 
   -- what may be gained at the rows of the pass, some streams give
   pub step-whole : (x : Picture) → TileGains t (joined (of (o .rows))) x → StreamsTo x

@@ -13,33 +13,33 @@ use Rattle.tile.specs.Tile.{fresh, loaded, loadRefusal}
 use Rattle.tile.specs.declared.TileState.{TileState}
 use Rattle.fitting.specs.Place.{Place, OwnSign}
 use Rattle.fitting.specs.Component.{ComponentFits}
-use Rattle.reach.specs.Reach.{TileFits, Pass, Call, after, passesOf, ThreeRows, AllRows, NoRaise, Picture, Reached}
+use Rattle.reach.specs.Reach.{TileFits, Pass, Call, afterCalls, passesOf, ThreeRows, AllRows, NoRaise, Picture, Reached}
 
 -- ════ fitting lasts ════
 
 -- a tile that fits still fits after any list of passes of which none raises a position, whatever the streams hold
 pub record FittingPreserved : Type 0 where
   pub preserved : (t : TileState) → TileFits t → (ks : List Call) → AllRows (passesOf ks) → NoRaise (t .«base_quant») (t .«prog_quant») (passesOf ks)
-      → TileFits (after t ks)
+      → TileFits (afterCalls t ks)
 
 -- ════ no sign is lost ════
 
 -- the sign of place i of component k
-abbrev pub signAt : TileState → ℕ → ℕ → ℤ
-signAt t k i = getD (component k (t .sign)) i (pos 0)
+abbrev pub tileSign : TileState → ℕ → ℕ → ℤ
+tileSign t k i = getD (component k (t .sign)) i (pos 0)
 
 -- and its coefficient
-abbrev pub coefficientAt : TileState → ℕ → ℕ → ℤ
-coefficientAt t k i = getD (component k (t .coefficients)) i (pos 0)
+abbrev pub tileCoefficient : TileState → ℕ → ℕ → ℤ
+tileCoefficient t k i = getD (component k (t .coefficients)) i (pos 0)
 
 -- no pass loses a sign
 pub record NonzeroSignsKept : Type 0 where
   -- passes keep every nonzero sign, of any tile, with any rows and any streams
-  pub signs : (t : TileState) → length (t .sign) ≡ 12288 → (ks : List Call) (k i : ℕ) → k < 3 → signAt t k i ≢ pos 0 → signAt (after t ks) k i ≡ signAt t k i
+  pub signs : (t : TileState) → length (t .sign) ≡ 12288 → (ks : List Call) (k i : ℕ) → k < 3 → tileSign t k i ≢ pos 0 → tileSign (afterCalls t ks) k i ≡ tileSign t k i
   -- and of a tile that fits, every coefficient outside the bottom keeps its own: a minus stays a minus
   pub coefficients : (t : TileState) → TileFits t → (ks : List Call) → AllRows (passesOf ks) → NoRaise (t .«base_quant») (t .«prog_quant») (passesOf ks)
       → (k i : ℕ) → k < 3 → i < 4096 → isBottom (getD (bandsOf (t .«use_reduce_extrapolate»)) i 0) ≡ false
-      → signOf (coefficientAt t k i) ≢ pos 0 → signOf (coefficientAt (after t ks) k i) ≡ signOf (coefficientAt t k i)
+      → signOf (tileCoefficient t k i) ≢ pos 0 → signOf (tileCoefficient (afterCalls t ks) k i) ≡ signOf (tileCoefficient t k i)
 
 -- ════ signs that fit, clause by clause ════
 

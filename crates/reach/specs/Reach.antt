@@ -48,9 +48,9 @@ abbrev pub afterCall : TileState → Call → TileState
 afterCall t k = decodeUpgrade t (k .srlData) (k .rawData) (k .pass .rows) (k .pass .quality) .tile
 
 -- after some calls: "the next pass gets that tile"
-unfoldable pub after : TileState → List Call → TileState
-after t [] = t
-after t (k ∷ ks) = after (afterCall t k) ks
+unfoldable pub afterCalls : TileState → List Call → TileState
+afterCalls t [] = t
+afterCalls t (k ∷ ks) = afterCalls (afterCall t k) ks
 
 -- what each call answers
 unfoldable pub answersTo : TileState → List Call → List Answer
@@ -109,8 +109,8 @@ pub record Picture : Type 0 where
   pub sign : List ℤ
 
 -- of a tile
-abbrev pub picture : TileState → Picture
-picture t = record { coefficients = t .coefficients; sign = t .sign }
+abbrev pub pictureOf : TileState → Picture
+pictureOf t = record { coefficients = t .coefficients; sign = t .sign }
 
 -- x is of the kind, from t at its own positions to the last ones: each component has gained; "it counts from the first tile"
 pub record TileGains (t : TileState) (last : List ℕ) (x : Picture) : Type 0 where
@@ -137,18 +137,18 @@ pub record Reached (t : TileState) (os : List Pass) (x : Picture) : Type 0 where
   pub calls : List Call
   pub streams : AllStreams calls
   pub same : passesOf calls ≡ os
-  pub gives : picture (after t calls) ≡ x
+  pub gives : pictureOf (afterCalls t calls) ≡ x
 
 -- ════ the theorem ════
 
 -- of one tile and one list: "one claim about the whole list, the empty list too"
 pub record Exact (t : TileState) (os : List Pass) : Type 0 where
   -- "whatever the streams hold, the result is of the kind"
-  pub always : (ks : List Call) → passesOf ks ≡ os → TileGains t (lastOf t os) (picture (after t ks))
+  pub always : (ks : List Call) → passesOf ks ≡ os → TileGains t (lastOf t os) (pictureOf (afterCalls t ks))
   -- "the same passes are refused whatever they hold"
   pub answers : (ks : List Call) → passesOf ks ≡ os → answersTo t ks ≡ answersBy (t .«base_quant») (t .«prog_quant») os
   -- and the tile's positions are the last ones
-  pub positions : (ks : List Call) → passesOf ks ≡ os → after t ks .«prog_quant» ≡ lastOf t os
+  pub positions : (ks : List Call) → passesOf ks ≡ os → afterCalls t ks .«prog_quant» ≡ lastOf t os
   -- "such a list reaches exactly the pictures of one kind"
   pub reached : (x : Picture) → Reached t os x ↔ TileGains t (lastOf t os) x
 

@@ -80,8 +80,8 @@ countedAs s = decodedCount (decodeAnswer (s .bytes) startState (s .count) (s .co
 -- ════ a pass over a component in the standard layout, at the first place of its first band or of the bottom ════
 
 -- a number at that place of a list as long as a component, zeros elsewhere
-abbrev pub placed : Bool → ℤ → List ℤ
-placed bottom v = replicate (cond bottom 4032 0) (pos 0) ++ (v ∷ replicate (cond bottom 63 4095) (pos 0))
+abbrev pub inComponent : Bool → ℤ → List ℤ
+inComponent bottom v = replicate (cond bottom 4032 0) (pos 0) ++ (v ∷ replicate (cond bottom 63 4095) (pos 0))
 
 -- a position for that band in a row, zeros elsewhere
 abbrev pub row : Bool → ℕ → List ℕ
@@ -108,17 +108,17 @@ passRead =
 -- the number of the call's answer
 abbrev pub answeredAs : PassRead → ℕ
 answeredAs s =
-    numberOf (decodePassAnswer (row (s .bottom) (s .from)) (row (s .bottom) (s .to)) (placed (s .bottom) (s .coefficient)) (placed (s .bottom) (s .sign)))
+    numberOf (decodePassAnswer (row (s .bottom) (s .from)) (row (s .bottom) (s .to)) (inComponent (s .bottom) (s .coefficient)) (inComponent (s .bottom) (s .sign)))
 
 -- the coefficients after it
 abbrev pub upgradedAs : PassRead → List ℤ
 upgradedAs s =
-    decodeCoefficients [] (s .raw) (row (s .bottom) (s .from)) (row (s .bottom) (s .to)) false (placed (s .bottom) (s .coefficient)) (placed (s .bottom) (s .sign))
+    decodeCoefficients [] (s .raw) (row (s .bottom) (s .from)) (row (s .bottom) (s .to)) false (inComponent (s .bottom) (s .coefficient)) (inComponent (s .bottom) (s .sign))
 
 -- and the signs
 abbrev pub signedAs : PassRead → List ℤ
 signedAs s =
-    decodeSigns [] (row (s .bottom) (s .from)) (row (s .bottom) (s .to)) false (placed (s .bottom) (s .coefficient)) (placed (s .bottom) (s .sign))
+    decodeSigns [] (row (s .bottom) (s .from)) (row (s .bottom) (s .to)) false (inComponent (s .bottom) (s .coefficient)) (inComponent (s .bottom) (s .sign))
 
 -- written, at a zero sign outside the bottom: the value for the SRL stream, and the refusal or 0
 pub record PassWritten : Type 0 where
@@ -143,7 +143,7 @@ valuedAs s = srlDifference (s .to) (s .coefficient) (s .over)
 -- the refusal of the call, with room for a hundred bytes in each output
 abbrev pub refusedAs : PassWritten → ℕ
 refusedAs s =
-    encodePassRefusal (placed false (s .coefficient)) (placed false (s .over)) (row false (s .from)) (row false (s .to)) (placed false (pos 0)) false (replicate 100 0) (replicate 100 0)
+    encodePassRefusal (inComponent false (s .coefficient)) (inComponent false (s .over)) (row false (s .from)) (row false (s .to)) (inComponent false (pos 0)) false (replicate 100 0) (replicate 100 0)
 
 -- ════ the colours of a pixel ════
 
@@ -172,8 +172,8 @@ pub record BenchSamples : Type 0 where
   -- an empty stream gives zeros, as many as are asked for and at every width
   pub srl-empty : (out : List ℤ) (n w : ℕ) → n ≤ length out → decodeOut [] startState out n w ≡ replicate n (pos 0) ++ drop n out
   pub pass-answers : map answeredAs passRead ≡ map (λ s. 0) passRead
-  pub pass-read : map upgradedAs passRead ≡ map (λ s. placed (s .bottom) (s .got)) passRead
-  pub pass-signs : map signedAs passRead ≡ map (λ s. placed (s .bottom) (s .sign)) passRead
+  pub pass-read : map upgradedAs passRead ≡ map (λ s. inComponent (s .bottom) (s .got)) passRead
+  pub pass-signs : map signedAs passRead ≡ map (λ s. inComponent (s .bottom) (s .sign)) passRead
   pub pass-values : map valuedAs passWritten ≡ map (λ s. s .value) passWritten
   pub pass-refusals : map refusedAs passWritten ≡ map (λ s. s .refusal) passWritten
   pub colours : map colouredAs coloured ≡ map (λ s. s .bytes) coloured

@@ -157,8 +157,8 @@ fn show_pass(prev: [u8; 10], curr: [u8; 10], place: usize, coefficient: i16)
     text(b", sign -1:");
     value(coefficient);
     text(b" gives");
-    let mut coefficients = [coefficient; 4096];
-    let mut sign = [-1i8; 4096];
+    let mut coefficients = [coefficient; bands::COEFFICIENTS_PER_COMPONENT];
+    let mut sign = [-1i8; bands::COEFFICIENTS_PER_COMPONENT];
     let answer = progressive::decode_upgrade_pass(
         b"",
         b"\xc0",
@@ -176,12 +176,12 @@ fn show_upgrade(coefficient: i16) {
     text(b"positions 3 to 1, writing");
     value(coefficient);
     text(b" over 0:");
-    let zeros = [0i16; 4096];
-    let mut coefficients = [0i16; 4096];
+    let zeros = [0i16; bands::COEFFICIENTS_PER_COMPONENT];
+    let mut coefficients = [0i16; bands::COEFFICIENTS_PER_COMPONENT];
     coefficients[0] = coefficient;
     let prev = [3u8, 0, 0, 0, 0, 0, 0, 0, 0, 0];
     let curr = [1u8, 0, 0, 0, 0, 0, 0, 0, 0, 0];
-    let sign = [0i8; 4096];
+    let sign = [0i8; bands::COEFFICIENTS_PER_COMPONENT];
     let mut srl_out = [0u8; 16];
     let mut raw_out = [0u8; 16];
     match progressive::encode_upgrade_pass(
@@ -210,7 +210,7 @@ fn show_dequantized(quantizer: u8, v: i16) {
     text(b":");
     value(v);
     text(b" gives");
-    let mut coefficients = [0i16; 4096];
+    let mut coefficients = [0i16; bands::COEFFICIENTS_PER_COMPONENT];
     coefficients[0] = v;
     let answer = progressive::dequantize_component_ccq(&mut coefficients, [quantizer; 10], false);
     show_answer(answer, &coefficients, 0);
@@ -247,8 +247,8 @@ fn show_colours() {
 // first sample stands in the scratch. The first column has no high value, and leaves the sample as it is.
 fn show_transformed() {
     text(b"L0 -32768, H0 1: first sample, in the scratch and in the picture:");
-    let mut buffer = [0i16; 4096];
-    let mut temp = [0i16; 4096];
+    let mut buffer = [0i16; bands::COEFFICIENTS_PER_COMPONENT];
+    let mut temp = [0i16; bands::COEFFICIENTS_PER_COMPONENT];
     buffer[4015] = -32768;
     buffer[0] = 1;
     let answer = dwt_extrapolate::decode(&mut buffer, &mut temp);
@@ -271,8 +271,14 @@ fn alike(bytes: &[u8]) -> usize {
 // The pixels of a tile of zeros, with positions 0 and base quantizers 6. `TileState::reconstruct_to_rgba` hands its fields to this call.
 fn show_zero_tile() {
     text(b"a zero extrapolate tile:");
-    let mut bytes = [7u8; 16384];
-    match pixels::reconstruct_to_rgba([0; 12288], [0; 30], [6; 30], true, &mut bytes) {
+    let mut bytes = [7u8; bands::PIXEL_BYTES];
+    match pixels::reconstruct_to_rgba(
+        [0; bands::COEFFICIENTS_PER_TILE],
+        [0; 30],
+        [6; 30],
+        true,
+        &mut bytes,
+    ) {
         answer::Answer::Accepted => {
             some_colours(&bytes, 4);
             text(b", in ");
@@ -299,7 +305,7 @@ fn main() {
     show_written(&[], 16);
     show_read(b"", 3, 16);
     show_read(b"\xff", 2, 16);
-    show_zeros(&[0i16; 4096]);
+    show_zeros(&[0i16; bands::COEFFICIENTS_PER_COMPONENT]);
     show_zeros(&[0i16; 4097]);
     show_pass([3; 10], [1; 10], 0, -8);
     show_pass(

@@ -20,7 +20,7 @@ use Rattle.answer.proofs.Numbers.{first-none, passes, room-for}
 use Rattle.srl_rules.specs.Rules.{widthOk}
 use Rattle.srl_encoder.specs.Encode.{valueBits, valueKp, valueZeros, callBits, callKp, callZeros, callBytes, callAfter, freshWriter, valueFault, fault}
 use Rattle.srl_encoder.specs.Finish.{streamBits}
-use Rattle.srl.specs.Laws.{Legal, legal, Call, Ask, Accepted, streamFrom, given, widths, asked, room, readBack, RoundTrip}
+use Rattle.srl.specs.Laws.{Legal, legal, EncodeCall, Ask, Accepted, streamFrom, given, widths, asked, room, readBack, RoundTrip}
 use Rattle.srl_decoder.specs.declared.SrlState.{SrlState}
 use Rattle.srl_encoder.specs.declared.SrlWriter.{SrlWriter}
 use Rattle.srl.proofs.Streamed.{allBits, stream-packed, accepted}
@@ -42,7 +42,7 @@ call-legal w z (v ∷ vs) e l =
     let f = first-none (valueFault w z v) (fault w (valueZeros z v) vs) e in
     legal (value-legal w z v (f .0)) (call-legal w (valueZeros z v) vs (f .1) l)
 
-calls-legal : (st : SrlWriter) (cs : List Call) → Accepted st cs → Legal (widths cs) (given cs)
+calls-legal : (st : SrlWriter) (cs : List EncodeCall) → Accepted st cs → Legal (widths cs) (given cs)
 calls-legal st [] a = Legal.none
 calls-legal st (c ∷ cs) a =
     let t = accepted st (c .given) (length (callBytes (c .width) st (c .given))) (c .width) (a .0) in
@@ -58,7 +58,7 @@ call-stream w kp z (v ∷ vs) ws us =
     ap (λ (bs : List Bool). valueBits w kp z v ++ bs) (call-stream w (valueKp kp z v) (valueZeros z v) vs ws us)
     ∙ sym (append-assoc (valueBits w kp z v) (callBits w (valueKp kp z v) (valueZeros z v) vs) (streamBits (callKp kp z (v ∷ vs)) (callZeros z (v ∷ vs)) ws us))
 
-calls-stream : (kp z : ℕ) (cs : List Call) → allBits kp z cs ≡ streamBits kp z (widths cs) (given cs)
+calls-stream : (kp z : ℕ) (cs : List EncodeCall) → allBits kp z cs ≡ streamBits kp z (widths cs) (given cs)
 unfolding streamBits
 calls-stream kp z [] = refl
 calls-stream kp z (c ∷ cs) =
@@ -68,7 +68,7 @@ calls-stream kp z (c ∷ cs) =
 -- ════ all values, read one by one ════
 
 -- the values of calls that were all accepted, read one by one from the stream that they wrote, are those that were given
-pub stream-reads : (cs : List Call) → Accepted freshWriter cs → values (streamFrom freshWriter cs) (widths cs) start ≡ given cs
+pub stream-reads : (cs : List EncodeCall) → Accepted freshWriter cs → values (streamFrom freshWriter cs) (widths cs) start ≡ given cs
 stream-reads cs a =
     let s = streamFrom freshWriter cs in
     let h : Holds s 0 (allBits 8 0 cs) = pack-holds (allBits 8 0 cs) s 0 0 0 (0 ∷ []) (omega arith) (stream-packed freshWriter cs) in
@@ -85,7 +85,7 @@ fine-call : (w n : ℕ) {ws : List ℕ} → widthOk w ≡ true → Fine ws → F
 fine-call w zero h f = f
 fine-call w (suc n) h f = fine h (fine-call w n h f)
 
-calls-fine : (st : SrlWriter) (cs : List Call) → Accepted st cs → Fine (widths cs)
+calls-fine : (st : SrlWriter) (cs : List EncodeCall) → Accepted st cs → Fine (widths cs)
 calls-fine st [] a = Fine.none
 calls-fine st (c ∷ cs) a =
     let t = accepted st (c .given) (length (callBytes (c .width) st (c .given))) (c .width) (a .0) in

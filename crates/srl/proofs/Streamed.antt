@@ -14,19 +14,19 @@ use Rattle.answer.proofs.Numbers.{first-none, unless-none}
 use Rattle.srl_rules.specs.Rules.{widthOk}
 use Rattle.srl_encoder.specs.Encode.{callBits, callKp, callZeros, bitsFrom, callBytes, callAfter, writerOk, fault, encodeRefusal}
 use Rattle.srl_encoder.specs.Finish.{flush}
-use Rattle.srl.specs.Laws.{Call, streamFrom, EncoderResumes}
+use Rattle.srl.specs.Laws.{EncodeCall, streamFrom, EncoderResumes}
 use Rattle.srl_encoder.specs.declared.SrlWriter.{SrlWriter}
 use Rattle.srl_encoder.proofs.EncodedCalls.{writerOk-good, call-good}
 
 -- ════ the stream ════
 
 -- the bits of some calls in a row, from kp and the pending zeros on, with those of the end
-abbrev pub allBits : ℕ → ℕ → List Call → List Bool
+abbrev pub allBits : ℕ → ℕ → List EncodeCall → List Bool
 allBits kp z [] = flush kp z
 allBits kp z (c ∷ cs) = callBits (c .width) kp z (c .given) ++ allBits (callKp kp z (c .given)) (callZeros z (c .given)) cs
 
 -- the bytes of calls and of `finish`, one after another, are their bits packed, and a byte 0
-pub stream-packed : (st : SrlWriter) (cs : List Call)
+pub stream-packed : (st : SrlWriter) (cs : List EncodeCall)
     → streamFrom st cs ≡ pack (st .current) (st .«bit_count») (allBits (st .kp) (st .«pending_zeros») cs) ++ (0 ∷ [])
 stream-packed st [] = refl
 stream-packed st (c ∷ cs) =

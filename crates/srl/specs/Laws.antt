@@ -35,7 +35,7 @@ pub record DecodedMagnitudes : Type 0 where
 -- ════ the round trip ════
 
 -- a call of `encode`
-pub record Call : Type 0 where
+pub record EncodeCall : Type 0 where
   pub width : ℕ
   pub given : List ℤ
 
@@ -45,23 +45,23 @@ pub record Ask : Type 0 where
   pub count : ℕ
 
 -- every call is accepted, each from the state that the one before handed back, with just the room that it needs
-abbrev pub Accepted : SrlWriter → List Call → Type 0
+abbrev pub Accepted : SrlWriter → List EncodeCall → Type 0
 Accepted st [] = Unit {0}
 Accepted st (c ∷ cs) =
     (encodeRefusal st (c .given) (length (callBytes (c .width) st (c .given))) (c .width) ≡ 0) × Accepted (callAfter (c .width) st (c .given)) cs
 
 -- the bytes of these calls and of `finish`, one after another
-abbrev pub streamFrom : SrlWriter → List Call → List ℕ
+abbrev pub streamFrom : SrlWriter → List EncodeCall → List ℕ
 streamFrom st [] = finishBytes st
 streamFrom st (c ∷ cs) = callBytes (c .width) st (c .given) ++ streamFrom (callAfter (c .width) st (c .given)) cs
 
 -- the values that the calls were given
-abbrev pub given : List Call → List ℤ
+abbrev pub given : List EncodeCall → List ℤ
 given [] = []
 given (c ∷ cs) = c .given ++ given cs
 
 -- the width at which each of them was written
-abbrev pub widths : List Call → List ℕ
+abbrev pub widths : List EncodeCall → List ℕ
 widths [] = []
 widths (c ∷ cs) = replicate (length (c .given)) (c .width) ++ widths cs
 
@@ -84,7 +84,7 @@ readBack s st (a ∷ asks) =
 pub record RoundTrip : Type 0 where
   -- what `encode` and `finish` wrote is read back: both sides may split the values into calls as they like, so long as each value is
   -- read at the width at which it was written
-  pub back : (cs : List Call) (asks : List Ask) → Accepted freshWriter cs → asked asks ≡ widths cs → readBack (streamFrom freshWriter cs) startState asks ≡ given cs
+  pub back : (cs : List EncodeCall) (asks : List Ask) → Accepted freshWriter cs → asked asks ≡ widths cs → readBack (streamFrom freshWriter cs) startState asks ≡ given cs
 
 -- ════ states ════
 

@@ -20,7 +20,7 @@ use Rattle.answer.proofs.Numbers.{first-none, passes, stored-some}
 use Rattle.srl_rules.specs.Rules.{widthOk}
 use Rattle.srl_encoder.specs.Encode.{valueBits, valueKp, valueZeros, callBits, callKp, callZeros, sink, bitsFrom, callBytes, callAfter, valueFault, fault, writerOk, encodeRefusal, encoded, EncodesSrl}
 use Rattle.srl_encoder.specs.Finish.{flush, finishBytes}
-use Rattle.srl_encoder.specs.Inner.{callStart, measureStart, writerOf, valueState, valueWrite, callState, callWrite, bitCountOf, valueMeasure, callCount, GoodWriter}
+use Rattle.srl_encoder.specs.Inner.{callStart, measureStart, writerBack, valueState, valueWrite, callState, callWrite, bitCountOf, valueMeasure, callCount, GoodWriter}
 use Rattle.srl_encoder.specs.declared.SrlWriter.{SrlWriter}
 use Rattle.srl_encoder.specs.declared.Encoded.the-variants.{Bytes, Refused}
 use Rattle.srl_encoder.specs.declared.encoder.CallState.{CallState}
@@ -150,11 +150,11 @@ module _ (st : SrlWriter) (vs : List ℤ) (out : List ℕ) (w : ℕ) where
 
   -- where it is none: c is the state at the start, d the one after the values, o the output then
   pub accepted : encodeRefusal st vs (length out) w ≡ 0 → length (callBytes w st vs) ≤ length out
-      → {c d : CallState} {next : SrlWriter} {o : List ℕ} → c ≡ callStart st → d ≡ callState w c vs → o ≡ callWrite w out c vs → next ≡ writerOf d
+      → {c d : CallState} {next : SrlWriter} {o : List ℕ} → c ≡ callStart st → d ≡ callState w c vs → o ≡ callWrite w out c vs → next ≡ writerBack d
       → EncodesSrl st vs out w (Bytes (d .sink .at) next) o
   accepted r h {d = d} cs ds os ns = record {
     answer = ap (Bytes (d .sink .at)) ns
-        ∙ ap (λ x. Bytes (x .sink .at) (writerOf x)) (ds ∙ ap (λ x. callState w x vs) cs)
+        ∙ ap (λ x. Bytes (x .sink .at) (writerBack x)) (ds ∙ ap (λ x. callState w x vs) cs)
         ∙ ap (λ n. Bytes n (callAfter w st vs)) (call-sink w st vs)
         ∙ sym (ap (λ x. encoded x (length (callBytes w st vs)) (callAfter w st vs) st) r);
     out = os ∙ ap (λ x. callWrite w out x vs) cs ∙ call-out w out st vs h ∙ sym (ap (λ x. stored x (callBytes w st vs) out) r);

@@ -52,8 +52,8 @@ abbrev pub callOf : ℕ → ℕ → ℕ → ℕ → ℕ → CallState
 callOf at current n kp zeros = record { sink = writer at current n; kp = kp; zeros = zeros }
 
 -- what is handed back of it
-abbrev pub writerOf : CallState → SrlWriter
-writerOf c = record { kp = c .kp; «pending_zeros» = c .zeros; current = c .sink .current; «bit_count» = c .sink .«bit_count» }
+abbrev pub writerBack : CallState → SrlWriter
+writerBack c = record { kp = c .kp; «pending_zeros» = c .zeros; current = c .sink .current; «bit_count» = c .sink .«bit_count» }
 
 -- the state after a value
 abbrev pub valueState : ℕ → CallState → ℤ → CallState

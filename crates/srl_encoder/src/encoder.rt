@@ -11,7 +11,7 @@ ghost use Rattle.bits.specs.Inner.{Sound, Room, Wrote};
 ghost use Rattle.srl_rules.specs.Inner.{Width};
 ghost use Rattle.srl_encoder.specs.Encode.{callBytes, nonzeroBits, valueZeros, writerOk, valueFault, fault};
 ghost use Rattle.srl_encoder.specs.Finish.{flush, finishBytes};
-ghost use Rattle.srl_encoder.specs.Inner.{largest, planBits, GoodPlan, Planned, stopCount, callStart, callOf, writerOf, callState, WroteValue, WroteValues, measureStart, valueMeasure, callCount, Good, GoodMeasure, GoodWriter};
+ghost use Rattle.srl_encoder.specs.Inner.{largest, planBits, GoodPlan, Planned, stopCount, callStart, callOf, writerBack, callState, WroteValue, WroteValues, measureStart, valueMeasure, callCount, Good, GoodMeasure, GoodWriter};
 use crate::MAX_ZERO_RUN;
 use crate::SrlWriter;
 
@@ -83,7 +83,7 @@ fn measure_start(st: SrlWriter) -> Measured
 
 // The state that a call hands back.
 pub fn writer_of(c: CallState) -> SrlWriter
-    ensures { λ r. ⌜ r ≡ writerOf c ⌝ }
+    ensures { λ r. ⌜ r ≡ writerBack c ⌝ }
 {
     let sink = c.sink;
     SrlWriter {

@@ -16,13 +16,4 @@ returns-3 : tie.Need-returns-3
 returns-3 c = rw (c .before .if2 .left) refl
 
 pub band-spec : {M : Type 1} → statement M
-band-spec =
-    tie.close
-    (tie.spec
-    returns
-    (λ c. search needs)
-    (λ c. search needs)
-    (λ c. search needs)
-    (λ c. search needs)
-    returns-2
-    returns-3)
+band-spec = tie.close (tie.spec returns (λ c. search needs) (λ c. search needs) (λ c. search needs) (λ c. search needs) returns-2 returns-3)

@@ -35,15 +35,4 @@ returns-2 c =
     sym (at .inv .1 ∙ ends inDomain _ (at .b) (omega arith))
 
 pub positions-in-domain-spec : {M : Type 1} → statement M
-positions-in-domain-spec =
-    tie.close
-    (tie.spec
-    Inv-loop
-    μ-loop
-    loop-holds
-    (λ c. search needs)
-    returns
-    (λ c. search needs)
-    (λ c. search needs)
-    loop-again
-    returns-2)
+positions-in-domain-spec = tie.close (tie.spec Inv-loop μ-loop loop-holds (λ c. search needs) returns (λ c. search needs) (λ c. search needs) loop-again returns-2)

@@ -35,17 +35,4 @@ returns-2 c =
     sym (at .inv .2 ∙ ends rowInDomain _ (at .c) (omega arith))
 
 pub rows-in-domain-spec : {M : Type 1} → statement M
-rows-in-domain-spec =
-    tie.close
-    (tie.spec
-    Inv-loop
-    μ-loop
-    loop-holds
-    (λ c. search needs)
-    (λ c. search needs)
-    (λ c κs. search needs)
-    returns
-    (λ c. search needs)
-    (λ c. search needs)
-    loop-again
-    returns-2)
+rows-in-domain-spec = tie.close (tie.spec Inv-loop μ-loop loop-holds (λ c. search needs) (λ c. search needs) (λ c κs. search needs) returns (λ c. search needs) (λ c. search needs) loop-again returns-2)

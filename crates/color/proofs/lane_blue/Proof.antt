@@ -7,7 +7,7 @@ use Rattle.fixed.specs.Fixed.{clampU8}
 use Rattle.fixed.proofs.Bounds.{Under, under-more}
 use Rattle.fixed.proofs.Machine.{signed, exact, known, fits-eq, got}
 use Rattle.color.specs.Color.{rounded}
-use Rattle.color.proofs.Halves.{rounded-under}
+use Rattle.color.proofs.HalfWords.{rounded-under}
 use Rattle.color.proofs.Late.{within-of, within-eq}
 use Rattle.color.proofs.Split.{blue-part, blue-is}
 use Rattle.color.proofs.lane_blue.Statement.{statement}

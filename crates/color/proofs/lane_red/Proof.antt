@@ -6,7 +6,7 @@ use mir.Val.{toZ, ofZ}
 use Rattle.fixed.specs.Fixed.{clampU8}
 use Rattle.fixed.proofs.Machine.{signed, exact, got}
 use Rattle.color.specs.Color.{rounded}
-use Rattle.color.proofs.Halves.{rounded-under}
+use Rattle.color.proofs.HalfWords.{rounded-under}
 use Rattle.color.proofs.Late.{within-of, within-eq}
 use Rattle.color.proofs.Split.{red-is}
 use Rattle.color.proofs.lane_red.Statement.{statement}

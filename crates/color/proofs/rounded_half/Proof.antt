@@ -11,7 +11,7 @@ use mir.Val.{toZ, ofZ}
 use Rattle.fixed.specs.Fixed.{low16}
 use Rattle.color.specs.Color.{rounded}
 use Rattle.fixed.proofs.Machine.{exact, known, fits-eq, to-unsigned}
-use Rattle.color.proofs.Halves.{low-bits, low-small, halves, high-under, rounded-under}
+use Rattle.color.proofs.HalfWords.{low-bits, low-small, halves, high-under, rounded-under}
 use Rattle.color.proofs.rounded_half.Statement.{statement}
 use Rattle.color.proofs.rounded_half.Tie as tie
 

@@ -3,13 +3,13 @@ use mathlib.Core.Path.{_≡_, refl, ap, _∙_}
 use Prim.Native.Nat.{_+_, _-_, _<_, _≤_}
 use native.Mathlib.Omega.{arith}
 use borrow.Author.Needs.{needs}
-use Rattle.color.specs.Inner.{answer, Written}
+use Rattle.color.specs.Inner.{answer, PixelsWritten}
 use Rattle.color.proofs.Picture.{pixel-turn, written-on}
 use Rattle.color.proofs.write_64.Statement.{statement}
 use Rattle.color.proofs.write_64.Tie as tie
 
 abbrev Inv-loop : tie.InvT-loop
-Inv-loop y cb cr pixels₀ at all i₀ pixels i = (i ≤ 64) × Written y cb cr pixels₀ at pixels (at + i)
+Inv-loop y cb cr pixels₀ at all i₀ pixels i = (i ≤ 64) × PixelsWritten y cb cr pixels₀ at pixels (at + i)
 
 abbrev μ-loop : tie.MeasureT-loop
 μ-loop y cb cr pixels₀ at all i₀ pixels i = 64 - i

@@ -4,13 +4,13 @@ use Prim.Native.Nat.{_+_, _-_, _≤_}
 use native.Mathlib.Omega.{arith}
 use lib.ListN.{length}
 use borrow.Author.Needs.{needs}
-use Rattle.color.specs.Inner.{Written}
+use Rattle.color.specs.Inner.{PixelsWritten}
 use Rattle.color.proofs.Picture.{written-on, pixels-left, pixels-done}
 use Rattle.color.proofs.write_rgba.Statement.{statement}
 use Rattle.color.proofs.write_rgba.Tie as tie
 
 abbrev Inv-loop : tie.InvT-loop
-Inv-loop y cb cr pixels₀ at₀ pixels at = (at ≤ length y) × Written y cb cr pixels₀ at₀ pixels at
+Inv-loop y cb cr pixels₀ at₀ pixels at = (at ≤ length y) × PixelsWritten y cb cr pixels₀ at₀ pixels at
 
 abbrev μ-loop : tie.MeasureT-loop
 μ-loop y cb cr pixels₀ at₀ pixels at = length y - at

@@ -41,23 +41,4 @@ returns c =
     }
 
 pub upgrade-component-spec : {M : Type 1} → statement M
-upgrade-component-spec =
-    tie.close
-    (tie.spec
-    (λ c. search needs)
-    (λ c κs. search needs)
-    (λ c. search needs)
-    (λ c. search needs)
-    (λ c. search needs)
-    (λ c. search needs)
-    (λ c. search needs)
-    (λ c. search needs)
-    (λ c. search needs)
-    (λ c. search needs)
-    (λ c. search needs)
-    (λ c. search needs)
-    (λ c. search needs)
-    upgrade-bands-requires
-    (λ c. search needs)
-    (λ c. search needs)
-    returns)
+upgrade-component-spec = tie.close (tie.spec (λ c. search needs) (λ c κs. search needs) (λ c. search needs) (λ c. search needs) (λ c. search needs) (λ c. search needs) (λ c. search needs) (λ c. search needs) (λ c. search needs) (λ c. search needs) (λ c. search needs) (λ c. search needs) (λ c. search needs) upgrade-bands-requires (λ c. search needs) (λ c. search needs) returns)

@@ -26,12 +26,4 @@ returns c =
     (c .before .before .before .before .before .before .before .before .before .before .before .before .upgrade-component .ensures) (c .before .before .before .before .before .before .before .upgrade-component2 .ensures) (c .before .before .upgrade-component3 .ensures)
 
 pub upgrade-components-spec : {M : Type 1} → statement M
-upgrade-components-spec =
-    tie.close
-    (tie.spec
-    (λ c κs. search needs)
-    (λ c κs. search needs)
-    upgrade-component-requires-3
-    (λ c. search needs)
-    (λ c. search needs)
-    returns)
+upgrade-components-spec = tie.close (tie.spec (λ c κs. search needs) (λ c κs. search needs) upgrade-component-requires-3 (λ c. search needs) (λ c. search needs) returns)

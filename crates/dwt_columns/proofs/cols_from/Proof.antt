@@ -113,30 +113,4 @@ returns-3 c =
     (omega arith) (at .inv .4) (at .inv .5) (omega arith) (omega (arith, scale (at .m + at .m + (a .p - a .q) + 2) 0 4 (a .w) (omega arith))) (c .before .last-at .ensures)
 
 pub cols-from-spec : {M : Type 1} → statement M
-cols-from-spec =
-    tie.close
-    (tie.spec
-    Inv-loop
-    μ-loop
-    (λ c. search needs)
-    loop-holds
-    (λ c. search needs)
-    pair-at-requires
-    (λ c. search needs)
-    (λ c. search needs)
-    (λ c. search needs)
-    (λ c. search needs)
-    (λ c. search needs)
-    (λ c. search needs)
-    loop-again
-    tail-at-requires
-    (λ c. search needs)
-    returns
-    (λ c. search needs)
-    pair-at-requires-2
-    (λ c. search needs)
-    returns-2
-    (λ c. search needs)
-    last-at-requires
-    (λ c. search needs)
-    returns-3)
+cols-from-spec = tie.close (tie.spec Inv-loop μ-loop (λ c. search needs) loop-holds (λ c. search needs) pair-at-requires (λ c. search needs) (λ c. search needs) (λ c. search needs) (λ c. search needs) (λ c. search needs) (λ c. search needs) loop-again tail-at-requires (λ c. search needs) returns (λ c. search needs) pair-at-requires-2 (λ c. search needs) returns-2 (λ c. search needs) last-at-requires (λ c. search needs) returns-3)

@@ -21,13 +21,4 @@ returns c =
     rw (to-end low (a .half), same) at (c .before .line-rows .ensures)
 
 pub idwt-cols-spec : {M : Type 1} → statement M
-idwt-cols-spec =
-    tie.close
-    (tie.spec
-    (λ c. search needs)
-    (λ c. search needs)
-    (λ c. search needs)
-    (λ c. search needs)
-    (λ c κs. search needs)
-    (λ c. search needs)
-    returns)
+idwt-cols-spec = tie.close (tie.spec (λ c. search needs) (λ c. search needs) (λ c. search needs) (λ c. search needs) (λ c κs. search needs) (λ c. search needs) returns)

@@ -26,22 +26,4 @@ returns c =
     (c .before .before .before .before .before .before .before .before .pre .0) (omega arith) (omega arith) (omega arith) (omega arith) (edge .kept .1 .1 .0 ∙ mid-len 0 (a .w) (a .dst .now) (omega (arith, scale (a .p + a .q) (a .p + a .q - 1) 1 (a .w) (omega arith)))) (edge .ensures) (c .before .cols-from .ensures)
 
 pub line-rows-spec : {M : Type 1} → statement M
-line-rows-spec =
-    tie.close
-    (tie.spec
-    (λ c. search needs)
-    (λ c. search needs)
-    (λ c. search needs)
-    part-edge-row-end
-    (λ c. search needs)
-    (λ c. search needs)
-    (λ c. search needs)
-    part-edge-row-end-2
-    (λ c. search needs)
-    (λ c. search needs)
-    (λ c. search needs)
-    part-edge-row-end-3
-    (λ c κs. search needs)
-    (λ c κs. search needs)
-    (λ c. search needs)
-    returns)
+line-rows-spec = tie.close (tie.spec (λ c. search needs) (λ c. search needs) (λ c. search needs) part-edge-row-end (λ c. search needs) (λ c. search needs) (λ c. search needs) part-edge-row-end-2 (λ c. search needs) (λ c. search needs) (λ c. search needs) part-edge-row-end-3 (λ c κs. search needs) (λ c κs. search needs) (λ c. search needs) returns)

@@ -75,34 +75,4 @@ returns c =
     (rw (none, lines-none, append-nil) at (at .inv .5))
 
 pub idwt-rows-spec : {M : Type 1} → statement M
-idwt-rows-spec =
-    tie.close
-    (tie.spec
-    Inv-loop
-    μ-loop
-    (λ c. search needs)
-    loop-holds
-    (λ c. search needs)
-    (λ c. search needs)
-    (λ c. search needs)
-    (λ c. search needs)
-    part-idwt-row-end
-    (λ c. search needs)
-    (λ c. search needs)
-    (λ c. search needs)
-    (λ c. search needs)
-    part-idwt-row-end-2
-    (λ c. search needs)
-    (λ c. search needs)
-    (λ c. search needs)
-    (λ c. search needs)
-    part-idwt-row-end-3
-    (λ c κs. search needs)
-    (λ c. search needs)
-    (λ c. search needs)
-    (λ c. search needs)
-    (λ c. search needs)
-    (λ c. search needs)
-    loop-again
-    (λ c. search needs)
-    returns)
+idwt-rows-spec = tie.close (tie.spec Inv-loop μ-loop (λ c. search needs) loop-holds (λ c. search needs) (λ c. search needs) (λ c. search needs) (λ c. search needs) part-idwt-row-end (λ c. search needs) (λ c. search needs) (λ c. search needs) (λ c. search needs) part-idwt-row-end-2 (λ c. search needs) (λ c. search needs) (λ c. search needs) (λ c. search needs) part-idwt-row-end-3 (λ c κs. search needs) (λ c. search needs) (λ c. search needs) (λ c. search needs) (λ c. search needs) (λ c. search needs) loop-again (λ c. search needs) returns)

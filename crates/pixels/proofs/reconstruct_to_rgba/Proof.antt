@@ -58,17 +58,4 @@ returns-5 c =
     record { answer = simp (long, low, low′, extrapolate); pixels = simp (long, low, low′, extrapolate) (same .is) }
 
 pub reconstruct-to-rgba-spec : {M : Type 1} → statement M
-reconstruct-to-rgba-spec =
-    tie.close
-    (tie.spec
-    returns
-    (λ c. search needs)
-    (λ c κs. search needs)
-    returns-2
-    (λ c. search needs)
-    (λ c κs. search needs)
-    returns-3
-    returns-4
-    (λ c κs. search needs)
-    (λ c. search needs)
-    returns-5)
+reconstruct-to-rgba-spec = tie.close (tie.spec returns (λ c. search needs) (λ c κs. search needs) returns-2 (λ c. search needs) (λ c κs. search needs) returns-3 returns-4 (λ c κs. search needs) (λ c. search needs) returns-5)

@@ -15,18 +15,4 @@ returns c =
     samples-put (a .quants) _ (a .k) (a .k * 4096 + 4096 - a .k * 4096) (a .coefficients .now) _ whole (c .before .before .before .before .before .row-at .ensures) (c .before .before .component-samples .ensures)
 
 pub samples-at-spec : {M : Type 1} → statement M
-samples-at-spec =
-    tie.close
-    (tie.spec
-    (λ c. search needs)
-    (λ c κs. search needs)
-    (λ c. search needs)
-    (λ c. search needs)
-    (λ c. search needs)
-    (λ c. search needs)
-    (λ c. search needs)
-    (λ c. search needs)
-    (λ c κs. search needs)
-    (λ c. search needs)
-    (λ c. search needs)
-    returns)
+samples-at-spec = tie.close (tie.spec (λ c. search needs) (λ c κs. search needs) (λ c. search needs) (λ c. search needs) (λ c. search needs) (λ c. search needs) (λ c. search needs) (λ c. search needs) (λ c κs. search needs) (λ c. search needs) (λ c. search needs) returns)

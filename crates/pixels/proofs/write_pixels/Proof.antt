@@ -11,13 +11,4 @@ returns c =
     pictured (a .quants) (a .coefficients) (search needs) _ (a .pixels .now) _ (c .before .before .before .before .before .before .before .all-samples .ensures) (c .before .before .write-samples .ensures)
 
 pub write-pixels-spec : {M : Type 1} → statement M
-write-pixels-spec =
-    tie.close
-    (tie.spec
-    (λ c. search needs)
-    (λ c. search needs)
-    (λ c κs. search needs)
-    (λ c. search needs)
-    (λ c κs. search needs)
-    (λ c. search needs)
-    returns)
+write-pixels-spec = tie.close (tie.spec (λ c. search needs) (λ c. search needs) (λ c κs. search needs) (λ c. search needs) (λ c κs. search needs) (λ c. search needs) returns)

@@ -26,18 +26,4 @@ returns c =
     c .before .before .write-rgba .ensures ∙ ap (λ (n : ℕ). picture (component 0 l) (component 1 l) (component 2 l) ++ drop (4 * n) (s .args .pixels .now)) y
 
 pub write-samples-spec : {M : Type 1} → statement M
-write-samples-spec =
-    tie.close
-    (tie.spec
-    (λ c. search needs)
-    (λ c. search needs)
-    (λ c. search needs)
-    (λ c. search needs)
-    (λ c. search needs)
-    (λ c. search needs)
-    (λ c. search needs)
-    (λ c. search needs)
-    (λ c. search needs)
-    write-rgba-requires
-    (λ c. search needs)
-    returns)
+write-samples-spec = tie.close (tie.spec (λ c. search needs) (λ c. search needs) (λ c. search needs) (λ c. search needs) (λ c. search needs) (λ c. search needs) (λ c. search needs) (λ c. search needs) (λ c. search needs) write-rgba-requires (λ c. search needs) returns)

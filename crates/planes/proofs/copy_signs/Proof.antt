@@ -28,16 +28,4 @@ returns c =
     copy-ends (s .args .from .now) (s .args .into .now) (s .pre .0) (s .pre .1) (c .before .loop .into) (c .before .loop .i) (c .before .loop .inv) (omega arith)
 
 pub copy-signs-spec : {M : Type 1} → statement M
-copy-signs-spec =
-    tie.close
-    (tie.spec
-    Inv-loop
-    μ-loop
-    loop-holds
-    (λ c. search needs)
-    (λ c. search needs)
-    (λ c. search needs)
-    (λ c. search needs)
-    loop-again
-    (λ c. search needs)
-    returns)
+copy-signs-spec = tie.close (tie.spec Inv-loop μ-loop loop-holds (λ c. search needs) (λ c. search needs) (λ c. search needs) (λ c. search needs) loop-again (λ c. search needs) returns)

@@ -53,13 +53,4 @@ returns-3 c =
     }
 
 pub finish-spec : {M : Type 1} → statement M
-finish-spec =
-    tie.close
-    (tie.spec
-    (λ c κs. search needs)
-    returns
-    end-length-requires
-    returns-2
-    put-end-requires
-    (λ c. search needs)
-    returns-3)
+finish-spec = tie.close (tie.spec (λ c κs. search needs) returns end-length-requires returns-2 put-end-requires (λ c. search needs) returns-3)

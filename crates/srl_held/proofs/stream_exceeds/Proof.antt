@@ -8,7 +8,7 @@ use borrow.Author.Tests.{ltb-false}
 use borrow.Author.Needs.{needs}
 use Rattle.srl_encoder.specs.Encode.{freshWriter, callBytes, callAfter}
 use Rattle.srl_encoder.specs.Finish.{finishBytes}
-use Rattle.srl_encoder.specs.Inner.{callStart, callState, writerOf}
+use Rattle.srl_encoder.specs.Inner.{callStart, callState, writerBack}
 use Rattle.srl_encoder.proofs.EncodedCalls.{call-sink}
 use Rattle.srl_held.proofs.WholeStreams.{fresh-good, last-good, values-exceed, end-exceeds}
 use Rattle.srl_held.proofs.stream_exceeds.Statement.{statement}
@@ -43,7 +43,7 @@ stored : (c : tie.After-put-values) → c .put-values .result ≡ callState (c .
 stored c = c .put-values .ensures .0 ∙ ap (λ x. callState (c .before .before .before .before .before .before .args .num-bits) x (c .before .before .before .before .before .before .args .values .now)) (started (c .before .before))
 
 last : (c : tie.After-writer-of) → c .writer-of .result ≡ callAfter (c .before .before .before .before .before .before .before .before .before .args .num-bits) freshWriter (c .before .before .before .before .before .before .before .before .before .args .values .now)
-last c = c .writer-of .ensures ∙ ap writerOf (stored (c .before .before .before))
+last c = c .writer-of .ensures ∙ ap writerBack (stored (c .before .before .before))
 
 end-length-requires : tie.Need-end-length-requires
 end-length-requires c κs = rw (last c) (last-good (c .before .before .before .before .before .before .before .before .before .args .num-bits) (c .before .before .before .before .before .before .before .before .before .args .values .now) (c .before .before .before .before .before .before .before .before .before .pre .1))

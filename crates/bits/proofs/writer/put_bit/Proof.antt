@@ -37,15 +37,4 @@ returns-2 c =
     (simp more (rw (c .before .before .before .bit-of .ensures)), simp more)
 
 pub put-bit-spec : {M : Type 1} → statement M
-put-bit-spec =
-    tie.close
-    (tie.spec
-    mul-byte
-    (λ c κs. search needs)
-    add-byte
-    (λ c κs. search needs)
-    (λ c. search needs)
-    (λ c. search needs)
-    returns
-    (λ c. search needs)
-    returns-2)
+put-bit-spec = tie.close (tie.spec mul-byte (λ c κs. search needs) add-byte (λ c κs. search needs) (λ c. search needs) (λ c. search needs) returns (λ c. search needs) returns-2)

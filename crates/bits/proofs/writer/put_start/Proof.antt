@@ -36,18 +36,4 @@ returns-2 c =
     (ap (λ x. writer (a .at + 1) x (a .n - 8)) (c .low-bits2 .ensures) ∙ w .0, w .1 ∙ ap (λ o. write o (writer (a .at + 1) 0 0) (bitsOf (a .n - 8) (a .value))) (o .ensures))
 
 pub put-start-spec : {M : Type 1} → statement M
-put-start-spec =
-    tie.close
-    (tie.spec
-    (λ c κs. search needs)
-    cast-t8
-    returns
-    (λ c. search needs)
-    (λ c. search needs)
-    (λ c. search needs)
-    (λ c κs. search needs)
-    (λ c. search needs)
-    (λ c κs. search needs)
-    cast-t15
-    (λ c. search needs)
-    returns-2)
+put-start-spec = tie.close (tie.spec (λ c κs. search needs) cast-t8 returns (λ c. search needs) (λ c. search needs) (λ c. search needs) (λ c κs. search needs) (λ c. search needs) (λ c κs. search needs) cast-t15 (λ c. search needs) returns-2)

@@ -40,19 +40,4 @@ returns-2 c =
     (c .before .before .before .before .before .before .put-bits2 .ensures) (c .before .before .put-zero-bytes .ensures)
 
 pub put-zeros-spec : {M : Type 1} → statement M
-put-zeros-spec =
-    tie.close
-    (tie.spec
-    (λ c. search needs)
-    (λ c κs. search needs)
-    (λ c. search needs)
-    returns
-    (λ c. search needs)
-    (λ c κs. search needs)
-    (λ c. search needs)
-    (λ c. search needs)
-    put-zero-bytes-requires
-    add-t18
-    (λ c. search needs)
-    (λ c. search needs)
-    returns-2)
+put-zeros-spec = tie.close (tie.spec (λ c. search needs) (λ c κs. search needs) (λ c. search needs) returns (λ c. search needs) (λ c κs. search needs) (λ c. search needs) (λ c. search needs) put-zero-bytes-requires add-t18 (λ c. search needs) (λ c. search needs) returns-2)

@@ -50,15 +50,4 @@ returns c =
     ∙ ap (λ x. (2 ^ (a .r .kp / 8) + a .r .rest) * 2 ^ n + x) (c .nonzero-word .ensures)
 
 pub both-word-spec : {M : Type 1} → statement M
-both-word-spec =
-    tie.close
-    (tie.spec
-    (λ c κs. search needs)
-    add-run
-    (λ c. search needs)
-    add-len
-    (λ c. search needs)
-    shl-result
-    (λ c κs. search needs)
-    add-result
-    returns)
+both-word-spec = tie.close (tie.spec (λ c κs. search needs) add-run (λ c. search needs) add-len (λ c. search needs) shl-result (λ c κs. search needs) add-result returns)

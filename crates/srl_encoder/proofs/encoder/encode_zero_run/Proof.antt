@@ -50,18 +50,4 @@ returns-2 c =
     (renamed (z .last .0) (z .result) (ap (λ x. bitsOf (r .kp / 8 + 1) (x + r .rest)) (c .before .before .before .before .before .before .before .before .before .before .before .before .run-size .ensures) ∙ plan-end (r .kp / 8) (r .rest) (start .pre .2 .1)) (c .before .before .put-bits2 .ensures))
 
 pub encode-zero-run-spec : {M : Type 1} → statement M
-encode-zero-run-spec =
-    tie.close
-    (tie.spec
-    (λ c κs. search needs)
-    add-word
-    (λ c. search needs)
-    (λ c. search needs)
-    (λ c. search needs)
-    put-bits-requires
-    (λ c. search needs)
-    returns
-    put-zeros-requires
-    put-bits-requires-2
-    (λ c. search needs)
-    returns-2)
+encode-zero-run-spec = tie.close (tie.spec (λ c κs. search needs) add-word (λ c. search needs) (λ c. search needs) (λ c. search needs) put-bits-requires (λ c. search needs) returns put-zeros-requires put-bits-requires-2 (λ c. search needs) returns-2)

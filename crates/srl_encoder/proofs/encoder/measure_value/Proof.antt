@@ -67,16 +67,4 @@ returns-2 c =
     λ i. record { at = place i .at; «bit_count» = place i .«bit_count»; kp = kp i; zeros = zeros i }
 
 pub measure-value-spec : {M : Type 1} → statement M
-measure-value-spec =
-    tie.close
-    (tie.spec
-    (λ c κs. search needs)
-    (λ c. search needs)
-    returns
-    (λ c κs. search needs)
-    (λ c κs. search needs)
-    (λ c κs. search needs)
-    add-n
-    count-bits-requires
-    (λ c κs. search needs)
-    returns-2)
+measure-value-spec = tie.close (tie.spec (λ c κs. search needs) (λ c. search needs) returns (λ c κs. search needs) (λ c κs. search needs) (λ c κs. search needs) add-n count-bits-requires (λ c κs. search needs) returns-2)

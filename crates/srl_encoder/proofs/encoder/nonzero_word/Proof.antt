@@ -33,15 +33,4 @@ returns c =
     ap (λ x. x + a .stop) (exact c) ∙ ap (λ x. x * 2 ^ (a .m - 1 + a .stop) + a .stop) (c .bit-of .ensures)
 
 pub nonzero-word-spec : {M : Type 1} → statement M
-nonzero-word-spec =
-    tie.close
-    (tie.spec
-    (λ c κs. search needs)
-    (λ c. search needs)
-    (λ c. search needs)
-    add-low
-    (λ c. search needs)
-    (λ c. search needs)
-    shl-result
-    add-result
-    returns)
+nonzero-word-spec = tie.close (tie.spec (λ c κs. search needs) (λ c. search needs) (λ c. search needs) add-low (λ c. search needs) (λ c. search needs) shl-result add-result returns)

@@ -66,16 +66,4 @@ returns c =
     }
 
 pub plan-run-spec : {M : Type 1} → statement M
-plan-run-spec =
-    tie.close
-    (tie.spec
-    Inv-loop
-    μ-loop
-    (λ c κs. search needs)
-    loop-holds
-    add-steps
-    (λ c κs. search needs)
-    (λ c κs. search needs)
-    loop-less
-    loop-again
-    returns)
+plan-run-spec = tie.close (tie.spec Inv-loop μ-loop (λ c κs. search needs) loop-holds add-steps (λ c κs. search needs) (λ c κs. search needs) loop-less loop-again returns)

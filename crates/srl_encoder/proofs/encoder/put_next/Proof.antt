@@ -43,14 +43,4 @@ returns-2 c =
     (put .ensures) (made .ensures) (toZ-ofZ w16 (a .v) (start .fits .v))
 
 pub put-next-spec : {M : Type 1} → statement M
-put-next-spec =
-    tie.close
-    (tie.spec
-    (λ c κs. search needs)
-    (λ c. search needs)
-    (λ c κs. search needs)
-    returns
-    (λ c κs. search needs)
-    put-value-requires
-    (λ c. search needs)
-    returns-2)
+put-next-spec = tie.close (tie.spec (λ c κs. search needs) (λ c. search needs) (λ c κs. search needs) returns (λ c κs. search needs) put-value-requires (λ c. search needs) returns-2)

@@ -68,21 +68,4 @@ returns-2 c =
     (then (sign .last .0) (sign .result) zs end (c .before .before .before .before .before .before .put-zeros .ensures) (c .before .before .put-bits2 .ensures)))
 
 pub put-nonzero-spec : {M : Type 1} → statement M
-put-nonzero-spec =
-    tie.close
-    (tie.spec
-    (λ c κs. search needs)
-    nonzero-word-requires
-    (λ c. search needs)
-    add-put-bits
-    put-bits-requires
-    (λ c. search needs)
-    returns
-    (λ c κs. search needs)
-    (λ c. search needs)
-    (λ c. search needs)
-    put-zeros-requires
-    (λ c. search needs)
-    put-bits-requires-2
-    (λ c. search needs)
-    returns-2)
+put-nonzero-spec = tie.close (tie.spec (λ c κs. search needs) nonzero-word-requires (λ c. search needs) add-put-bits put-bits-requires (λ c. search needs) returns (λ c κs. search needs) (λ c. search needs) (λ c. search needs) put-zeros-requires (λ c. search needs) put-bits-requires-2 (λ c. search needs) returns-2)

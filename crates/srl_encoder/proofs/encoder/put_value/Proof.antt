@@ -52,15 +52,4 @@ returns-2 c =
     (λ i. record { sink = done .0 i; kp = kp i; zeros = zeros i }, done .1)
 
 pub put-value-spec : {M : Type 1} → statement M
-put-value-spec =
-    tie.close
-    (tie.spec
-    (λ c κs. search needs)
-    (λ c. search needs)
-    returns
-    (λ c κs. search needs)
-    (λ c κs. search needs)
-    put-both-requires
-    (λ c κs. search needs)
-    (λ c. search needs)
-    returns-2)
+put-value-spec = tie.close (tie.spec (λ c κs. search needs) (λ c. search needs) returns (λ c κs. search needs) (λ c κs. search needs) put-both-requires (λ c κs. search needs) (λ c. search needs) returns-2)

@@ -9,13 +9,4 @@ unfolding fresh loaded
 returns c = rw (c .before .before .before .before .before .before .load-coefficients .ensures, c .before .before .before .load-signs .ensures, c .before .flat-rows .ensures, c .flat-rows2 .ensures)
 
 pub loaded-spec : {M : Type 1} → statement M
-loaded-spec =
-    tie.close
-    (tie.spec
-    (λ c. search needs)
-    (λ c κs. search needs)
-    (λ c. search needs)
-    (λ c κs. search needs)
-    (λ c κs. search needs)
-    (λ c κs. search needs)
-    returns)
+loaded-spec = tie.close (tie.spec (λ c. search needs) (λ c κs. search needs) (λ c. search needs) (λ c κs. search needs) (λ c κs. search needs) (λ c κs. search needs) returns)
