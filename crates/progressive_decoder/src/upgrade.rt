@@ -184,7 +184,8 @@ fn srl_list(
         × (length (now sign) ≡ length (now coefficients)) ⌝ }
     ensures { λ r. ⌜
         ((d : List ℕ) (m : ℕ)
-        → over srl (now («srl_data» .entry)) d (bandStep t) (take n (now (list .entry))) (walked (now (coefficients .entry)) (now (sign .entry)) (opened from) m)
+        → over srl (now («srl_data» .entry)) d (bandStep t) (take n (now (list .entry)))
+        (walked (now (coefficients .entry)) (now (sign .entry)) (opened from) m)
         ≡ walked (now (coefficients .exit)) (now (sign .exit)) (opened r) m)
         × (r .reader .«bit_idx» ≤ 7) ⌝ }
 {
