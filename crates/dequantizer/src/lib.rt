@@ -36,9 +36,9 @@ pub fn dequantize_bands(coefficients: &mut [i16], quant: [u8; 10], use_reduce_ex
 {
     let mut b: usize = 0;
     while b < bands::NUM_BANDS {
-        let place = bands::span::band_span(use_reduce_extrapolate, b);
-        let from = place.from;
-        let to = place.to;
+        let span = bands::span::band_span(use_reduce_extrapolate, b);
+        let from = span.from;
+        let to = span.to;
         dequantize_band(&mut coefficients[from..to], quant[b]);
         b += 1;
     }

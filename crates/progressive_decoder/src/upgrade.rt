@@ -4,7 +4,7 @@ ghost use mathlib.Core.Bool.{true, not};
 ghost use mathlib.Core.List.{List};
 ghost use Prim.Native.Nat.{ℕ, _+_, _-_, _*_, _%_, _^_, _≤_, _<_};
 ghost use lib.IntN.{pos};
-ghost use lib.ListN.{length, getD, set, take, replicate};
+ghost use lib.ListN.{length, getD, set, take};
 ghost use Rattle.bits.specs.Bits.{bitAt, zeros, bitsRead};
 ghost use Rattle.bits.specs.Inner.{Top, Front};
 ghost use Rattle.srl_decoder.specs.Srl.{Reader, mostZeros, behind};
@@ -286,9 +286,9 @@ pub fn upgrade_bands(
     let mut b: usize = 0;
     while b < bands::NUM_BANDS {
         let t = upgrade_steps::band_step(b, prev[b], curr[b]);
-        let place = bands::span::band_span(use_reduce_extrapolate, b);
-        let from = place.from;
-        let to = place.to;
+        let span = bands::span::band_span(use_reduce_extrapolate, b);
+        let from = span.from;
+        let to = span.to;
         readers = upgrade_band(
             srl_data,
             raw_data,

@@ -178,9 +178,9 @@ fn survey_bands(
     let mut b: usize = 0;
     while b < bands::NUM_BANDS {
         let t = upgrade_steps::band_step(b, prev[b], curr[b]);
-        let place = bands::span::band_span(use_reduce_extrapolate, b);
-        let from = place.from;
-        let to = place.to;
+        let span = bands::span::band_span(use_reduce_extrapolate, b);
+        let from = span.from;
+        let to = span.to;
         done = survey_next(coefficients, prev_coefficients, sign, t, from, to, done);
         b += 1;
     }
@@ -278,9 +278,9 @@ fn measure_bands(
     let mut b: usize = 0;
     while b < bands::NUM_BANDS {
         let t = upgrade_steps::band_step(b, prev[b], curr[b]);
-        let place = bands::span::band_span(use_reduce_extrapolate, b);
-        let from = place.from;
-        let to = place.to;
+        let span = bands::span::band_span(use_reduce_extrapolate, b);
+        let from = span.from;
+        let to = span.to;
         cur = measure_band(coefficients, prev_coefficients, sign, t, from, to, cur);
         b += 1;
     }
@@ -507,9 +507,9 @@ fn write_bands(
     let mut b: usize = 0;
     while b < bands::NUM_BANDS {
         let t = upgrade_steps::band_step(b, prev[b], curr[b]);
-        let place = bands::span::band_span(use_reduce_extrapolate, b);
-        let from = place.from;
-        let to = place.to;
+        let span = bands::span::band_span(use_reduce_extrapolate, b);
+        let from = span.from;
+        let to = span.to;
         cur = write_band(
             coefficients,
             prev_coefficients,

@@ -40,7 +40,7 @@ stateAfter s st n w = closed s st (readerAfter s (replicate n w) (opened st))
 
 -- ════ refusals ════
 
--- 8 is refused where it does not hold: "a coder state with kp above 80, a bit place above 7, a run above 1,024"
+-- else refused by 8: "a coder state with kp above 80, a bit place above 7, a run above 1,024"
 abbrev pub stateOk : SrlState → Bool
 stateOk st = leb (st .kp) 80 && (leb (st .reader .«bit_idx») 7 && leb (st .«zero_run_remaining») 1024)
 

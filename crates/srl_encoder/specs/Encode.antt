@@ -99,7 +99,7 @@ callAfter w st vs =
 
 -- ════ refusals ════
 
--- 8 is refused where it does not hold: "a coder state with kp above 80, a bit place above 7, .. more than 4,096 pending zeros (writer), or unfinished bits at or above 2^(bit place)"
+-- else refused by 8: "a coder state with kp above 80, a bit place above 7, .. more than 4,096 pending zeros (writer), or unfinished bits at or above 2^(bit place)"
 abbrev pub writerOk : SrlWriter → Bool
 writerOk st =
     leb (st .kp) 80 && (leb (st .«bit_count») 7 && (leb (st .«pending_zeros») 4096 && ltb (st .current) (2 ^ st .«bit_count»)))
