@@ -45,7 +45,7 @@ number-answered (suc k) = refl
 pub kept : {A : Type 0} (new old : A) {n k : ℕ} → n ≡ suc k → unlessRefused n new old ≡ old
 kept new old e = ap (λ (n : ℕ). unlessRefused n new old) e
 
--- a number that stands for an answer stands for no other
+-- the number of an answer stands for that answer
 pub by-number : (n : ℕ) {r : ℕ} {a : Answer} → r ≡ numberOf a → a ≡ answered n → answered r ≡ answered n
 by-number n e d = ap answered (e ∙ ap numberOf d ∙ number-answered n)
 

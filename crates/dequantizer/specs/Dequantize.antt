@@ -41,6 +41,6 @@ abbrev pub dequantizeOut : Bool → List ℕ → List ℤ → List ℤ
 dequantizeOut e quant cs = unlessRefused (dequantizeRefusal quant cs) (dequantizedAll (quantizers e quant) cs) cs
 
 -- what the call fixes: its answer, and the slice
-pub record Dequantizes (e : Bool) (quant : List ℕ) (cs : List ℤ) (r : Answer) (exit : List ℤ) : Type 0 where
+pub record Dequantizes (e : Bool) (quant : List ℕ) (cs : List ℤ) (r : Answer) (cs′ : List ℤ) : Type 0 where
   pub answer : r ≡ dequantizeAnswer quant cs
-  pub coefficients : exit ≡ dequantizeOut e quant cs
+  pub coefficients : cs′ ≡ dequantizeOut e quant cs
