@@ -16,13 +16,10 @@ use Rattle.fixed.specs.Cut.{cutLevel, towardZero}
 use Rattle.fixed.proofs.Cuts.{cut-rest, rest-small, abs-toward}
 use Rattle.fixed.proofs.Sign.{zero-is}
 use Rattle.bands.specs.Positions.{rowInDomain}
-use Rattle.bands.proofs.Spread.{place-whole}
 use Rattle.srl.specs.Laws.{Legal, legal}
-use Rattle.upgrade_steps.specs.Steps.{Step, Source, skipped, srl, raw, source, sourceOf, steps, stepOf, srlWidth, srlWidths, rawWidth, rawWidths}
+use Rattle.upgrade_steps.specs.Steps.{Step, Source, skipped, srl, raw, source, sourceOf, steps, srlWidth, srlWidths, rawWidth, rawWidths}
 use Rattle.answer.specs.Refusals.{sliceTooShort, outOfDomain, magnitudeOutOfRange, outputTooShort, unless, firstOf, longEnough}
-use Rattle.progressive_encoder.specs.Encode.{srlDifference, rawDifference, srlGiven, srlDifferences, rawGiven, rawDifferences, srlBytes, rawBytes, passFault, encodePassRefusal}
-use Rattle.progressive_encoder.specs.Inner.{anyTooLarge}
-use Rattle.progressive_encoder.proofs.WrittenValues.{fault-by-size}
+use Rattle.progressive_encoder.specs.Encode.{srlDifference, rawDifference, srlGiven, srlDifferences, rawGiven, rawDifferences, srlBytes, rawBytes, anyTooLarge, passFault, encodePassRefusal}
 use Rattle.progressive.specs.Laws.{Small, small, Sent}
 use Rattle.progressive.specs.OwnCuts.{OwnCut, OwnCuts, OwnCutsSent}
 
@@ -115,12 +112,6 @@ small-then skipped t c p h l = l
 small-then srl t c p h l = l
 small-then raw t c p h l = small h l
 
--- and at most one value more
-few-then : (o : Source) (v : ℤ) (vs : List ℤ) (n : ℕ) → length vs ≤ n → length (srlGiven o v vs) ≤ suc n
-few-then skipped v vs n h = omega arith
-few-then srl v vs n h = omega arith
-few-then raw v vs n h = omega arith
-
 -- what such a pass gives
 record Gives (ts : List Step) (cs ps ss : List ℤ) : Type 0 where
   coefficients-long : length ts ≤ length cs
@@ -128,12 +119,11 @@ record Gives (ts : List Step) (cs ps ss : List ℤ) : Type 0 where
   signs-long : length ts ≤ length ss
   legals : Legal (srlWidths ts ss) (srlDifferences ts cs ps ss)
   smalls : Small (rawWidths ts ss) (rawDifferences ts cs ps ss)
-  few : length (srlDifferences ts cs ps ss) ≤ length ts
 
 -- place by place
 gives : {ts : List Step} {cs ps ss : List ℤ} → OwnCuts ts cs ps ss → Gives ts cs ps ss
 unfolding srlWidths srlDifferences rawWidths rawDifferences
-gives OwnCuts.none = record { coefficients-long = omega arith; previous-long = omega arith; signs-long = omega arith; legals = Legal.none; smalls = Small.none; few = omega arith }
+gives OwnCuts.none = record { coefficients-long = omega arith; previous-long = omega arith; signs-long = omega arith; legals = Legal.none; smalls = Small.none }
 gives (OwnCuts.own {t = t} {c = c} {p = p} {s = s} {ts = ts} {cs = cs} {ps = ps} {ss = ss} o os) =
     let g = gives os in
     let f = place-fitting t c p s o in
@@ -143,7 +133,6 @@ gives (OwnCuts.own {t = t} {c = c} {p = p} {s = s} {ts = ts} {cs = cs} {ps = ps}
       signs-long = omega (arith, g .signs-long);
       legals = legal-then (source t s) t c p f (g .legals);
       smalls = small-then (source t s) t c p f (g .smalls);
-      few = few-then (source t s) (srlDifference (t .position) c p) (srlDifferences ts cs ps ss) (length ts) (g .few);
     }
 
 -- values that fit are not too large
@@ -154,15 +143,15 @@ none-large (legal {w = w} {v = v} {ws = ws} {vs = vs} h l) = ap (λ (b : Bool). 
 
 -- ════ the law ════
 
--- up to 4,096 places, so that no run of zeros is too long
-all-sent : (ts : List Step) (cs ps ss : List ℤ) → length ts ≤ 4096 → OwnCuts ts cs ps ss → Sent ts cs ps ss
-all-sent ts cs ps ss h o =
+-- of every list of steps
+all-sent : (ts : List Step) (cs ps ss : List ℤ) → OwnCuts ts cs ps ss → Sent ts cs ps ss
+all-sent ts cs ps ss o =
     let g = gives o in
     record {
       coefficients-long = g .coefficients-long;
       previous-long = g .previous-long;
       signs-long = g .signs-long;
-      srl-fits = fault-by-size 0 (srlWidths ts ss) (srlDifferences ts cs ps ss) (omega (arith, g .few)) ∙ ap (λ (b : Bool). cond b 5 0) (none-large (g .legals));
+      srl-fits = ap (λ (b : Bool). cond b magnitudeOutOfRange 0) (none-large (g .legals));
       raw-fits = g .smalls;
     }
 
@@ -184,7 +173,7 @@ calls-sent cs ps ss prev curr e srlOut rawOut o =
     no-5 (longEnough cs && (longEnough ps && longEnough ss)) (rowInDomain prev && rowInDomain curr)
     (ltb (length srlOut) (length (srlBytes ts cs ps ss))) (ltb (length rawOut) (length (rawBytes ts cs ps ss)))
     (passFault ts cs ps ss)
-    (all-sent ts cs ps ss (omega (arith, place-whole e (stepOf prev curr))) o .srl-fits)
+    (all-sent ts cs ps ss o .srl-fits)
 
 -- the law, in both its parts
 pub own-cuts-sent : OwnCutsSent

@@ -1,12 +1,13 @@
 -- The round trip of a pass: what was written is read back, and what that makes of each place.
 use mathlib.Core.Path.{_≡_, refl, sym, ap, ap₂, _∙_, subst}
-use mathlib.Core.Bool.{Bool, true, false, _&&_, true≢false}
+use mathlib.Core.Bool.{Bool, true, false, cond, _&&_, _||_, true≢false}
 use mathlib.Core.List.{List, [], _∷_, _++_, append-nil}
 use Prim.Native.Nat.{ℕ, zero, suc, _+_, _-_, _*_, _/_, _^_, _≤_, _<_}
 use native.Mathlib.Nat.{zero-div, div-le-self, div-lt-iff-lt-mul, le-div-iff-mul-le, mul-le-mul-right, add-mul}
 use native.Mathlib.Omega.{arith}
-use borrow.Author.Tests.{leb-true}
-use lib.IntN.{ℤ, pos, negsuc, negℤ, _+ℤ_, _-ℤ_, +ℤ-idl, +ℤ-idr, negℤ-+ℤ}
+use borrow.Author.Tests.{leb-true, ltb-false}
+use lib.Dec.{ltb}
+use lib.IntN.{ℤ, pos, negsuc, natAbs, negℤ, _+ℤ_, _-ℤ_, +ℤ-idl, +ℤ-idr, negℤ-+ℤ}
 use lib.ListN.{length}
 use lib.Pow.{pow-pos, pow-add}
 use lib.Signed.{mag}
@@ -23,16 +24,14 @@ use Rattle.bits.specs.Written.{bitsOf, bitsOfAll, pack}
 use Rattle.bits.proofs.Holds.{Holds, holds-append, num-holds, pack-holds}
 use Rattle.bits.proofs.Puts.{length-bitsOf}
 use Rattle.srl_decoder.specs.Srl.{start, values}
-use Rattle.srl_encoder.specs.Encode.{valueZeros, valueFault}
 use Rattle.srl_encoder.specs.Finish.{streamBits}
 use Rattle.srl.specs.Laws.{Legal, legal}
-use Rattle.srl.proofs.Back.{value-legal}
 use Rattle.answer.proofs.Numbers.{first-none}
 use Rattle.srl.proofs.Trip.{stream-values}
 use Rattle.upgrade_steps.specs.Steps.{Step, Source, skipped, srl, raw, source, sourceOf, steps, stepOf, srlWidths, rawWidths}
-use Rattle.answer.specs.Refusals.{sliceTooShort, outOfDomain, unless, firstOf, longEnough}
+use Rattle.answer.specs.Refusals.{sliceTooShort, outOfDomain, magnitudeOutOfRange, unless, firstOf, longEnough}
 use Rattle.progressive_decoder.specs.Upgrade.{srlCoefficient, srlSign, adds, rawCoefficient, signThen, signsAfter, coefficientThen, coefficientsAfter, srlValues, rawNumbers, decodeCoefficients, decodeSigns}
-use Rattle.progressive_encoder.specs.Encode.{srlDifference, rawDifference, srlGiven, srlDifferences, rawGiven, rawDifferences, srlStream, srlBytes, rawBytes, valuesFault, passFault, noRoomFor, encodePassRefusal}
+use Rattle.progressive_encoder.specs.Encode.{srlDifference, rawDifference, srlGiven, srlDifferences, rawGiven, rawDifferences, srlStream, srlBytes, rawBytes, anyTooLarge, valuesFault, passFault, noRoomFor, encodePassRefusal}
 use Rattle.progressive_encoder.proofs.Placewise.{same-length}
 use Rattle.progressive.specs.Laws.{Small, small, Sent, cutBy, cuts, cutSign, cutSigns, Onward, Regained, Regains, regained, PassRoundTrip}
 
@@ -118,14 +117,16 @@ raw-cut false q c p o =
 
 -- ════ the values and numbers that were written are read back ════
 
-all-legal : (z : ℕ) (ws : List ℕ) (vs : List ℤ) → length vs ≡ length ws → valuesFault z ws vs ≡ 0 → Legal ws vs
-unfolding valuesFault
-all-legal z [] [] l e = Legal.none
-all-legal z [] (v ∷ vs) l e = absurd (omega (arith, l))
-all-legal z (w ∷ ws) [] l e = absurd (omega (arith, l))
-all-legal z (w ∷ ws) (v ∷ vs) l e =
-    let f = first-none (valueFault w z v) (valuesFault (valueZeros z v) ws vs) e in
-    legal (value-legal w z v (f .0)) (all-legal (valueZeros z v) ws vs (omega (arith, l)) (f .1))
+all-legal : (ws : List ℕ) (vs : List ℤ) → length vs ≡ length ws → valuesFault ws vs ≡ 0 → Legal ws vs
+unfolding anyTooLarge
+all-legal [] [] l e = Legal.none
+all-legal [] (v ∷ vs) l e = absurd (omega (arith, l))
+all-legal (w ∷ ws) [] l e = absurd (omega (arith, l))
+all-legal (w ∷ ws) (v ∷ vs) l e = by (ltb (2 ^ w - 1) (natAbs v)) refl e (all-legal ws vs (omega (arith, l)))
+  where
+    by : (b : Bool) → ltb (2 ^ w - 1) (natAbs v) ≡ b → cond (b || anyTooLarge ws vs) magnitudeOutOfRange 0 ≡ 0 → (valuesFault ws vs ≡ 0 → Legal ws vs) → Legal (w ∷ ws) (v ∷ vs)
+    by true q e ih = absurd (omega (arith, e))
+    by false q e ih = legal {w = w} {v = v} (omega (arith, ltb-false (2 ^ w - 1) (natAbs v) q, pow-pos w)) (ih e)
 
 -- the SRL stream of values that fit their widths is read back as these values
 pub read-values : (ws : List ℕ) (vs : List ℤ) → Legal ws vs → values (srlStream ws vs) ws start ≡ vs
@@ -148,7 +149,7 @@ read-numbers (small {w = w} {m = m} {ws = ws} {ms = ms} l ls) s n h =
 values-back : (ts : List Step) (cs ps ss : List ℤ) → Sent ts cs ps ss → srlValues ts (srlBytes ts cs ps ss) ss ≡ srlDifferences ts cs ps ss
 values-back ts cs ps ss h =
     let same = sym (same-length ts cs ps ss (h .coefficients-long) (h .previous-long) (h .signs-long)) in
-    read-values (srlWidths ts ss) (srlDifferences ts cs ps ss) (all-legal 0 (srlWidths ts ss) (srlDifferences ts cs ps ss) same (h .srl-fits))
+    read-values (srlWidths ts ss) (srlDifferences ts cs ps ss) (all-legal (srlWidths ts ss) (srlDifferences ts cs ps ss) same (h .srl-fits))
 
 numbers-back : (ts : List Step) (cs ps ss : List ℤ) → Sent ts cs ps ss → rawNumbers ts (rawBytes ts cs ps ss) ss ≡ rawDifferences ts cs ps ss
 numbers-back ts cs ps ss h =

@@ -10,7 +10,7 @@ use Rattle.srl_decoder.specs.Srl.{values}
 use Rattle.srl_encoder.specs.Finish.{streamBits}
 use Rattle.upgrade_steps.specs.Steps.{Step, srlWidths, rawWidths}
 use Rattle.progressive_decoder.specs.Upgrade.{signsAfter, coefficientsAfter, upgradedCoefficients, upgradedSigns}
-use Rattle.progressive_encoder.specs.Encode.{srlDifferences, rawDifferences, valuesFault, passFault, srlBytes, rawBytes}
+use Rattle.progressive_encoder.specs.Encode.{srlDifferences, rawDifferences, anyTooLarge, passFault, srlBytes, rawBytes}
 use Rattle.dequantizer.specs.Dequantize.{dequantizedAll}
 use Rattle.progressive.specs.Laws.{cuts}
 use Rattle.progressive.specs.OwnCuts.{OwnCuts}
@@ -52,7 +52,7 @@ unfolding srlDifferences clampI16 isZero
 writes = refl
 
 refuses : passFault (from3to1 false ∷ []) (negsuc 6 ∷ []) (pos 0 ∷ []) (pos 0 ∷ []) ≡ 5
-unfolding srlWidths srlDifferences valuesFault clampI16 isZero
+unfolding srlWidths srlDifferences anyTooLarge clampI16 isZero
 refuses = refl
 
 writes-bytes : srlBytes (from3to1 false ∷ []) (pos 7 ∷ []) (pos 0 ∷ []) (pos 0 ∷ []) ≡ (128 ∷ 0 ∷ [])

@@ -30,8 +30,8 @@ pub data OwnCuts : List Step → List ℤ → List ℤ → List ℤ → Type 0 w
 
 -- the values of such a pass all fit
 pub record OwnCutsSent : Type 0 where
-  -- no value is refused by 5 or 6, and no raw number has more bits than its width
-  pub sent : (ts : List Step) (cs ps ss : List ℤ) → length ts ≤ 4096 → OwnCuts ts cs ps ss → Sent ts cs ps ss
+  -- no value is refused by 5, and no raw number has more bits than its width
+  pub sent : (ts : List Step) (cs ps ss : List ℤ) → OwnCuts ts cs ps ss → Sent ts cs ps ss
   -- so the writer never refuses it by 5
   pub never-5 : (cs ps ss : List ℤ) (prev curr : List ℕ) (e : Bool) (srlOut rawOut : List ℕ)
       → OwnCuts (steps e prev curr) cs ps ss → encodePassRefusal cs ps prev curr ss e srlOut rawOut ≢ magnitudeOutOfRange

@@ -3,17 +3,15 @@ use mathlib.Core.Path.{_≡_, refl, ap, sym, _∙_}
 use mathlib.Core.Bool.{Bool, cond}
 use mathlib.Core.List.{List}
 use Prim.Native.Nat.{ℕ, zero, suc, _≤_}
-use native.Mathlib.Omega.{arith}
 use lib.Dec.{ltb}
 use lib.ListN.{length}
 use Rattle.bits.proofs.Packed.{sets-start}
 use Rattle.answer.specs.Refusals.{magnitudeOutOfRange, outputTooShort, firstOf, noRoom, stored}
 use Rattle.answer.proofs.Numbers.{stored-some}
-use Rattle.progressive_encoder.specs.Encode.{srlStream, rawStream, written}
-use Rattle.progressive_encoder.specs.Inner.{Lists, anyTooLarge, listsRefusal, StoresStreams, WritesStreams}
+use Rattle.progressive_encoder.specs.Encode.{srlStream, rawStream, anyTooLarge, written}
+use Rattle.progressive_encoder.specs.Inner.{Lists, listsRefusal, StoresStreams, WritesStreams}
 use Rattle.progressive_encoder.specs.declared.Written.{Written}
 use Rattle.progressive_encoder.specs.declared.Written.the-variants.{Refused}
-use Rattle.progressive_encoder.proofs.WrittenValues.{fault-by-size}
 
 written-some : (k n m : ℕ) → (k ≡ 0 → ⊥) → written k n m ≡ Refused k
 written-some zero n m h = absurd (h refl)
@@ -21,14 +19,13 @@ written-some (suc k) n m h = refl
 
 module _ (l : Lists) (srlOut rawOut : List ℕ) where
   -- the refusal by its three tests: a value that is too large, and no room for one stream or the other
-  pub refusal-is : length (l .values) ≤ 4096 → {a b c : Bool} → a ≡ anyTooLarge (l .widths) (l .values) → b ≡ ltb (length srlOut) (length (srlStream (l .widths) (l .values)))
+  pub refusal-is : {a b c : Bool} → a ≡ anyTooLarge (l .widths) (l .values) → b ≡ ltb (length srlOut) (length (srlStream (l .widths) (l .values)))
       → c ≡ ltb (length rawOut) (length (rawStream (l .numberWidths) (l .numbers)))
       → listsRefusal l srlOut rawOut ≡ firstOf (cond a magnitudeOutOfRange 0) (firstOf (cond b outputTooShort 0) (cond c outputTooShort 0))
-  refusal-is h {a} {b} {c} p q r =
+  refusal-is {a} {b} {c} p q r =
       let none = noRoom (length rawOut) (length (rawStream (l .numberWidths) (l .numbers))) in
       let full = firstOf (noRoom (length srlOut) (length (srlStream (l .widths) (l .values)))) none in
-      ap (λ n. firstOf n full) (fault-by-size 0 (l .widths) (l .values) (omega arith))
-      ∙ ap (λ x. firstOf (cond x magnitudeOutOfRange 0) full) (sym p)
+      ap (λ x. firstOf (cond x magnitudeOutOfRange 0) full) (sym p)
       ∙ ap (λ x. firstOf (cond a magnitudeOutOfRange 0) (firstOf (cond x outputTooShort 0) none)) (sym q)
       ∙ ap (λ x. firstOf (cond a magnitudeOutOfRange 0) (firstOf (cond b outputTooShort 0) (cond x outputTooShort 0))) (sym r)
 

@@ -3,3 +3,4 @@ pub mod WrittenValues
 pub mod BothStreams
 pub mod Placewise
 pub mod Surveyed
+mod Pending

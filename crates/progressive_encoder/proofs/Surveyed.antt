@@ -16,8 +16,8 @@ use Rattle.fixed.specs.Fixed.{isZero}
 use Rattle.srl_encoder.specs.Inner.{largest}
 use Rattle.upgrade_steps.specs.Steps.{Step, Source, skipped, srl, raw, sourceOf, source}
 use Rattle.upgrade_steps.specs.Inner.{fromSrl}
-use Rattle.progressive_encoder.specs.Encode.{srlDifference, rawDifference, srlGiven, rawGiven, rawStream}
-use Rattle.progressive_encoder.specs.Inner.{Lists, placeLists, bandLists, Lent, oneIf, onlyIf, magnitudes, anyTooLarge, surveyOf, Counts, Surveys, noTotal, Few}
+use Rattle.progressive_encoder.specs.Encode.{srlDifference, rawDifference, srlGiven, rawGiven, rawStream, anyTooLarge}
+use Rattle.progressive_encoder.specs.Inner.{Lists, placeLists, bandLists, Lent, oneIf, onlyIf, magnitudes, surveyOf, Counts, Surveys, noTotal, Few}
 use Rattle.progressive_encoder.specs.declared.writer.Survey.{Survey}
 use Rattle.progressive_encoder.specs.declared.writer.Total.{Total}
 use Rattle.progressive_encoder.proofs.Placewise.{Placewise, given, chain, of-band, place-srl, place-raw}

@@ -1,4 +1,4 @@
--- Laws of what a pass writes: its values judged, how large their stream is, the ends of both streams, and places measured and stored one by one.
+-- Laws of what a pass writes: how large the stream of its values is, the ends of both streams, and places measured and stored one by one.
 -- Assumes nothing.
 use mathlib.Core.Path.{_≡_, refl, ap, sym, _∙_, subst}
 use mathlib.Core.Bool.{Bool, true, false, cond, _||_}
@@ -32,31 +32,10 @@ use Rattle.srl_encoder.proofs.Runs.{length-flush}
 use Rattle.srl_encoder.proofs.Sizes.{value-length}
 use Rattle.upgrade_steps.specs.Steps.{Step}
 use Rattle.upgrade_steps.specs.Inner.{fromSrl}
-use Rattle.progressive_encoder.specs.Encode.{srlDifference, rawDifference, valuesFault, srlStream, rawStream}
-use Rattle.progressive_encoder.specs.Inner.{Lists, placeLists, anyTooLarge, magnitudes, measuredOf, endCount, Measures, Measurable, freshSinks, streamAfter, streamWrite, endLength, endOut, Outputs, outputs, Stores, Writable}
+use Rattle.progressive_encoder.specs.Encode.{srlDifference, rawDifference, srlStream, rawStream}
+use Rattle.progressive_encoder.specs.Inner.{Lists, placeLists, magnitudes, measuredOf, endCount, Measures, Measurable, freshSinks, streamAfter, streamWrite, endLength, endOut, Outputs, outputs, Stores, Writable}
 use Rattle.progressive_encoder.specs.declared.writer.Sinks.{Sinks}
 use Rattle.progressive_encoder.proofs.Placewise.{Placewise, chain, place-srl, place-raw}
-
--- ════ judging ════
-
-judged : (w m f : ℕ) (b : Bool) → f ≡ cond b 5 0 → firstOf (cond (ltb m (2 ^ w - 1)) 0 5) f ≡ cond (ltb (2 ^ w - 1) (suc m) || b) 5 0
-judged w m f b e = by (ltb m (2 ^ w - 1)) refl
-  where
-    by : (q : Bool) → ltb m (2 ^ w - 1) ≡ q → firstOf (cond q 0 5) f ≡ cond (ltb (2 ^ w - 1) (suc m) || b) 5 0
-    by true q = e ∙ ap (λ x. cond (x || b) 5 0) (sym (le-ltb (2 ^ w - 1) (suc m) (omega (arith, ltb-true m (2 ^ w - 1) q))))
-    by false q = ap (λ x. cond (x || b) 5 0) (sym (lt-ltb (2 ^ w - 1) (suc m) (omega (arith, ltb-false m (2 ^ w - 1) q))))
-
--- where the values are too few for a run that is too long, only their size counts
-pub fault-by-size : (z : ℕ) (ws : List ℕ) (vs : List ℤ) → z + length vs ≤ 4096 → valuesFault z ws vs ≡ cond (anyTooLarge ws vs) 5 0
-unfolding valuesFault anyTooLarge
-fault-by-size z [] vs h = refl
-fault-by-size z (w ∷ ws) [] h = refl
-fault-by-size z (w ∷ ws) (pos zero ∷ vs) h =
-    ap (λ (b : Bool). firstOf (cond b 0 6) (valuesFault (z + 1) ws vs)) (lt-ltb z 4096 (omega arith))
-    ∙ fault-by-size (z + 1) ws vs (omega arith)
-    ∙ ap (λ (b : Bool). cond (b || anyTooLarge ws vs) 5 0) (sym (le-ltb (2 ^ w - 1) 0 (omega arith)))
-fault-by-size z (w ∷ ws) (pos (suc m) ∷ vs) h = judged w m (valuesFault 0 ws vs) (anyTooLarge ws vs) (fault-by-size 0 ws vs (omega arith))
-fault-by-size z (w ∷ ws) (negsuc m ∷ vs) h = judged w m (valuesFault 0 ws vs) (anyTooLarge ws vs) (fault-by-size 0 ws vs (omega arith))
 
 -- ════ how large ════
 

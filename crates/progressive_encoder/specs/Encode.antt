@@ -1,18 +1,18 @@
 -- An upgrade pass over one component, written (docs/SCOPE.md, "Upgrade pass"; MS-RDPEGFX 3.2.8.1.5.2): the bytes of both streams. The steps, and where a place's
 -- value goes, are the reader's too (`Steps` of `upgrade_steps`).
 use mathlib.Core.Path.{_≡_}
-use mathlib.Core.Bool.{Bool, _&&_}
+use mathlib.Core.Bool.{Bool, false, cond, _&&_, _||_}
 use mathlib.Core.List.{List, [], _∷_, _++_}
 use Prim.Native.Nat.{ℕ, zero, suc, _-_, _/_, _^_}
+use lib.Dec.{ltb}
 use lib.IntN.{ℤ, natAbs, _-ℤ_}
 use lib.ListN.{length}
 use Rattle.fixed.specs.Fixed.{clampI16, floorShift}
 use Rattle.bands.specs.Positions.{rowInDomain}
 use Rattle.bits.specs.Written.{bitsOfAll, pack}
-use Rattle.srl_encoder.specs.Encode.{valueZeros, valueFault}
 use Rattle.srl_encoder.specs.Finish.{streamBits}
 use Rattle.upgrade_steps.specs.Steps.{Step, Source, skipped, srl, raw, source, steps, srlWidths, rawWidths}
-use Rattle.answer.specs.Refusals.{sliceTooShort, outOfDomain, unless, firstOf, longEnough, noRoom, stored}
+use Rattle.answer.specs.Refusals.{sliceTooShort, outOfDomain, magnitudeOutOfRange, unless, firstOf, longEnough, noRoom, stored}
 use Rattle.progressive_encoder.specs.declared.Written.{Written}
 use Rattle.progressive_encoder.specs.declared.Written.the-variants.{Bytes, Refused}
 
@@ -79,22 +79,26 @@ rawBytes ts cs ps ss = rawStream (rawWidths ts ss) (rawDifferences ts cs ps ss)
 
 -- ════ refusals: 0 is none ════
 
--- "5 or 6 by the earlier value", from z pending zeros on
-unfoldable pub valuesFault : ℕ → List ℕ → List ℤ → ℕ
-valuesFault z [] vs = 0
-valuesFault z (w ∷ ws) [] = 0
-valuesFault z (w ∷ ws) (v ∷ vs) = firstOf (valueFault w z v) (valuesFault (valueZeros z v) ws vs)
+-- whether a value has "a magnitude above the maximum of its width"
+unfoldable pub anyTooLarge : List ℕ → List ℤ → Bool
+anyTooLarge [] vs = false
+anyTooLarge (w ∷ ws) [] = false
+anyTooLarge (w ∷ ws) (v ∷ vs) = ltb (2 ^ w - 1) (natAbs v) || anyTooLarge ws vs
 
--- of a pass, from none pending on
+-- 5 is refused where one has
+abbrev pub valuesFault : List ℕ → List ℤ → ℕ
+valuesFault ws vs = cond (anyTooLarge ws vs) magnitudeOutOfRange 0
+
+-- of a pass
 abbrev pub passFault : List Step → List ℤ → List ℤ → List ℤ → ℕ
-passFault ts cs ps ss = valuesFault 0 (srlWidths ts ss) (srlDifferences ts cs ps ss)
+passFault ts cs ps ss = valuesFault (srlWidths ts ss) (srlDifferences ts cs ps ss)
 
 -- "7: the answer exceeds an output slice", of either stream
 abbrev pub noRoomFor : List ℕ → List ℕ → List ℕ → List ℕ → ℕ
 noRoomFor srlBs srlOut rawBs rawOut =
     firstOf (noRoom (length srlOut) (length srlBs)) (noRoom (length rawOut) (length rawBs))
 
--- "order: .. 1, 2, .. then 5 or 6 by the earlier value, 7"
+-- "a pass is refused with 1, 2, 5 or 7 when written", in this order
 abbrev pub encodePassRefusal : List ℤ → List ℤ → List ℕ → List ℕ → List ℤ → Bool → List ℕ → List ℕ → ℕ
 encodePassRefusal cs ps prev curr ss e srlOut rawOut =
     firstOf (unless (longEnough cs && (longEnough ps && longEnough ss)) sliceTooShort)

@@ -4,8 +4,7 @@
 use mathlib.Core.Path.{_≡_}
 use mathlib.Core.Bool.{Bool, true, false, _||_}
 use mathlib.Core.List.{List, [], _∷_, _++_}
-use Prim.Native.Nat.{ℕ, zero, suc, _+_, _-_, _*_, _^_, _≤_, max}
-use lib.Dec.{ltb}
+use Prim.Native.Nat.{ℕ, zero, suc, _+_, _-_, _*_, _≤_, max}
 use lib.IntN.{ℤ, natAbs}
 use lib.ListN.{length, drop, set, replicate}
 use lib.Seq.{sets}
@@ -19,7 +18,7 @@ use Rattle.srl_encoder.specs.Inner.{largest, bitCountOf, Good, GoodMeasure}
 use Rattle.srl_encoder.specs.declared.encoder.CallState.{CallState}
 use Rattle.srl_encoder.specs.declared.encoder.Measured.{Measured}
 use Rattle.upgrade_steps.specs.Steps.{Step, srlWidths, rawWidths}
-use Rattle.progressive_encoder.specs.Encode.{srlDifferences, rawDifferences, srlStream, rawStream, valuesFault, noRoomFor, written}
+use Rattle.progressive_encoder.specs.Encode.{srlDifferences, rawDifferences, srlStream, rawStream, anyTooLarge, valuesFault, noRoomFor, written}
 use Rattle.progressive_encoder.specs.declared.Written.{Written}
 use Rattle.progressive_encoder.specs.declared.writer.Survey.{Survey}
 use Rattle.progressive_encoder.specs.declared.writer.Total.{Total}
@@ -87,12 +86,6 @@ onlyIf false m = 0
 abbrev pub magnitudes : List ℤ → ℕ
 magnitudes [] = 0
 magnitudes (v ∷ vs) = natAbs v + magnitudes vs
-
--- whether a value is larger than its width admits
-unfoldable pub anyTooLarge : List ℕ → List ℤ → Bool
-anyTooLarge [] vs = false
-anyTooLarge (w ∷ ws) [] = false
-anyTooLarge (w ∷ ws) (v ∷ vs) = ltb (2 ^ w - 1) (natAbs v) || anyTooLarge ws vs
 
 -- a survey by its three parts
 abbrev pub surveyOf : ℕ → ℕ → ℕ → Survey
@@ -213,7 +206,7 @@ endOut (suc n) out c =
 -- what is refused of what places give, or 0
 abbrev pub listsRefusal : Lists → List ℕ → List ℕ → ℕ
 listsRefusal l srlOut rawOut =
-    firstOf (valuesFault 0 (l .widths) (l .values))
+    firstOf (valuesFault (l .widths) (l .values))
     (noRoomFor (srlStream (l .widths) (l .values)) srlOut (rawStream (l .numberWidths) (l .numbers)) rawOut)
 
 -- the answer

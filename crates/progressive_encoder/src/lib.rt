@@ -3,6 +3,7 @@
 // A refusal has a number (docs/SCOPE.md, "Refusals") and alters nothing.
 
 ghost use Rattle.progressive_encoder.specs.Encode.{EncodesPass};
+ghost use Rattle.progressive_encoder.specs.Pending.{FewPendingZeros};
 
 mod writer;
 
@@ -50,3 +51,8 @@ pub fn encode_upgrade_pass(
         raw_out,
     )
 }
+
+// While a pass is written, never more zeros are pending than it can have SRL values, of which there are fewer than 4,096.
+pub fn few_pending_zeros()
+    ensures { λ _. ⌜ FewPendingZeros ⌝ }
+{}

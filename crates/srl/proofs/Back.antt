@@ -31,7 +31,7 @@ use Rattle.srl_decoder.proofs.Values.{AlikeReader, alike, reader-trans, values-
 -- ════ accepted calls ════
 
 -- a value that the encoder does not refuse is legal at its width
-pub value-legal : (w z : ℕ) (v : ℤ) → valueFault w z v ≡ 0 → natAbs v < 2 ^ w
+value-legal : (w z : ℕ) (v : ℤ) → valueFault w z v ≡ 0 → natAbs v < 2 ^ w
 value-legal w z (pos zero) e = pow-pos w
 value-legal w z (pos (suc m)) e = omega (arith, passes m (2 ^ w - 1) 4 e)
 value-legal w z (negsuc m) e = omega (arith, passes m (2 ^ w - 1) 4 e)

@@ -1,2 +1,3 @@
 -- Laws for the reader and the writer of a pass.
 pub mod Sources
+pub mod Counts

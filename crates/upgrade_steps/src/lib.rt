@@ -4,6 +4,7 @@
 ghost use mathlib.Core.Path.{_≡_};
 ghost use Prim.Native.Nat.{_-_};
 ghost use Rattle.upgrade_steps.specs.Steps.{stepAt};
+ghost use Rattle.upgrade_steps.specs.Counts.{FewSrlValues};
 ghost use Rattle.upgrade_steps.specs.Inner.{bandStep, fromSrl};
 
 pub mod positions;
@@ -45,3 +46,8 @@ pub fn from_srl(t: BandStep, s: i8) -> bool
     }
     fixed::is_zero_sign(s)
 }
+
+// A pass over a component has at most 4,032 SRL values, 4,015 in the reduce-extrapolate layout.
+pub fn few_srl_values()
+    ensures { λ _. ⌜ FewSrlValues ⌝ }
+{}

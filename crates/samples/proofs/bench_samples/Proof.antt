@@ -19,7 +19,7 @@ use Rattle.srl_decoder.proofs.Due.{due-past, values-past}
 use Rattle.srl_encoder.specs.Finish.{streamBits}
 use Rattle.upgrade_steps.specs.Steps.{srlWidths, rawWidths}
 use Rattle.progressive_decoder.specs.Upgrade.{signsAfter, coefficientsAfter}
-use Rattle.progressive_encoder.specs.Encode.{srlDifferences, rawDifferences, valuesFault}
+use Rattle.progressive_encoder.specs.Encode.{srlDifferences, rawDifferences, anyTooLarge}
 use Rattle.color.specs.Color.{red, green, blue}
 use Rattle.samples.specs.Samples.{BenchSamples}
 use Rattle.samples.proofs.bench_samples.Statement.{statement}
@@ -44,7 +44,7 @@ empty out n w h =
     ∙ ap (λ (k : ℕ). replicate n (pos 0) ++ drop k out) (length-replicate n (pos 0))
 
 samples : BenchSamples
-unfolding values readerAfter num zeros numbers clampI16 clampU8 addScaled subScaled isZero isOne spread srlWidths rawWidths signsAfter coefficientsAfter srlDifferences rawDifferences valuesFault streamBits bitsOfAll red green blue
+unfolding values readerAfter num zeros numbers clampI16 clampU8 addScaled subScaled isZero isOne spread srlWidths rawWidths signsAfter coefficientsAfter srlDifferences rawDifferences anyTooLarge streamBits bitsOfAll red green blue
 samples = record {
   srl-written = refl;
   srl-read = refl;

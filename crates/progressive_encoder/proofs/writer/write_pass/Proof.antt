@@ -8,8 +8,8 @@ use lib.ListN.{length}
 use borrow.Author.Tests.{lt-ltb, le-ltb, ltb-false}
 use Rattle.answer.specs.Refusals.{magnitudeOutOfRange, outputTooShort, firstOf}
 use Rattle.upgrade_steps.specs.Steps.{steps}
-use Rattle.progressive_encoder.specs.Encode.{srlStream, rawStream}
-use Rattle.progressive_encoder.specs.Inner.{Lists, passLists, anyTooLarge}
+use Rattle.progressive_encoder.specs.Encode.{srlStream, rawStream, anyTooLarge}
+use Rattle.progressive_encoder.specs.Inner.{Lists, passLists}
 use Rattle.progressive_encoder.proofs.BothStreams.{refusal-is, refused, accepted}
 use Rattle.progressive_encoder.proofs.Surveyed.{survey-bad, survey-bytes}
 use borrow.Author.Needs.{needs}
@@ -20,11 +20,7 @@ use Rattle.progressive_encoder.proofs.writer.write_pass.Tie as tie
 given : tie.Start → Lists
 given k = passLists (steps (k .args .use-reduce-extrapolate) (k .args .prev) (k .args .curr)) (k .args .coefficients .now) (k .args .prev-coefficients .now) (k .args .sign .now)
 
--- few values, one of which may be too large, and so many raw bytes
-few : (c : tie.After-survey-bands) → length (given (c .before .before .before) .values) ≤ 4096
-unfolding given
-few c = omega (arith, c .survey-bands .ensures .over .count, c .survey-bands .ensures .bound .count)
-
+-- whether a value is too large, and so many raw bytes
 bad : (c : tie.After-survey-bands) → c .survey-bands .result .bad ≡ anyTooLarge (given (c .before .before .before) .widths) (given (c .before .before .before) .values)
 unfolding given
 bad c = survey-bad (given (c .before .before .before)) (c .survey-bands .result) (c .survey-bands .ensures .over)
@@ -39,7 +35,7 @@ returns c =
     let k = c .before .before .before .before in
     let a = k .args in
     refused (given k) (a .srl-out .now) (a .raw-out .now) magnitudeOutOfRange (λ e. omega arith)
-    (refusal-is (given k) (a .srl-out .now) (a .raw-out .now) (few (c .before)) (sym (c .if1 .taken) ∙ bad (c .before)) refl refl)
+    (refusal-is (given k) (a .srl-out .now) (a .raw-out .now) (sym (c .if1 .taken) ∙ bad (c .before)) refl refl)
 
 -- no room for the raw stream, whatever the other has
 either-full : (b : Bool) → firstOf (cond b outputTooShort 0) outputTooShort ≡ outputTooShort
@@ -54,7 +50,7 @@ returns-2 c =
     let l = given k in
     let full = lt-ltb (length (a .raw-out .now)) (length (rawStream (l .numberWidths) (l .numbers))) (omega (arith, c .if2 .taken, bytes (c .before .before .before))) in
     refused l (a .srl-out .now) (a .raw-out .now) outputTooShort (λ e. omega arith)
-    (refusal-is l (a .srl-out .now) (a .raw-out .now) (few (c .before .before .before)) (sym (c .before .before .if1 .left) ∙ bad (c .before .before .before)) refl (sym full)
+    (refusal-is l (a .srl-out .now) (a .raw-out .now) (sym (c .before .before .if1 .left) ∙ bad (c .before .before .before)) refl (sym full)
     ∙ either-full (ltb (length (a .srl-out .now)) (length (srlStream (l .widths) (l .values)))))
 
 -- the raw stream has room
@@ -68,7 +64,7 @@ returns-3 c =
     let k = c .before .before .before .before .before .before .before .before in
     let a = k .args in
     refused (given k) (a .srl-out .now) (a .raw-out .now) outputTooShort (λ e. omega arith)
-    (refusal-is (given k) (a .srl-out .now) (a .raw-out .now) (few (c .before .before .before .before .before)) (sym (c .before .before .before .before .if1 .left) ∙ bad (c .before .before .before .before .before)) (sym (c .if3 .taken) ∙ c .before .srl-exceeds .ensures) refl)
+    (refusal-is (given k) (a .srl-out .now) (a .raw-out .now) (sym (c .before .before .before .before .if1 .left) ∙ bad (c .before .before .before .before .before)) (sym (c .if3 .taken) ∙ c .before .srl-exceeds .ensures) refl)
 
 returns-4 : tie.Need-returns-4
 unfolding given
@@ -76,7 +72,7 @@ returns-4 c =
     let k = c .before .before .before .before .before .before .before .before .before .before .before .before .before .before .before in
     let a = k .args in
     let e = sym (c .before .before .before .before .before .before .before .if3 .left) ∙ c .before .before .before .before .before .before .before .before .srl-exceeds .ensures in
-    let none = refusal-is (given k) (a .srl-out .now) (a .raw-out .now) (few (c .before .before .before .before .before .before .before .before .before .before .before .before)) (sym (c .before .before .before .before .before .before .before .before .before .before .before .if1 .left) ∙ bad (c .before .before .before .before .before .before .before .before .before .before .before .before)) e (sym (le-ltb _ _ (room (c .before .before .before .before .before .before .before .before .before)))) in
+    let none = refusal-is (given k) (a .srl-out .now) (a .raw-out .now) (sym (c .before .before .before .before .before .before .before .before .before .before .before .if1 .left) ∙ bad (c .before .before .before .before .before .before .before .before .before .before .before .before)) e (sym (le-ltb _ _ (room (c .before .before .before .before .before .before .before .before .before)))) in
     accepted (given k) (a .srl-out .now) (a .raw-out .now) none (ltb-false _ _ (sym e)) (room (c .before .before .before .before .before .before .before .before .before)) (c .before .before .before .before .write-streams .ensures)
 
 pub write-pass-spec : {M : Type 1} → statement M
