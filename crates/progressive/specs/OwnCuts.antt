@@ -4,9 +4,8 @@ use mathlib.Core.Path.{_≡_}
 use mathlib.Core.Logic.{_≢_}
 use mathlib.Core.Bool.{Bool, false}
 use mathlib.Core.List.{List, [], _∷_}
-use Prim.Native.Nat.{ℕ, _+_, _≤_}
+use Prim.Native.Nat.{ℕ, _+_}
 use lib.IntN.{ℤ}
-use lib.ListN.{length}
 use Rattle.fixed.specs.Fixed.{signOf}
 use Rattle.fixed.specs.Cut.{towardZero}
 use Rattle.answer.specs.Refusals.{magnitudeOutOfRange}

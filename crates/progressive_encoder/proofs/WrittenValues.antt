@@ -1,13 +1,11 @@
 -- Laws of what a pass writes: how large the stream of its values is, the ends of both streams, and places measured and stored one by one.
 -- Assumes nothing.
 use mathlib.Core.Path.{_≡_, refl, ap, sym, _∙_, subst}
-use mathlib.Core.Bool.{Bool, true, false, cond, _||_}
+use mathlib.Core.Bool.{true, false}
 use mathlib.Core.List.{List, [], _∷_, _++_, append-nil}
-use Prim.Native.Nat.{ℕ, zero, suc, _+_, _-_, _*_, _/_, _^_, _≤_, _<_}
+use Prim.Native.Nat.{ℕ, zero, suc, _+_, _-_, _*_, _/_, _≤_, _<_}
 use native.Mathlib.Nat.{zero-add}
 use native.Mathlib.Omega.{arith}
-use borrow.Author.Tests.{lt-ltb, le-ltb, ltb-true, ltb-false}
-use lib.Dec.{ltb}
 use lib.IntN.{ℤ, pos, negsuc, natAbs, _-ℤ_, +ℤ-invr}
 use lib.ListN.{length, set, length-append}
 use lib.Seq.{sets}
@@ -15,7 +13,6 @@ use mir.Val.{SFits, toZ, ofZ}
 use mir.Syntax.{w8, w16}
 use mir.ValLaws.{toZ-ofZ}
 use Rattle.fixed.specs.Fixed.{clampI16, floorShift}
-use Rattle.answer.specs.Refusals.{firstOf}
 use Rattle.bits.specs.Written.{bitsOf, bitsOfAll, after, pack}
 use Rattle.bits.specs.Inner.{write, counted, padCount, padOut}
 use Rattle.bits.specs.declared.writer.BitWriter.{BitWriter}
