@@ -19,7 +19,7 @@
  *   3  pixels wanted in the standard layout
  *   4  an SRL width outside 1..15 (decode: only where a nonzero value is due)
  *   5  a magnitude above the maximum of its width, 2^width - 1
- *   6  more than 4,096 pending zeros
+ *   6  more than 4,096 pending zeros (tarjimp_srl_encode)
  *   7  the answer exceeds an output slice
  *   8  an impossible coder state
  *

@@ -24,7 +24,7 @@ pub enum Error {
         /// The maximum of its width.
         max: u16,
     },
-    /// 6: more than 4,096 zeros are pending.
+    /// 6: more than 4,096 zeros are pending in an [`SrlEncoder`](crate::srl::SrlEncoder).
     ZeroRunTooLong,
     /// 7: the answer exceeds an output slice. No call of this crate gives it: their outputs grow.
     OutputTooShort,

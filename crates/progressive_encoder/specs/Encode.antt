@@ -98,7 +98,7 @@ abbrev pub noRoomFor : List ℕ → List ℕ → List ℕ → List ℕ → ℕ
 noRoomFor srlBs srlOut rawBs rawOut =
     firstOf (noRoom (length srlOut) (length srlBs)) (noRoom (length rawOut) (length rawBs))
 
--- "a pass is refused with 1, 2, 5 or 7 when written", in this order
+-- "the writer of a pass gives 1, 2, 5 and 7", the first of them in this order
 abbrev pub encodePassRefusal : List ℤ → List ℤ → List ℕ → List ℕ → List ℤ → Bool → List ℕ → List ℕ → ℕ
 encodePassRefusal cs ps prev curr ss e srlOut rawOut =
     firstOf (unless (longEnough cs && (longEnough ps && longEnough ss)) sliceTooShort)
