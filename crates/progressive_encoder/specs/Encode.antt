@@ -85,7 +85,7 @@ anyTooLarge [] vs = false
 anyTooLarge (w ∷ ws) [] = false
 anyTooLarge (w ∷ ws) (v ∷ vs) = ltb (2 ^ w - 1) (natAbs v) || anyTooLarge ws vs
 
--- 5 is refused where one has
+-- 5 where one has
 abbrev pub valuesFault : List ℕ → List ℤ → ℕ
 valuesFault ws vs = cond (anyTooLarge ws vs) magnitudeOutOfRange 0
 
