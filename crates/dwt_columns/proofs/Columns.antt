@@ -3,16 +3,15 @@
 use mathlib.Core.Path.{_≡_, refl, sym, ap, ap₂, _∙_}
 use mathlib.Core.List.{List, [], _∷_, map, zipWith, flatten}
 use Prim.Native.Nat.{ℕ, zero, suc, _+_, _*_, _≤_}
-use native.Mathlib.Nat.{suc-mul}
 use native.Mathlib.Omega.{arith}
 use lib.IntN.{ℤ, pos}
-use lib.ListN.{length, getD, drop, length-append, length-map}
+use lib.ListN.{length, getD, drop, length-map}
 use Rattle.dwt_lines.specs.Line.{edge, even, odd, half, mean, Halves, from, line}
 use Rattle.dwt_lines.proofs.Lines.{line-length}
 use Rattle.dwt_columns.specs.Columns.{rows, columns, down}
 use Rattle.dwt_columns.specs.Inner.{zipWith3, fromRows, lineRows}
 use Rattle.dwt_columns.proofs.Places.{zip-length, zip-get, zip-drop, zip3-length, zip3-get, zip3-drop}
-use Rattle.dwt_columns.proofs.Wide.{Wide, rows-wide}
+use Rattle.dwt_columns.proofs.Wide.{Wide, flat-length, rows-wide}
 
 -- the first place of a row
 abbrev head : List ℤ → ℤ
@@ -34,11 +33,11 @@ unfolding columns
 columns-count zero rs = refl
 columns-count (suc w) rs = ap suc (columns-count w (tails rs))
 
--- so many places they take, laid out one after another
-columns-flat : (w : ℕ) (rs : List (List ℤ)) → length (flatten (columns w rs)) ≡ w * length rs
-unfolding columns flatten
-columns-flat zero rs = omega arith
-columns-flat (suc w) rs = rw (length-append, length-map, columns-flat w (tails rs), length-map, suc-mul) (omega arith)
+-- each as long as there are rows
+pub columns-wide : (w : ℕ) (rs : List (List ℤ)) → Wide (length rs) (columns w rs)
+unfolding columns
+columns-wide zero rs = tt
+columns-wide (suc w) rs = (length-map rs _, rw (length-map rs (drop 1)) at (columns-wide w (tails rs)))
 
 -- the first row, of columns
 columns-head : (w : ℕ) (r : List ℤ) (rs : List (List ℤ)) → length r ≡ w → heads (columns w (r ∷ rs)) ≡ r
@@ -171,5 +170,6 @@ rows-down w p q b d v e m n =
 pub down-flat : (n : ℕ) (ls hs : List (List ℤ)) → length (flatten (down n ls hs)) ≡ n * n
 unfolding down
 down-flat n ls hs =
-    let c : length (zipWith line (columns n ls) (columns n hs)) ≡ n = zip-length line (columns n ls) (columns n hs) (columns-count n ls) (columns-count n hs) in
-    columns-flat n (zipWith line (columns n ls) (columns n hs)) ∙ ap (λ (k : ℕ). n * k) c
+    let cs : List (List ℤ) = zipWith line (columns n ls) (columns n hs) in
+    let c : length cs ≡ n = zip-length line (columns n ls) (columns n hs) (columns-count n ls) (columns-count n hs) in
+    flat-length (length cs) (columns n cs) (columns-wide n cs) ∙ rw (columns-count n cs, c)
