@@ -1,4 +1,4 @@
--- Blocks: the rows of a block, what its two steps leave in scratch and buffer, and the three blocks one after another.
+-- Blocks: the rows of a block and the halves of its lines, what its two steps leave in scratch and buffer, and the three blocks one after another.
 -- Assumes nothing.
 use mathlib.Core.Path.{_≡_, sym, ap, _∙_}
 use mathlib.Core.List.{List, [], _++_, append-assoc, append-nil, flatten}
@@ -15,9 +15,9 @@ use Rattle.dwt_extrapolate.specs.Made.{BlockLines}
 use Rattle.dwt_columns.specs.Columns.{rows, columns, down}
 use Rattle.dwt_columns.specs.Inner.{putPart}
 use Rattle.dwt_columns.proofs.Put.{part-length, to-end, drop-more}
-use Rattle.dwt_columns.proofs.Wide.{Wide, flat-length, rows-wide}
+use Rattle.dwt_columns.proofs.Wide.{Wide, flat-length}
 use Rattle.dwt_columns.proofs.Columns.{columns-wide}
-use Rattle.dwt_extrapolate.proofs.Rows.{flat-rows, lines-wide, each-line}
+use Rattle.dwt_extrapolate.proofs.Rows.{flat-rows, lines-wide, each-line, each-row}
 
 -- ════ the rows of a block ════
 
@@ -35,9 +35,10 @@ module _ (p q : ℕ) (v : Halves p q) (b : List ℤ) (nb : (p + q) * (p + q) ≤
   -- the halves of its lines
   pub block-lines : BlockLines p q b
   block-lines = record {
-    low-rows = each-line p q v (rows p p (drop (q * p + p * q + q * q) b)) (rows q p b) (rows-wide p p (drop (q * p + p * q + q * q) b) (simp length-drop (omega arith)) .1) (rows-wide q p b (omega arith) .1);
-    high-rows = each-line p q v (rows p q (drop (q * p) b)) (rows q q (drop (q * p + p * q) b)) (rows-wide p q (drop (q * p) b) (simp length-drop (omega arith)) .1) (rows-wide q q (drop (q * p + p * q) b) (simp length-drop (omega arith)) .1);
-    all-columns = each-line (length (lows p q b)) (length (highs p q b)) (rw (lows-wide .0, highs-wide .0) v) (columns (p + q) (lows p q b)) (columns (p + q) (highs p q b)) (columns-wide (p + q) (lows p q b)) (columns-wide (p + q) (highs p q b));
+    low-rows = each-row p q v p (drop (q * p + p * q + q * q) b) b (simp length-drop (omega arith)) (omega arith);
+    high-rows = each-row p q v q (drop (q * p) b) (drop (q * p + p * q) b) (simp length-drop (omega arith)) (simp length-drop (omega arith));
+    all-columns = each-line (length (lows p q b)) (length (highs p q b)) (rw (lows-wide .0, highs-wide .0) v)
+        (columns (p + q) (lows p q b)) (columns (p + q) (highs p q b)) (columns-wide (p + q) (lows p q b)) (columns-wide (p + q) (highs p q b));
   }
 
   -- how long the low rows are, laid out one after another

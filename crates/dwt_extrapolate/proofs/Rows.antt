@@ -1,4 +1,4 @@
--- Rows laid out one after another, and the lines of a number of rows: one more, none, how many and how wide they are.
+-- Rows laid out one after another, and the lines of a number of rows: one more, none, how many and how wide they are, and their halves.
 -- Assumes nothing.
 use mathlib.Core.Path.{_≡_, refl, ap, _∙_}
 use mathlib.Core.List.{List, [], _∷_, _++_, append-assoc, zipWith, flatten}
@@ -15,7 +15,7 @@ use Rattle.dwt_extrapolate.specs.Made.{EachLine}
 use Rattle.dwt_columns.specs.Columns.{rows}
 use Rattle.dwt_columns.specs.Inner.{putPart}
 use Rattle.dwt_columns.proofs.Put.{put-take}
-use Rattle.dwt_columns.proofs.Wide.{Wide}
+use Rattle.dwt_columns.proofs.Wide.{Wide, rows-wide}
 
 -- ════ rows of w places ════
 
@@ -62,3 +62,7 @@ pub each-line : (p q : ℕ) → Halves p q → (ls hs : List (List ℤ)) → Wid
 each-line p q v [] hs el ek = tt
 each-line p q v (l ∷ ls) [] el ek = tt
 each-line p q v (l ∷ ls) (h ∷ hs) el ek = (rw (el .0, ek .0) v, each-line p q v ls hs (el .1) (ek .1))
+
+-- and so do n rows of two lists
+pub each-row : (p q : ℕ) → Halves p q → (n : ℕ) (b e : List ℤ) → n * p ≤ length b → n * q ≤ length e → EachLine (rows p n b) (rows q n e)
+each-row p q v n b e f g = each-line p q v (rows p n b) (rows q n e) (rows-wide p n b f .1) (rows-wide q n e g .1)

@@ -14,20 +14,20 @@ EachLine (l ∷ ls) (h ∷ hs) = Halves (length l) (length h) × EachLine ls hs
 EachLine (l ∷ ls) [] = Unit
 EachLine [] hs = Unit
 
--- all lines of a block of p low and q high samples that b begins with: the lists are those that `lows`, `highs` and `down` join
+-- so in all lines of a block of p low and q high samples, which b begins with: the lists are those that `lows`, `highs` and `down` join
 pub record BlockLines (p q : ℕ) (b : List ℤ) : Type 0 where
-  -- "LL with HL": the rows of low samples
+  -- "LL with HL": a row of LL is the low half of a line, a row of HL the high one
   pub low-rows : EachLine (rows p p (drop (q * p + p * q + q * q) b)) (rows q p b)
-  -- "LH with HH": the rows of high samples
+  -- "then LH with HH": a row of LH is the low half, a row of HH the high one
   pub high-rows : EachLine (rows p q (drop (q * p) b)) (rows q q (drop (q * p + p * q) b))
-  -- "then columns": each of a column of low samples and one of high ones
+  -- "then columns": a column of the rows of low samples is the low half, one of the rows of high samples the high one
   pub all-columns : EachLine (columns (p + q) (lows p q b)) (columns (p + q) (highs p q b))
 
--- all lines of the three blocks that `inverse` makes of a component b
+-- so in all lines that `inverse` makes of a component b, block by block
 pub record LineHalves : Type 0 where
-  -- 9/8, of the component
+  -- 9/8, at offset 3807
   pub first : (b : List ℤ) → 4096 ≤ length b → BlockLines 9 8 (drop 3807 b)
-  -- 17/16, of what the first block leaves
+  -- 17/16, at offset 3007 of what the first block leaves
   pub second : (b : List ℤ) → 4096 ≤ length b → BlockLines 17 16 (drop 3007 (blockAt 3807 9 8 b))
-  -- 33/31, of what both leave
+  -- 33/31, at offset 0 of what both leave
   pub third : (b : List ℤ) → 4096 ≤ length b → BlockLines 33 31 (inner b)

@@ -13,11 +13,11 @@ returns : tie.Need-returns
 returns c = record {
   first = λ b n. block-lines 9 8 first-halves (drop 3807 b) (simp length-drop (omega arith));
   second = λ b n.
-    let e : length (blockAt 3807 9 8 b) ≡ length b = block-at-length 3807 9 8 b (omega arith) in
-    block-lines 17 16 second-halves (drop 3007 (blockAt 3807 9 8 b)) (simp length-drop (omega arith));
+      let e : length (blockAt 3807 9 8 b) ≡ length b = block-at-length 3807 9 8 b (omega arith) in
+      block-lines 17 16 second-halves (drop 3007 (blockAt 3807 9 8 b)) (simp length-drop (omega arith));
   third = λ b n.
-    let e : length (inner b) ≡ length b = inner-length b n in
-    block-lines 33 31 third-halves (inner b) (omega arith);
+      let e : length (inner b) ≡ length b = inner-length b n in
+      block-lines 33 31 third-halves (inner b) (omega arith);
 }
 
 pub line-halves-spec : {M : Type 1} → statement M
