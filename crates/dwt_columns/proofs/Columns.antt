@@ -3,17 +3,15 @@
 use mathlib.Core.Path.{_≡_, refl, sym, ap, ap₂, _∙_}
 use mathlib.Core.List.{List, [], _∷_, map, zipWith, flatten}
 use Prim.Native.Nat.{ℕ, zero, suc, _+_, _*_, _≤_}
-use native.Mathlib.Nat.{suc-mul}
 use native.Mathlib.Omega.{arith}
 use lib.IntN.{ℤ, pos}
-use lib.ListN.{length, getD, drop, length-append, length-map}
-use Rattle.dwt_lines.specs.Line.{edge, even, odd, half, mean, oddTail, from, line}
-use Rattle.dwt_lines.specs.Inner.{Halves}
+use lib.ListN.{length, getD, drop, length-map}
+use Rattle.dwt_lines.specs.Line.{edge, even, odd, half, mean, Halves, from, line}
 use Rattle.dwt_lines.proofs.Lines.{line-length}
 use Rattle.dwt_columns.specs.Columns.{rows, columns, down}
 use Rattle.dwt_columns.specs.Inner.{zipWith3, fromRows, lineRows}
 use Rattle.dwt_columns.proofs.Places.{zip-length, zip-get, zip-drop, zip3-length, zip3-get, zip3-drop}
-use Rattle.dwt_columns.proofs.Wide.{Wide, rows-wide}
+use Rattle.dwt_columns.proofs.Wide.{Wide, flat-length, rows-wide}
 
 -- the first place of a row
 abbrev head : List ℤ → ℤ
@@ -35,11 +33,11 @@ unfolding columns
 columns-count zero rs = refl
 columns-count (suc w) rs = ap suc (columns-count w (tails rs))
 
--- so many places they take, laid out one after another
-columns-flat : (w : ℕ) (rs : List (List ℤ)) → length (flatten (columns w rs)) ≡ w * length rs
-unfolding columns flatten
-columns-flat zero rs = omega arith
-columns-flat (suc w) rs = rw (length-append, length-map, columns-flat w (tails rs), length-map, suc-mul) (omega arith)
+-- each as long as there are rows
+pub columns-wide : (w : ℕ) (rs : List (List ℤ)) → Wide (length rs) (columns w rs)
+unfolding columns
+columns-wide zero rs = tt
+columns-wide (suc w) rs = (length-map rs _, rw (length-map rs (drop 1)) at (columns-wide w (tails rs)))
 
 -- the first row, of columns
 columns-head : (w : ℕ) (r : List ℤ) (rs : List (List ℤ)) → length r ≡ w → heads (columns w (r ∷ rs)) ≡ r
@@ -65,49 +63,49 @@ columns-back w (r ∷ rs) v = ap₂ _∷_ (columns-head w r rs (v .0)) (ap (colu
 
 module _ (w : ℕ) where
   -- from the even row x on
-  from-heads : (x h : List ℤ) (ls hs : List (List ℤ)) → length x ≡ suc w → length h ≡ suc w → Wide (suc w) ls → Wide (suc w) hs
-      → heads (fromRows x h ls hs) ≡ from (head x) (head h) (heads ls) (heads hs)
+  from-heads : (x h l : List ℤ) (ls hs : List (List ℤ)) → length x ≡ suc w → length h ≡ suc w → length l ≡ suc w → Wide (suc w) ls → Wide (suc w) hs
+      → heads (fromRows x h l ls hs) ≡ from (head x) (head h) (head l) (heads ls) (heads hs)
   unfolding from fromRows
-  from-heads x h [] hs ex eh el ek = rw (zip-get oddTail x h 0 (pos 0) (omega arith) (omega arith))
-  from-heads x h (l ∷ []) [] ex eh el ek =
-      let n : length (zipWith edge l h) ≡ suc w = zip-length edge l h (el .0) eh in
+  from-heads x h l [] hs ex eh el em ek =
+      let n : length (zipWith edge l h) ≡ suc w = zip-length edge l h el eh in
       rw (zip3-get odd x (zipWith edge l h) h 0 (pos 0) (omega arith) (omega arith) (omega arith), zip-get edge l h 0 (pos 0) (omega arith) (omega arith))
-  from-heads x h (l ∷ m ∷ ls) [] ex eh el ek =
-      let n : length (zipWith half l h) ≡ suc w = zip-length half l h (el .0) eh in
-      let em : length m ≡ suc w = el .1 .0 in
+  from-heads x h l (m ∷ ls) [] ex eh el em ek =
+      let n : length (zipWith half l h) ≡ suc w = zip-length half l h el eh in
+      let nm : length m ≡ suc w = em .0 in
       rw (zip-get mean (zipWith half l h) m 0 (pos 0) (omega arith) (omega arith), zip3-get odd x (zipWith half l h) h 0 (pos 0) (omega arith) (omega arith) (omega arith), zip-get half l h 0 (pos 0) (omega arith) (omega arith))
-  from-heads x h (l ∷ ls) (k ∷ hs) ex eh el ek =
-      let n : length (zipWith3 even l h k) ≡ suc w = zip3-length even l h k (el .0) eh (ek .0) in
+  from-heads x h l (m ∷ ls) (k ∷ hs) ex eh el em ek =
+      let n : length (zipWith3 even l h k) ≡ suc w = zip3-length even l h k el eh (ek .0) in
       let e : head (zipWith3 even l h k) ≡ even (head l) (head h) (head k) = zip3-get even l h k 0 (pos 0) (omega arith) (omega arith) (omega arith) in
       let o : head (zipWith3 odd x (zipWith3 even l h k) h) ≡ odd (head x) (head (zipWith3 even l h k)) (head h) = zip3-get odd x (zipWith3 even l h k) h 0 (pos 0) (omega arith) (omega arith) (omega arith) in
-      rw (o, from-heads (zipWith3 even l h k) k ls hs n (ek .0) (el .1) (ek .1), e)
+      rw (o, from-heads (zipWith3 even l h k) k m ls hs n (ek .0) (em .0) (em .1) (ek .1), e)
 
   -- it is the line of the first columns
   line-heads : (ls hs : List (List ℤ)) → Wide (suc w) ls → Wide (suc w) hs → heads (lineRows ls hs) ≡ line (heads ls) (heads hs)
   unfolding line lineRows
   line-heads [] hs el ek = refl
-  line-heads (l ∷ ls) [] el ek = refl
-  line-heads (l ∷ ls) (h ∷ hs) el ek =
+  line-heads (l ∷ []) hs el ek = refl
+  line-heads (l ∷ m ∷ ls) [] el ek = refl
+  line-heads (l ∷ m ∷ ls) (h ∷ hs) el ek =
       let n : length (zipWith edge l h) ≡ suc w = zip-length edge l h (el .0) (ek .0) in
-      from-heads (zipWith edge l h) h ls hs n (ek .0) (el .1) (ek .1)
-      ∙ ap (λ (z : ℤ). from z (head h) (heads ls) (heads hs)) (zip-get edge l h 0 (pos 0) (omega arith) (omega arith))
+      from-heads (zipWith edge l h) h m ls hs n (ek .0) (el .1 .0) (el .1 .1) (ek .1)
+      ∙ ap (λ (z : ℤ). from z (head h) (head m) (heads ls) (heads hs)) (zip-get edge l h 0 (pos 0) (omega arith) (omega arith))
 
 -- ════ the other columns ════
 
 -- from the even row x on
-from-tails : (x h : List ℤ) (ls hs : List (List ℤ)) → tails (fromRows x h ls hs) ≡ fromRows (drop 1 x) (drop 1 h) (tails ls) (tails hs)
+from-tails : (x h l : List ℤ) (ls hs : List (List ℤ)) → tails (fromRows x h l ls hs) ≡ fromRows (drop 1 x) (drop 1 h) (drop 1 l) (tails ls) (tails hs)
 unfolding fromRows
-from-tails x h [] hs = rw (zip-drop oddTail x h)
-from-tails x h (l ∷ []) [] = rw (zip3-drop odd x (zipWith edge l h) h, zip-drop edge l h)
-from-tails x h (l ∷ m ∷ ls) [] = rw (zip3-drop odd x (zipWith half l h) h, zip-drop mean (zipWith half l h) m, zip-drop half l h)
-from-tails x h (l ∷ ls) (k ∷ hs) = rw (zip3-drop odd x (zipWith3 even l h k) h, from-tails (zipWith3 even l h k) k ls hs, zip3-drop even l h k)
+from-tails x h l [] hs = rw (zip3-drop odd x (zipWith edge l h) h, zip-drop edge l h)
+from-tails x h l (m ∷ ls) [] = rw (zip3-drop odd x (zipWith half l h) h, zip-drop mean (zipWith half l h) m, zip-drop half l h)
+from-tails x h l (m ∷ ls) (k ∷ hs) = rw (zip3-drop odd x (zipWith3 even l h k) h, from-tails (zipWith3 even l h k) k m ls hs, zip3-drop even l h k)
 
 -- without the first column, the rows are those of the rows without it
 line-tails : (ls hs : List (List ℤ)) → tails (lineRows ls hs) ≡ lineRows (tails ls) (tails hs)
 unfolding lineRows
 line-tails [] hs = refl
-line-tails (l ∷ ls) [] = refl
-line-tails (l ∷ ls) (h ∷ hs) = from-tails (zipWith edge l h) h ls hs ∙ ap (λ (z : List ℤ). fromRows z (drop 1 h) (tails ls) (tails hs)) (zip-drop edge l h)
+line-tails (l ∷ []) hs = refl
+line-tails (l ∷ m ∷ ls) [] = refl
+line-tails (l ∷ m ∷ ls) (h ∷ hs) = from-tails (zipWith edge l h) h m ls hs ∙ ap (λ (z : List ℤ). fromRows z (drop 1 h) (drop 1 m) (tails ls) (tails hs)) (zip-drop edge l h)
 
 -- ════ all of them ════
 
@@ -126,25 +124,25 @@ line-columns (suc w) ls hs el ek =
 
 module _ (w : ℕ) where
   -- rows of rows that are w wide are w wide, from the even row x on
-  from-wide : (x h : List ℤ) (ls hs : List (List ℤ)) → length x ≡ w → length h ≡ w → Wide w ls → Wide w hs → Wide w (fromRows x h ls hs)
+  from-wide : (x h l : List ℤ) (ls hs : List (List ℤ)) → length x ≡ w → length h ≡ w → length l ≡ w → Wide w ls → Wide w hs → Wide w (fromRows x h l ls hs)
   unfolding fromRows
-  from-wide x h [] hs ex eh el ek = (ex, (zip-length oddTail x h ex eh, tt))
-  from-wide x h (l ∷ []) [] ex eh el ek =
-      let n : length (zipWith edge l h) ≡ w = zip-length edge l h (el .0) eh in
+  from-wide x h l [] hs ex eh el em ek =
+      let n : length (zipWith edge l h) ≡ w = zip-length edge l h el eh in
       (ex, (zip3-length odd x (zipWith edge l h) h ex n eh, (n, tt)))
-  from-wide x h (l ∷ m ∷ ls) [] ex eh el ek =
-      let n : length (zipWith half l h) ≡ w = zip-length half l h (el .0) eh in
-      (ex, (zip3-length odd x (zipWith half l h) h ex n eh, (n, (zip-length mean (zipWith half l h) m n (el .1 .0), tt))))
-  from-wide x h (l ∷ ls) (k ∷ hs) ex eh el ek =
-      let n : length (zipWith3 even l h k) ≡ w = zip3-length even l h k (el .0) eh (ek .0) in
-      (ex, (zip3-length odd x (zipWith3 even l h k) h ex n eh, from-wide (zipWith3 even l h k) k ls hs n (ek .0) (el .1) (ek .1)))
+  from-wide x h l (m ∷ ls) [] ex eh el em ek =
+      let n : length (zipWith half l h) ≡ w = zip-length half l h el eh in
+      (ex, (zip3-length odd x (zipWith half l h) h ex n eh, (n, (zip-length mean (zipWith half l h) m n (em .0), tt))))
+  from-wide x h l (m ∷ ls) (k ∷ hs) ex eh el em ek =
+      let n : length (zipWith3 even l h k) ≡ w = zip3-length even l h k el eh (ek .0) in
+      (ex, (zip3-length odd x (zipWith3 even l h k) h ex n eh, from-wide (zipWith3 even l h k) k m ls hs n (ek .0) (em .0) (em .1) (ek .1)))
 
   -- and all
   line-wide : (ls hs : List (List ℤ)) → Wide w ls → Wide w hs → Wide w (lineRows ls hs)
   unfolding lineRows
   line-wide [] hs el ek = tt
-  line-wide (l ∷ ls) [] el ek = tt
-  line-wide (l ∷ ls) (h ∷ hs) el ek = from-wide (zipWith edge l h) h ls hs (zip-length edge l h (el .0) (ek .0)) (ek .0) (el .1) (ek .1)
+  line-wide (l ∷ []) hs el ek = tt
+  line-wide (l ∷ m ∷ ls) [] el ek = tt
+  line-wide (l ∷ m ∷ ls) (h ∷ hs) el ek = from-wide (zipWith edge l h) h m ls hs (zip-length edge l h (el .0) (ek .0)) (ek .0) (el .1 .0) (el .1 .1) (ek .1)
 
 -- as many rows as low and high ones together
 line-count : (w : ℕ) (ls hs : List (List ℤ)) → Halves (length ls) (length hs) → Wide (suc w) ls → Wide (suc w) hs → length (lineRows ls hs) ≡ length ls + length hs
@@ -172,5 +170,6 @@ rows-down w p q b d v e m n =
 pub down-flat : (n : ℕ) (ls hs : List (List ℤ)) → length (flatten (down n ls hs)) ≡ n * n
 unfolding down
 down-flat n ls hs =
-    let c : length (zipWith line (columns n ls) (columns n hs)) ≡ n = zip-length line (columns n ls) (columns n hs) (columns-count n ls) (columns-count n hs) in
-    columns-flat n (zipWith line (columns n ls) (columns n hs)) ∙ ap (λ (k : ℕ). n * k) c
+    let cs : List (List ℤ) = zipWith line (columns n ls) (columns n hs) in
+    let c : length cs ≡ n = zip-length line (columns n ls) (columns n hs) (columns-count n ls) (columns-count n hs) in
+    flat-length (length cs) (columns n cs) (columns-wide n cs) ∙ rw (columns-count n cs, c)

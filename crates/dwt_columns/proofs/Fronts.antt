@@ -1,4 +1,4 @@
--- Rows stored place by place by one loop: the first row, the last row, a pair of rows, the last three rows. `paste d at s n` of lib.Seq is d with the first n places of s
+-- Rows stored place by place by one loop: the first row, a pair of rows, the last three rows. `paste d at s n` of lib.Seq is d with the first n places of s
 -- from `at` on; a loop that makes two or three rows has as many fronts. Each loop has three laws: where it begins, one turn, the end.
 -- Assumes nothing.
 use mathlib.Core.Path.{_≡_, sym, ap, _∙_}
@@ -9,8 +9,8 @@ use native.Mathlib.Omega.{arith}
 use lib.IntN.{ℤ, pos}
 use lib.ListN.{length, getD, set, take, drop, length-set, length-append, drop-of-length-le, List·getD-append}
 use lib.Seq.{take-all, length-take-le, paste, paste-zero, paste-suc, length-paste, take-paste, getD-take, set-append-left, take-set-lt, drop-set-lt}
-use Rattle.dwt_lines.specs.Line.{edge, even, odd, half, mean, oddTail}
-use Rattle.dwt_columns.specs.Inner.{zipWith3, pairRows, endRows, tailRows}
+use Rattle.dwt_lines.specs.Line.{edge, even, odd, half, mean}
+use Rattle.dwt_columns.specs.Inner.{zipWith3, pairRows, endRows}
 use Rattle.dwt_columns.proofs.Places.{zip-length, zip-get, zip3-length, zip3-get}
 
 -- ════ one front ════
@@ -65,42 +65,6 @@ module _ (l h d₀ : List ℤ) (eh : length h ≡ length l) (ed : length d₀ �
       let n = row-long in
       let none : drop (0 + i) d₀ ≡ [] = drop-of-length-le d₀ {i = 0 + i} (omega arith) in
       f ∙ rw (none, take-all i (zipWith edge l h) (omega arith), append-nil)
-
--- ════ the last row, where no low row is left ════
-
--- d is d₀, which begins with the even row, after i turns
-abbrev pub TailDone : List ℤ → List ℤ → ℕ → List ℤ → Type 0
-TailDone h d₀ i d = d ≡ paste d₀ (length h) (zipWith oddTail (take (length h) d₀) h) i
-
--- after none
-pub tail-start : (h d : List ℤ) → TailDone h d 0 d
-tail-start h d = paste-zero d (length h) (zipWith oddTail (take (length h) d) h)
-
-module _ (h d₀ : List ℤ) (ed : length d₀ ≡ 2 * length h) where
-  -- the even row, and the row that it makes
-  tail-long : (length (take (length h) d₀) ≡ length h) × (length (zipWith oddTail (take (length h) d₀) h) ≡ length h)
-  tail-long =
-      let nx : length (take (length h) d₀) ≡ length h = length-take-le (length h) d₀ (omega arith) in
-      (nx, zip-length oddTail (take (length h) d₀) h nx (omega arith))
-
-  -- after one more
-  pub tail-turn : (d : List ℤ) (i : ℕ) (t : ℤ) → i < length h → TailDone h d₀ i d → t ≡ oddTail (getD d i (pos 0)) (getD h i (pos 0)) → TailDone h d₀ (i + 1) (set d (length h + i) t)
-  tail-turn d i t e f p =
-      let w = length h in
-      let x = take w d₀ in
-      let T = zipWith oddTail x h in
-      let n = tail-long in
-      let gx : getD d i (pos 0) ≡ getD x i (pos 0) = ap (λ (z : List ℤ). getD z i (pos 0)) f ∙ paste-get d₀ w T i i (omega arith) e ∙ sym (getD-take w d₀ i (pos 0) e) in
-      rw f (paste-more d₀ w T i t (omega arith) (omega arith) (p ∙ rw gx (sym (zip-get oddTail x h i (pos 0) (omega arith) e))))
-
-  -- after all
-  pub tail-done : (d : List ℤ) (i : ℕ) → i ≡ length h → TailDone h d₀ i d → d ≡ tailRows h (take (length h) d₀)
-  unfolding tailRows
-  tail-done d i e f =
-      let w = length h in
-      let n = tail-long in
-      let none : drop (w + w) d₀ ≡ [] = drop-of-length-le d₀ {i = w + w} (omega arith) in
-      (rw e at f) ∙ rw (none, append-nil, take-all w (zipWith oddTail (take w d₀) h) (omega arith))
 
 -- ════ a pair of rows ════
 

@@ -1,4 +1,4 @@
--- All columns at once, row by row: what a call on parts says of the whole, a turn of the loop, its three ends, and the whole.
+-- All columns at once, row by row: what a call on parts says of the whole, a turn of the loop, its two ends, and the whole.
 -- What is done, `take i d`, and what is left from the even row at i on, `fromRows ..`, make the whole.
 -- Assumes nothing.
 use mathlib.Core.Path.{_≡_, refl, ap, _∙_}
@@ -9,11 +9,10 @@ use native.Mathlib.Omega.{arith}
 use lib.IntN.{ℤ}
 use lib.ListN.{length, take, drop, length-append}
 use lib.Seq.{take-take, drop-drop, take-at, drop-at, length-take-le}
-use Rattle.dwt_lines.specs.Line.{edge, even, odd}
-use Rattle.dwt_lines.specs.Inner.{Halves}
+use Rattle.dwt_lines.specs.Line.{edge, even, odd, Halves}
 use Rattle.dwt_lines.proofs.Lines.{even-edge}
 use Rattle.dwt_columns.specs.Columns.{rows}
-use Rattle.dwt_columns.specs.Inner.{zipWith3, fromRows, lineRows, pairRows, endRows, tailRows, putPart}
+use Rattle.dwt_columns.specs.Inner.{zipWith3, fromRows, lineRows, pairRows, endRows, putPart}
 use Rattle.dwt_columns.proofs.Products.{scale}
 use Rattle.dwt_columns.proofs.Put.{part-length, drop-more, put-kept}
 use Rattle.dwt_columns.proofs.Places.{zip3-length}
@@ -31,18 +30,13 @@ module _ (low f g d u : List ℤ) (w l h k i a b e j n : ℕ) (ea : a ≡ w) (eb
       → putPart i j d u ≡ putPart i n d (endRows (take w (drop l low)) (take w (drop h f)) (take w (drop k g)) (take w (drop i d)))
   last-put q = rw (q, ej, ea, eb, ee, part-length low w l nl, take-take w n (drop i d) nw)
 
--- the last row
-pub tail-put : (f d u : List ℤ) (w h i b j n : ℕ) → b ≡ w → j ≡ n → w ≤ n → h + w ≤ length f → u ≡ tailRows (take b (drop h f)) (take (length (take b (drop h f))) (take j (drop i d)))
-    → putPart i j d u ≡ putPart i n d (tailRows (take w (drop h f)) (take w (drop i d)))
-tail-put f d u w h i b j n eb ej nw nh q = rw (q, ej, eb, part-length f w h nh, take-take w n (drop i d) nw)
-
 -- ════ a turn ════
 
 -- what is left begins with a pair of rows
-from-more : (x h : List ℤ) (w m e : ℕ) (b f : List ℤ) → flatten (fromRows x h (rows w (suc m + e) b) (rows w (suc m) f))
-    ≡ x ++ (zipWith3 odd x (zipWith3 even (take w b) h (take w f)) h ++ flatten (fromRows (zipWith3 even (take w b) h (take w f)) (take w f) (rows w (m + e) (drop w b)) (rows w m (drop w f))))
+from-more : (x h l : List ℤ) (w m e : ℕ) (b f : List ℤ) → flatten (fromRows x h l (rows w (suc m + e) b) (rows w (suc m) f))
+    ≡ x ++ (zipWith3 odd x (zipWith3 even l h (take w f)) h ++ flatten (fromRows (zipWith3 even l h (take w f)) (take w f) (take w b) (rows w (m + e) (drop w b)) (rows w m (drop w f))))
 unfolding fromRows flatten rows
-from-more x h w m e b f = rw (suc-add m e)
+from-more x h l w m e b f = rw (suc-add m e)
 
 -- it has three rows
 pair-length : (L H K x : List ℤ) (w : ℕ) → length L ≡ w → length H ≡ w → length K ≡ w → length x ≡ w → length (pairRows L H K x) ≡ 3 * w
@@ -65,8 +59,8 @@ module _ (low high d : List ℤ) (w l h i : ℕ) (nl : l + w ≤ length low) (nh
 
   -- the pair of rows is done
   pub cols-turn : (Y : List ℤ) (m k : ℕ) → 0 < m
-      → Y ≡ take i d ++ flatten (fromRows (take w (drop i d)) (take w (drop h high)) (rows w (m + k) (drop l low)) (rows w m (drop (h + w) high)))
-      → Y ≡ take (i + 2 * w) D ++ flatten (fromRows (take w (drop (i + 2 * w) D)) (take w (drop (h + w) high)) (rows w (m - 1 + k) (drop (l + w) low)) (rows w (m - 1) (drop (h + w + w) high)))
+      → Y ≡ take i d ++ flatten (fromRows (take w (drop i d)) (take w (drop h high)) (take w (drop l low)) (rows w (m + k) (drop (l + w) low)) (rows w m (drop (h + w) high)))
+      → Y ≡ take (i + 2 * w) D ++ flatten (fromRows (take w (drop (i + 2 * w) D)) (take w (drop (h + w) high)) (take w (drop (l + w) low)) (rows w (m - 1 + k) (drop (l + w + w) low)) (rows w (m - 1) (drop (h + w + w) high)))
   unfolding pairRows
   cols-turn Y zero k z p = absurd (omega arith)
   cols-turn Y (suc m) k z p =
@@ -89,8 +83,8 @@ module _ (low high d : List ℤ) (w l h i : ℕ) (nl : l + w ≤ length low) (nh
       let front : take (i + 2 * w) D ≡ take i d ++ (x ++ O) = rw eD (take-at (take i d ++ (x ++ O)) (E ++ rest) (i + 2 * w) en) in
       let next : take w (drop (i + 2 * w) D) ≡ E = rw (eD, drop-at (take i d ++ (x ++ O)) (E ++ rest) (i + 2 * w) en) (take-at E rest w eE) in
       let less : suc m - 1 ≡ m = omega arith in
-      rw (front, next, less, ← drop-drop w l low, ← drop-drop w (h + w) high, append-assoc, append-assoc)
-      (p ∙ ap (λ (z : List ℤ). take i d ++ z) (from-more x H w m k (drop l low) (drop (h + w) high)))
+      rw (front, next, less, ← drop-drop w (l + w) low, ← drop-drop w (h + w) high, append-assoc, append-assoc)
+      (p ∙ ap (λ (z : List ℤ). take i d ++ z) (from-more x H L w m k (drop (l + w) low) (drop (h + w) high)))
 
 -- ════ the ends ════
 
@@ -101,42 +95,39 @@ even-same [] h = refl
 even-same (x ∷ l) [] = refl
 even-same (x ∷ l) (y ∷ h) = rw (even-edge x y, even-same l h)
 
--- r low rows are left and no high one; the rows after the even one at i are as they were at first, in d₀
+-- no high row is left, and r low ones after that at l; the rows after the even one at i are as they were at first, in d₀
 module _ (low high d : List ℤ) (w l h i : ℕ) (Y D d₀ hs : List ℤ) (r z n : ℕ) (ez : z ≡ 0) (ed : drop (i + w) d ≡ drop (i + w) d₀)
-    (p : Y ≡ take i d ++ flatten (fromRows (take w (drop i d)) (take w (drop h high)) (rows w r (drop l low)) (rows w z hs))) where
+    (p : Y ≡ take i d ++ flatten (fromRows (take w (drop i d)) (take w (drop h high)) (take w (drop l low)) (rows w r (drop (l + w) low)) (rows w z hs))) where
   -- what lies k places after i is as it was at first
   rest : (k : ℕ) → i + k ≡ n → i + w ≤ n → drop k (drop i d) ≡ drop n d₀
   rest k en ew = drop-drop k i d ∙ ap (λ (z : ℕ). drop z d) en ∙ drop-more d d₀ (i + w) n ew ed
 
-  -- no low row is left
-  pub cols-none : r ≡ 0 → i + 2 * w ≡ n → D ≡ putPart i (2 * w) d (tailRows (take w (drop h high)) (take w (drop i d))) → D ≡ Y ++ drop n d₀
-  unfolding tailRows fromRows flatten rows
-  cols-none er en e = rw (e, rest (2 * w) en (omega arith), p, er) (simp (append-assoc, append-nil))
-
-  -- one is left
-  pub cols-one : r ≡ 1 → i + 3 * w ≡ n → D ≡ putPart i (3 * w) d (pairRows (take w (drop l low)) (take w (drop h high)) (take w (drop h high)) (take w (drop i d))) → D ≡ Y ++ drop n d₀
+  -- one low row more than high ones
+  pub cols-one : r ≡ 0 → i + 3 * w ≡ n → D ≡ putPart i (3 * w) d (pairRows (take w (drop l low)) (take w (drop h high)) (take w (drop h high)) (take w (drop i d))) → D ≡ Y ++ drop n d₀
   unfolding pairRows fromRows flatten rows
-  cols-one er en e = rw (e, rest (3 * w) en (omega arith), even-same (take w (drop l low)) (take w (drop h high)), p, er, ez) (simp (append-assoc, append-nil))
+  cols-one er en e = rw (e, rest (3 * w) en (omega arith), even-same (take w (drop l low)) (take w (drop h high)), p, er) (simp (append-assoc, append-nil))
 
-  -- two are left
-  pub cols-two : r ≡ 2 → i + 4 * w ≡ n → D ≡ putPart i (4 * w) d (endRows (take w (drop l low)) (take w (drop h high)) (take w (drop (l + w) low)) (take w (drop i d))) → D ≡ Y ++ drop n d₀
+  -- two more
+  pub cols-two : r ≡ 1 → i + 4 * w ≡ n → D ≡ putPart i (4 * w) d (endRows (take w (drop l low)) (take w (drop h high)) (take w (drop (l + w) low)) (take w (drop i d))) → D ≡ Y ++ drop n d₀
   unfolding endRows fromRows flatten rows
-  cols-two er en e = rw (e, rest (4 * w) en (omega arith), p, er, ez, ← drop-drop w l low) (simp (append-assoc, append-nil))
+  cols-two er en e = rw (e, rest (4 * w) en (omega arith), p, er, ez) (simp (append-assoc, append-nil))
 
 -- ════ the whole ════
 
 -- the first row, put where the buffer begins, and all rows after it
 pub cols-whole : (low high d u D : List ℤ) (w p q a b k : ℕ) → Halves p q → (p + q) * w ≤ length d → a ≡ w → b ≡ w → k ≡ w → length u ≡ k → u ≡ zipWith edge (take a low) (take b high)
-    → D ≡ flatten (fromRows (take w (putPart 0 k d u)) (take w high) (rows w (p - 1) (drop w low)) (rows w (q - 1) (drop w high))) ++ drop ((p + q) * w) (putPart 0 k d u)
+    → D ≡ flatten (fromRows (take w (putPart 0 k d u)) (take w high) (take w (drop w low)) (rows w (p - 2) (drop (w + w) low)) (rows w (q - 1) (drop w high))) ++ drop ((p + q) * w) (putPart 0 k d u)
     → D ≡ flatten (lineRows (rows w p low) (rows w q high)) ++ drop ((p + q) * w) d
 unfolding lineRows rows
 cols-whole low high d u D w zero q a b k hv n ea eb ek eu e f = absurd (omega arith)
-cols-whole low high d u D w (suc p) zero a b k hv n ea eb ek eu e f = absurd (omega arith)
-cols-whole low high d u D w (suc p) (suc q) a b k hv n ea eb ek eu e f =
-    let np : suc p - 1 ≡ p = omega arith in
+cols-whole low high d u D w (suc zero) q a b k hv n ea eb ek eu e f = absurd (omega arith)
+cols-whole low high d u D w (suc (suc p)) zero a b k hv n ea eb ek eu e f = absurd (omega arith)
+cols-whole low high d u D w (suc (suc p)) (suc q) a b k hv n ea eb ek eu e f =
+    let np : suc (suc p) - 2 ≡ p = omega arith in
     let nq : suc q - 1 ≡ q = omega arith in
-    let nw : w ≤ (suc p + suc q) * w = omega (arith, scale (suc p + suc q) (p + suc q) 1 w (omega arith)) in
+    let all : ℕ = (suc (suc p) + suc q) * w in
+    let nw : w ≤ all = omega (arith, scale (suc (suc p) + suc q) (suc p + suc q) 1 w (omega arith)) in
     let x : take w (putPart 0 k d u) ≡ zipWith edge (take w low) (take w high) = take-at u (drop k d) w (eu ∙ ek) ∙ e ∙ rw (ea, eb) in
-    let kept : drop ((suc p + suc q) * w) (putPart 0 k d u) ≡ drop ((suc p + suc q) * w) d =
-    drop-more (putPart 0 k d u) d w ((suc p + suc q) * w) nw (drop-at u (drop k d) w (eu ∙ ek) ∙ ap (λ (z : ℕ). drop z d) ek) in
-    f ∙ rw (x, kept, np, nq)
+    let kept : drop all (putPart 0 k d u) ≡ drop all d =
+    drop-more (putPart 0 k d u) d w all nw (drop-at u (drop k d) w (eu ∙ ek) ∙ ap (λ (z : ℕ). drop z d) ek) in
+    f ∙ rw (x, kept, np, nq, drop-drop w w low)

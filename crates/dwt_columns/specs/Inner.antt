@@ -4,7 +4,7 @@ use mathlib.Core.List.{List, [], _∷_, _++_, zipWith}
 use Prim.Native.Nat.{ℕ}
 use lib.IntN.{ℤ}
 use lib.ListN.{take, drop}
-use Rattle.dwt_lines.specs.Line.{edge, even, odd, half, mean, oddTail}
+use Rattle.dwt_lines.specs.Line.{edge, even, odd, half, mean}
 
 -- a list of three lists, place by place
 unfoldable pub zipWith3 : (ℤ → ℤ → ℤ → ℤ) → List ℤ → List ℤ → List ℤ → List ℤ
@@ -14,17 +14,17 @@ zipWith3 f (a ∷ xs) [] zs = []
 zipWith3 f (a ∷ xs) (b ∷ ys) [] = []
 
 -- `from` of all columns
-unfoldable pub fromRows : List ℤ → List ℤ → List (List ℤ) → List (List ℤ) → List (List ℤ)
-fromRows x h (l ∷ ls) (k ∷ hs) = x ∷ zipWith3 odd x (zipWith3 even l h k) h ∷ fromRows (zipWith3 even l h k) k ls hs
-fromRows x h (l ∷ m ∷ ls) [] = x ∷ zipWith3 odd x (zipWith half l h) h ∷ zipWith half l h ∷ zipWith mean (zipWith half l h) m ∷ []
-fromRows x h (l ∷ []) [] = x ∷ zipWith3 odd x (zipWith edge l h) h ∷ zipWith edge l h ∷ []
-fromRows x h [] hs = x ∷ zipWith oddTail x h ∷ []
+unfoldable pub fromRows : List ℤ → List ℤ → List ℤ → List (List ℤ) → List (List ℤ) → List (List ℤ)
+fromRows x h l (m ∷ ls) (k ∷ hs) = x ∷ zipWith3 odd x (zipWith3 even l h k) h ∷ fromRows (zipWith3 even l h k) k m ls hs
+fromRows x h l (m ∷ ls) [] = x ∷ zipWith3 odd x (zipWith half l h) h ∷ zipWith half l h ∷ zipWith mean (zipWith half l h) m ∷ []
+fromRows x h l [] hs = x ∷ zipWith3 odd x (zipWith edge l h) h ∷ zipWith edge l h ∷ []
 
 -- `line` of all columns
 unfoldable pub lineRows : List (List ℤ) → List (List ℤ) → List (List ℤ)
-lineRows (l ∷ ls) (h ∷ hs) = fromRows (zipWith edge l h) h ls hs
+lineRows (l ∷ m ∷ ls) (h ∷ hs) = fromRows (zipWith edge l h) h m ls hs
+lineRows (l ∷ m ∷ ls) [] = []
+lineRows (l ∷ []) hs = []
 lineRows [] hs = []
-lineRows (l ∷ ls) [] = []
 
 -- the even row x, and the odd and the even row after it
 unfoldable pub pairRows : List ℤ → List ℤ → List ℤ → List ℤ → List ℤ
@@ -33,10 +33,6 @@ pairRows l h k x = x ++ (zipWith3 odd x (zipWith3 even l h k) h ++ zipWith3 even
 -- the even row x, and the last three, where there are two low rows more than high ones
 unfoldable pub endRows : List ℤ → List ℤ → List ℤ → List ℤ → List ℤ
 endRows l h m x = x ++ (zipWith3 odd x (zipWith half l h) h ++ (zipWith half l h ++ zipWith mean (zipWith half l h) m))
-
--- the even row x, and the last one, where there are no more low rows than high ones
-unfoldable pub tailRows : List ℤ → List ℤ → List ℤ
-tailRows h x = x ++ zipWith oddTail x h
 
 -- d, with u in the place of the k places from i on
 abbrev pub putPart : ℕ → ℕ → List ℤ → List ℤ → List ℤ

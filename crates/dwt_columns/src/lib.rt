@@ -4,10 +4,9 @@ ghost use mathlib.Core.Path.{_≡_};
 ghost use mathlib.Core.List.{_++_, zipWith, flatten};
 ghost use Prim.Native.Nat.{_+_, _*_, _-_, _≤_};
 ghost use lib.ListN.{length, take, drop};
-ghost use Rattle.dwt_lines.specs.Line.{edge};
-ghost use Rattle.dwt_lines.specs.Inner.{Halves};
+ghost use Rattle.dwt_lines.specs.Line.{edge, Halves};
 ghost use Rattle.dwt_columns.specs.Columns.{rows, down};
-ghost use Rattle.dwt_columns.specs.Inner.{fromRows, lineRows, pairRows, endRows, tailRows, putPart};
+ghost use Rattle.dwt_columns.specs.Inner.{fromRows, lineRows, pairRows, endRows, putPart};
 
 // The first row of all columns.
 fn edge_row(l: &[i16], h: &[i16], d: &mut [i16])
@@ -50,19 +49,6 @@ fn last_rows(l: &[i16], h: &[i16], m: &[i16], d: &mut [i16])
         d[w + i] = dwt_lines::odd_sample(d[i], y, h[i]);
         d[w + w + i] = y;
         d[w + w + w + i] = dwt_lines::mean_sample(y, m[i]);
-        i += 1;
-    }
-}
-
-// The last row after the even row that d begins with, where there are no more low rows than high ones.
-fn tail_row(h: &[i16], d: &mut [i16])
-    requires { ⌜ length (now d) ≡ 2 * length (now h) ⌝ }
-    ensures { λ _. ⌜ now (d .exit) ≡ tailRows (now (h .entry)) (take (length (now (h .entry))) (now (d .entry))) ⌝ }
-{
-    let w = h.len();
-    let mut i: usize = 0;
-    while i < w {
-        d[w + i] = dwt_lines::tail_sample(d[i], h[i]);
         i += 1;
     }
 }
@@ -115,22 +101,13 @@ fn last_at(
     );
 }
 
-// The last row after the even row at d, of the high row at h.
-fn tail_at(high: &[i16], dst: &mut [i16], w: usize, h: usize, d: usize)
-    requires { ⌜ (h + w ≤ length (now high)) × (d + 2 * w ≤ length (now dst)) ⌝ }
-    ensures { λ _. ⌜ now (dst .exit) ≡ putPart d (2 * w) (now (dst .entry))
-        (tailRows (take w (drop h (now (high .entry)))) (take w (drop d (now (dst .entry))))) ⌝ }
-{
-    tail_row(&high[h..h + w], &mut dst[d..d + 2 * w]);
-}
-
 // The rows of all columns after the first, which dst begins with.
 fn cols_from(low: &[i16], high: &[i16], dst: &mut [i16], w: usize, p: usize, q: usize)
     requires { ⌜ Halves p q ⌝ }
     requires { ⌜ (p * w ≤ length (now low)) × (q * w ≤ length (now high)) × ((p + q) * w ≤ length (now dst)) ⌝ }
     ensures { λ _. ⌜ now (dst .exit)
-        ≡ flatten (fromRows (take w (now (dst .entry))) (take w (now (high .entry)))
-        (rows w (p - 1) (drop w (now (low .entry)))) (rows w (q - 1) (drop w (now (high .entry)))))
+        ≡ flatten (fromRows (take w (now (dst .entry))) (take w (now (high .entry))) (take w (drop w (now (low .entry))))
+        (rows w (p - 2) (drop (w + w) (now (low .entry)))) (rows w (q - 1) (drop w (now (high .entry)))))
         ++ drop ((p + q) * w) (now (dst .entry)) ⌝ }
 {
     let mut l = w;
@@ -143,10 +120,6 @@ fn cols_from(low: &[i16], high: &[i16], dst: &mut [i16], w: usize, p: usize, q: 
         h += w;
         d += 2 * w;
         m -= 1;
-    }
-    if p == q {
-        tail_at(high, dst, w, h, d);
-        return;
     }
     if p == q + 1 {
         pair_at(low, high, dst, w, l, h, h, d);

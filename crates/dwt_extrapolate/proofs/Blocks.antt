@@ -1,4 +1,4 @@
--- Blocks: the rows of a block, what its two steps leave in scratch and buffer, and the three blocks one after another.
+-- Blocks: the rows of a block and the halves of its lines, what its two steps leave in scratch and buffer, and the three blocks one after another.
 -- Assumes nothing.
 use mathlib.Core.Path.{_≡_, sym, ap, _∙_}
 use mathlib.Core.List.{List, [], _++_, append-assoc, append-nil, flatten}
@@ -8,14 +8,16 @@ use native.Mathlib.Omega.{arith}
 use lib.IntN.{ℤ}
 use lib.ListN.{length, take, drop, length-append, length-drop, drop-of-length-le}
 use lib.Seq.{drop-drop, take-at, drop-at}
-use Rattle.dwt_lines.specs.Inner.{Halves}
+use Rattle.dwt_lines.specs.Line.{Halves}
 use Rattle.dwt_extrapolate.specs.Block.{lines, lows, highs, scratch, block, blockAt}
 use Rattle.dwt_extrapolate.specs.Transform.{inner, inverse, scratched}
-use Rattle.dwt_columns.specs.Columns.{rows, down}
+use Rattle.dwt_extrapolate.specs.Made.{BlockLines}
+use Rattle.dwt_columns.specs.Columns.{rows, columns, down}
 use Rattle.dwt_columns.specs.Inner.{putPart}
 use Rattle.dwt_columns.proofs.Put.{part-length, to-end, drop-more}
-use Rattle.dwt_columns.proofs.Wide.{Wide}
-use Rattle.dwt_extrapolate.proofs.Rows.{flat-length, flat-rows, lines-wide}
+use Rattle.dwt_columns.proofs.Wide.{Wide, flat-length}
+use Rattle.dwt_columns.proofs.Columns.{columns-wide}
+use Rattle.dwt_extrapolate.proofs.Rows.{flat-rows, lines-wide, each-line, each-row}
 
 -- ════ the rows of a block ════
 
@@ -29,6 +31,15 @@ module _ (p q : ℕ) (v : Halves p q) (b : List ℤ) (nb : (p + q) * (p + q) ≤
   highs-wide : (length (highs p q b) ≡ q) × Wide (p + q) (highs p q b)
   unfolding highs
   highs-wide = lines-wide p q v q (drop (q * p) b) (drop (q * p + p * q) b) (simp length-drop (omega arith)) (simp length-drop (omega arith))
+
+  -- the halves of its lines
+  pub block-lines : BlockLines p q b
+  block-lines = record {
+    low-rows = each-row p q v p (drop (q * p + p * q + q * q) b) b (simp length-drop (omega arith)) (omega arith);
+    high-rows = each-row p q v q (drop (q * p) b) (drop (q * p + p * q) b) (simp length-drop (omega arith)) (simp length-drop (omega arith));
+    all-columns = each-line (length (lows p q b)) (length (highs p q b)) (rw (lows-wide .0, highs-wide .0) v)
+        (columns (p + q) (lows p q b)) (columns (p + q) (highs p q b)) (columns-wide (p + q) (lows p q b)) (columns-wide (p + q) (highs p q b));
+  }
 
   -- how long the low rows are, laid out one after another
   lows-length : length (flatten (lows p q b)) ≡ p * (p + q)
@@ -82,6 +93,16 @@ module _ (p q : ℕ) (v : Halves p q) (b : List ℤ) (nb : (p + q) * (p + q) ≤
 
 -- ════ the three blocks ════
 
+-- each makes lines
+pub first-halves : Halves 9 8
+first-halves = record { some = omega arith; least = omega arith; most = omega arith }
+
+pub second-halves : Halves 17 16
+second-halves = record { some = omega arith; least = omega arith; most = omega arith }
+
+pub third-halves : Halves 33 31
+third-halves = record { some = omega arith; least = omega arith; most = omega arith }
+
 -- a block at the end of the buffer
 at-end : (p q i k : ℕ) (b u : List ℤ) → k ≡ length b - i → u ≡ block p q (take k (drop i b)) → putPart i k b u ≡ blockAt i p q b
 unfolding blockAt
@@ -109,12 +130,10 @@ module _ (b t u₃ t₃ u₂ t₂ b₁ t₁ : List ℤ) (k₃ k₂ : ℕ) (n₃ 
   pub three-blocks : (b₁ ≡ inverse b) × (t₁ ≡ scratched b t)
   unfolding inverse scratched blockAt
   three-blocks =
-      let v₃ : Halves 9 8 = record { some = omega arith; least = omega arith; most = omega arith } in
-      let v₂ : Halves 17 16 = record { some = omega arith; least = omega arith; most = omega arith } in
       let B : List ℤ = putPart 3807 k₃ b u₃ in
       let m₃ : length (take k₃ (drop 3807 b)) ≡ k₃ = part-length b k₃ 3807 (omega arith) in
       let m₂ : length (take k₂ (drop 3007 B)) ≡ k₂ = part-length B k₂ 3007 (omega arith) in
-      let r₃ : drop 289 t₃ ≡ drop 289 t = ap (drop 289) f₃ ∙ scratch-rest 9 8 v₃ (take k₃ (drop 3807 b)) (omega arith) t in
-      let r₂ : drop 1089 t₂ ≡ drop 1089 t₃ = ap (drop 1089) f₂ ∙ scratch-rest 17 16 v₂ (take k₂ (drop 3007 B)) (omega arith) t₃ in
+      let r₃ : drop 289 t₃ ≡ drop 289 t = ap (drop 289) f₃ ∙ scratch-rest 9 8 first-halves (take k₃ (drop 3807 b)) (omega arith) t in
+      let r₂ : drop 1089 t₂ ≡ drop 1089 t₃ = ap (drop 1089) f₂ ∙ scratch-rest 17 16 second-halves (take k₂ (drop 3007 B)) (omega arith) t₃ in
       let rest : drop 4096 t₂ ≡ drop 4096 t = drop-more t₂ t₃ 1089 4096 (omega arith) r₂ ∙ drop-more t₃ t 289 4096 (omega arith) r₃ in
       (e₁ ∙ ap (block 33 31) is-inner, f₁ ∙ scratch-same (putPart 3007 k₂ B u₂) t t₂ rest ∙ ap (λ (z : List ℤ). scratch 33 31 z t) is-inner)

@@ -16,14 +16,14 @@ unfolding block
 block-length p q b n = rw (length-append, down-flat (p + q) (lows p q b) (highs p q b), length-drop) (omega arith)
 
 -- after a block that begins at place i
-block-at-length : (i p q : ℕ) (b : List ℤ) → i + (p + q) * (p + q) ≤ length b → length (blockAt i p q b) ≡ length b
+pub block-at-length : (i p q : ℕ) (b : List ℤ) → i + (p + q) * (p + q) ≤ length b → length (blockAt i p q b) ≡ length b
 unfolding blockAt
 block-at-length i p q b n =
     let m : length (take i b) ≡ i = length-take-le i b (omega arith) in
     rw (length-append, m, block-length p q (drop i b) (simp length-drop (omega arith)), length-drop) (omega arith)
 
 -- after the first two blocks
-inner-length : (b : List ℤ) → 4096 ≤ length b → length (inner b) ≡ length b
+pub inner-length : (b : List ℤ) → 4096 ≤ length b → length (inner b) ≡ length b
 unfolding inner
 inner-length b n =
     let e : length (blockAt 3807 9 8 b) ≡ length b = block-at-length 3807 9 8 b (omega arith) in

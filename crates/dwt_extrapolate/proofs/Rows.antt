@@ -1,4 +1,4 @@
--- Rows laid out one after another, and the lines of a number of rows: one more, none, how many and how wide they are.
+-- Rows laid out one after another, and the lines of a number of rows: one more, none, how many and how wide they are, and their halves.
 -- Assumes nothing.
 use mathlib.Core.Path.{_≡_, refl, ap, _∙_}
 use mathlib.Core.List.{List, [], _∷_, _++_, append-assoc, zipWith, flatten}
@@ -6,26 +6,20 @@ use Prim.Native.Nat.{ℕ, zero, suc, _+_, _*_, _-_, _<_, _≤_}
 use native.Mathlib.Nat.{suc-mul}
 use native.Mathlib.Omega.{arith}
 use lib.IntN.{ℤ}
-use lib.ListN.{length, take, drop, length-append, length-drop}
+use lib.ListN.{length, take, drop, length-drop}
 use lib.Seq.{drop-drop, take-at, drop-at, length-take-le}
-use Rattle.dwt_lines.specs.Line.{line}
-use Rattle.dwt_lines.specs.Inner.{Halves}
+use Rattle.dwt_lines.specs.Line.{Halves, line}
 use Rattle.dwt_lines.proofs.Lines.{line-length}
 use Rattle.dwt_extrapolate.specs.Block.{lines}
+use Rattle.dwt_extrapolate.specs.Made.{EachLine}
 use Rattle.dwt_columns.specs.Columns.{rows}
 use Rattle.dwt_columns.specs.Inner.{putPart}
 use Rattle.dwt_columns.proofs.Put.{put-take}
-use Rattle.dwt_columns.proofs.Wide.{Wide}
+use Rattle.dwt_columns.proofs.Wide.{Wide, rows-wide}
 
 -- ════ rows of w places ════
 
--- so many places they take, laid out one after another
-pub flat-length : (w : ℕ) (rs : List (List ℤ)) → Wide w rs → length (flatten rs) ≡ length rs * w
-unfolding flatten
-flat-length w [] v = omega arith
-flat-length w (r ∷ rs) v = rw (length-append, v .0, flat-length w rs (v .1), suc-mul) (omega arith)
-
--- and the first rows of that are they
+-- laid out one after another, the first rows of that are they
 pub flat-rows : (w : ℕ) (rs : List (List ℤ)) (t : List ℤ) → Wide w rs → rows w (length rs) (flatten rs ++ t) ≡ rs
 unfolding rows flatten
 flat-rows w [] t v = refl
@@ -62,3 +56,13 @@ lines-wide p q v (suc n) b e f g =
     let nq : length (take q e) ≡ q = length-take-le q e (omega arith) in
     let r = lines-wide p q v n (drop p b) (drop q e) (simp length-drop (omega arith)) (simp length-drop (omega arith)) in
     (ap suc (r .0), (line-length (take p b) (take q e) (rw (np, nq) v) ∙ rw (np, nq), r .1))
+
+-- low halves of p places and high halves of q make lines
+pub each-line : (p q : ℕ) → Halves p q → (ls hs : List (List ℤ)) → Wide p ls → Wide q hs → EachLine ls hs
+each-line p q v [] hs el ek = tt
+each-line p q v (l ∷ ls) [] el ek = tt
+each-line p q v (l ∷ ls) (h ∷ hs) el ek = (rw (el .0, ek .0) v, each-line p q v ls hs (el .1) (ek .1))
+
+-- and so do n rows of two lists
+pub each-row : (p q : ℕ) → Halves p q → (n : ℕ) (b e : List ℤ) → n * p ≤ length b → n * q ≤ length e → EachLine (rows p n b) (rows q n e)
+each-row p q v n b e f g = each-line p q v (rows p n b) (rows q n e) (rows-wide p n b f .1) (rows-wide q n e g .1)

@@ -2,3 +2,4 @@
 pub mod Block
 pub mod Transform
 pub mod Refused
+pub mod Made

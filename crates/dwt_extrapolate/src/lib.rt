@@ -3,10 +3,11 @@ ghost use mathlib.Core.Path.{_≡_};
 ghost use mathlib.Core.List.{_++_, flatten};
 ghost use Prim.Native.Nat.{_+_, _*_, _≤_};
 ghost use lib.ListN.{length, drop};
-ghost use Rattle.dwt_lines.specs.Inner.{Halves};
+ghost use Rattle.dwt_lines.specs.Line.{Halves};
 ghost use Rattle.dwt_extrapolate.specs.Block.{lines, scratch, block};
 ghost use Rattle.dwt_extrapolate.specs.Transform.{Inverts};
 ghost use Rattle.dwt_extrapolate.specs.Refused.{InverseRefusals};
+ghost use Rattle.dwt_extrapolate.specs.Made.{LineHalves};
 
 // The lines of n rows: p low places and q high ones each.
 fn idwt_rows(low: &[i16], high: &[i16], dst: &mut [i16], p: usize, q: usize, n: usize)
@@ -77,4 +78,9 @@ pub fn decode(buffer: &mut [i16], temp: &mut [i16]) -> answer::Answer
 // A refused call gives the refusal's number and leaves both slices as they were.
 pub fn refusals()
     ensures { λ _. ⌜ InverseRefusals ⌝ }
+{}
+
+// Every line that the transform makes, of rows and of columns, has one or two low samples more than high ones.
+pub fn line_halves()
+    ensures { λ _. ⌜ LineHalves ⌝ }
 {}

@@ -1,3 +1,2 @@
--- What the contracts of `dwt_lines` cite, and `Inner` for inner functions.
+-- What the contracts of `dwt_lines` cite.
 pub mod Line
-pub mod Inner

@@ -1,7 +1,7 @@
 -- The inverse wavelet of one line: its samples, of its low and its high half (docs/SCOPE.md, "Inverse wavelet").
 -- L and H are the places of the two halves, counted from 0.
 use mathlib.Core.List.{List, [], _∷_}
-use Prim.Native.Nat.{_+_}
+use Prim.Native.Nat.{ℕ, _+_, _≤_}
 use lib.IntN.{ℤ, pos, _+ℤ_, _-ℤ_, _*ℤ_}
 use Rattle.fixed.specs.Fixed.{wrapI16, halfTowardZero}
 
@@ -27,22 +27,24 @@ half l h = wrapI16 (l -ℤ halfTowardZero h)
 unfoldable pub mean : ℤ → ℤ → ℤ
 mean x l = wrapI16 (halfTowardZero (x +ℤ l))
 
--- "the even place before it plus 2H": the last sample where no low place is left
-unfoldable pub oddTail : ℤ → ℤ → ℤ
-oddTail x h = wrapI16 (x +ℤ pos 2 *ℤ h)
-
 -- ════ a line ════
 
--- from the even place x on: h is the high place beside it, and the low and the high places after it are given. The three endings are those
--- of two low places more than high ones (33/31), of one more (9/8, 17/16), and of none more
-unfoldable pub from : ℤ → ℤ → List ℤ → List ℤ → List ℤ
-from x h (l ∷ ls) (k ∷ hs) = x ∷ odd x (even l h k) h ∷ from (even l h k) k ls hs
-from x h (l ∷ m ∷ ls) [] = x ∷ odd x (half l h) h ∷ half l h ∷ mean (half l h) m ∷ []
-from x h (l ∷ []) [] = x ∷ odd x (edge l h) h ∷ edge l h ∷ []
-from x h [] hs = x ∷ oddTail x h ∷ []
+-- so many low places and so many high ones make a line: one or two low places more than high ones, as in 9/8, 17/16 and 33/31
+pub record Halves (low high : ℕ) : Type 0 where
+  pub some : 1 ≤ high
+  pub least : high + 1 ≤ low
+  pub most : low ≤ high + 2
 
--- the whole line, of its low and its high half
+-- from the even place x on: h is the high place beside it and l the low place after it; the low and the high places after those are given.
+-- The two endings are those of two low places more than high ones (33/31) and of one more (9/8, 17/16)
+unfoldable pub from : ℤ → ℤ → ℤ → List ℤ → List ℤ → List ℤ
+from x h l (m ∷ ls) (k ∷ hs) = x ∷ odd x (even l h k) h ∷ from (even l h k) k m ls hs
+from x h l (m ∷ ls) [] = x ∷ odd x (half l h) h ∷ half l h ∷ mean (half l h) m ∷ []
+from x h l [] hs = x ∷ odd x (edge l h) h ∷ edge l h ∷ []
+
+-- the whole line, of its low and its high half; of halves too short for one it is empty
 unfoldable pub line : List ℤ → List ℤ → List ℤ
-line (l ∷ ls) (h ∷ hs) = from (edge l h) h ls hs
+line (l ∷ m ∷ ls) (h ∷ hs) = from (edge l h) h m ls hs
+line (l ∷ m ∷ ls) [] = []
+line (l ∷ []) hs = []
 line [] hs = []
-line (l ∷ ls) [] = []

@@ -2,9 +2,9 @@
 ghost use mathlib.Core.Path.{_≡_};
 ghost use mathlib.Core.List.{[]};
 ghost use Prim.Native.Nat.{_+_, _≤_};
-ghost use lib.ListN.{length};
-ghost use Rattle.dwt_lines.specs.Line.{edge, even, odd, half, mean, oddTail, from, line};
-ghost use Rattle.dwt_lines.specs.Inner.{Halves};
+ghost use lib.IntN.{pos};
+ghost use lib.ListN.{length, getD, drop};
+ghost use Rattle.dwt_lines.specs.Line.{edge, even, odd, half, mean, Halves, from, line};
 
 // ---- one sample. `fixed::t` keeps the low sixteen bits, and `/` rounds towards zero
 
@@ -43,26 +43,15 @@ pub fn mean_sample(x: i16, l: i16) -> i16
     fixed::t((x as i32 + l as i32) / 2)
 }
 
-// The last place where there are no more low places than high ones.
-pub fn tail_sample(x: i16, h: i16) -> i16
-    ensures { λ r. ⌜ r ≡ oddTail x h ⌝ }
-{
-    fixed::t(x as i32 + 2 * (h as i32))
-}
-
 // ---- a line
 
-// The end of a line, from the last even place x that has a high place h beside it: no low place is left, or one, or two.
+// The end of a line, from the last even place x that has a high place h beside it: one low place is left, or two.
 fn row_end(low: &[i16], x: i16, h: i16, dst: &mut [i16])
-    requires { ⌜ length (now low) ≤ 2 ⌝ }
+    requires { ⌜ (1 ≤ length (now low)) × (length (now low) ≤ 2) ⌝ }
     requires { ⌜ length (now dst) ≡ length (now low) + 2 ⌝ }
-    ensures { λ _. ⌜ now (dst .exit) ≡ from x h (now (low .entry)) [] ⌝ }
+    ensures { λ _. ⌜ now (dst .exit) ≡ from x h (getD (now (low .entry)) 0 (pos 0)) (drop 1 (now (low .entry))) [] ⌝ }
 {
     dst[0] = x;
-    if low.len() == 0 {
-        dst[1] = tail_sample(x, h);
-        return;
-    }
     if low.len() == 1 {
         let y = edge_sample(low[0], h);
         dst[1] = odd_sample(x, y, h);

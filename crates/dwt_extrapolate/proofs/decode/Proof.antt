@@ -24,6 +24,16 @@ returns-2 c =
     let short : leb 4096 (length (a .temp .now)) ≡ false = lt-leb 4096 (length (a .temp .now)) (c .if2 .taken) in
     record { answer = simp (long, short); buffer = simp (long, short); scratch = simp (long, short) }
 
+-- each block makes lines
+decode-block-requires : tie.Need-decode-block-requires
+decode-block-requires c κs = (record { some = omega arith; least = omega arith; most = omega arith }, search needs)
+
+decode-block-requires-2 : tie.Need-decode-block-requires-2
+decode-block-requires-2 c κs = (record { some = omega arith; least = omega arith; most = omega arith }, search needs)
+
+decode-block-requires-3 : tie.Need-decode-block-requires-3
+decode-block-requires-3 c κs = (record { some = omega arith; least = omega arith; most = omega arith }, search needs)
+
 same-length : tie.Need-same-length
 same-length c = c .before .before .decode-block3 .kept .0 ∙ c .before .before .before .before .before .before .buffer2 .given .1 ∙ c .before .before .before .before .before .before .before .before .before .before .before .buffer .given .1
 
@@ -49,4 +59,4 @@ returns-3 c =
     record { answer = simp (long, longt); buffer = simp (long, longt) (r .0); scratch = simp (long, longt) (r .1) }
 
 pub decode-spec : {M : Type 1} → statement M
-decode-spec = tie.close (tie.spec returns returns-2 (λ c. search needs) (λ c. search needs) (λ c. search needs) (λ c κs. search needs) (λ c. search needs) (λ c. search needs) (λ c. search needs) (λ c κs. search needs) (λ c κs. search needs) same-length same-length-2 returns-3)
+decode-spec = tie.close (tie.spec returns returns-2 (λ c. search needs) (λ c. search needs) (λ c. search needs) decode-block-requires (λ c. search needs) (λ c. search needs) (λ c. search needs) decode-block-requires-2 decode-block-requires-3 same-length same-length-2 returns-3)

@@ -16,7 +16,7 @@ use Rattle.dwt_lines.proofs.idwt_row.Tie as tie
 abbrev Inv-loop : tie.InvT-loop
 Inv-loop low high dst₀ n h₀ x₀ j₀ i₀ dst h x j i =
     (1 ≤ j) × (j ≤ length high) × (i + 2 ≡ 2 * j) × (length dst ≡ length dst₀)
-    × (line low high ≡ take i dst ++ from (toZ w16 x) (toZ w16 h) (drop j low) (drop j high))
+    × (line low high ≡ take i dst ++ from (toZ w16 x) (toZ w16 h) (getD low j (pos 0)) (drop (j + 1) low) (drop j high))
 
 abbrev μ-loop : tie.MeasureT-loop
 μ-loop low high dst₀ n h₀ x₀ j₀ i₀ dst h x j i = length high - j

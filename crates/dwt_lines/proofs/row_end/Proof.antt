@@ -7,23 +7,14 @@ use mir.Facts.{toZ-ofZ}
 use mir.Syntax.{w16}
 use mir.Val.{toZ, ofZ}
 use borrow.Author.Needs.{needs}
-use Rattle.dwt_lines.proofs.Lines.{end-none, end-one, end-two}
+use Rattle.dwt_lines.proofs.Lines.{end-one, end-two}
 use Rattle.dwt_lines.proofs.row_end.Statement.{statement}
 use Rattle.dwt_lines.proofs.row_end.Tie as tie
 
 returns : tie.Need-returns
 returns c =
-    let a = c .before .before .args in
-    let f = c .before .before .fits in
-    let x : toZ w16 (ofZ w16 (a .x)) ≡ a .x = toZ-ofZ (f .x) in
-    let h : toZ w16 (ofZ w16 (a .h)) ≡ a .h = toZ-ofZ (f .h) in
-    let t : toZ w16 (ofZ w16 (c .tail-sample .result)) ≡ c .tail-sample .result = search needs in
-    rw x (end-none (a .low .now) (a .dst .now) (a .x) (a .h) _ (omega arith) (omega arith) (t ∙ (rw (x, h) at (c .tail-sample .ensures))))
-
-returns-2 : tie.Need-returns-2
-returns-2 c =
-    let a = c .before .before .before .before .before .args in
-    let f = c .before .before .before .before .before .fits in
+    let a = c .before .before .before .before .args in
+    let f = c .before .before .before .before .fits in
     let x : toZ w16 (ofZ w16 (a .x)) ≡ a .x = toZ-ofZ (f .x) in
     let h : toZ w16 (ofZ w16 (a .h)) ≡ a .h = toZ-ofZ (f .h) in
     let l : toZ w16 (ofZ w16 (getD (a .low .now) 0 (pos 0))) ≡ getD (a .low .now) 0 (pos 0) = search needs in
@@ -31,10 +22,10 @@ returns-2 c =
     let o : toZ w16 (ofZ w16 (c .odd-sample .result)) ≡ c .odd-sample .result = search needs in
     rw x (end-one (a .low .now) (a .dst .now) (a .x) (a .h) _ _ (omega arith) (omega arith) (y ∙ (rw (l, h) at (c .before .edge-sample .ensures))) (o ∙ (rw (x, h) at (c .odd-sample .ensures))))
 
-returns-3 : tie.Need-returns-3
-returns-3 c =
-    let a = c .before .before .before .before .before .before .before .args in
-    let f = c .before .before .before .before .before .before .before .fits in
+returns-2 : tie.Need-returns-2
+returns-2 c =
+    let a = c .before .before .before .before .before .before .args in
+    let f = c .before .before .before .before .before .before .fits in
     let x : toZ w16 (ofZ w16 (a .x)) ≡ a .x = toZ-ofZ (f .x) in
     let h : toZ w16 (ofZ w16 (a .h)) ≡ a .h = toZ-ofZ (f .h) in
     let l : toZ w16 (ofZ w16 (getD (a .low .now) 0 (pos 0))) ≡ getD (a .low .now) 0 (pos 0) = search needs in
@@ -49,7 +40,10 @@ row-end-spec =
     tie.close
     (tie.spec
     (λ c. search needs)
+    (λ c. search needs)
     (λ c κs. search needs)
+    (λ c κs. search needs)
+    (λ c. simp length-set (omega arith))
     (λ c. simp length-set (omega arith))
     (λ c. search needs)
     returns
@@ -59,14 +53,7 @@ row-end-spec =
     (λ c. simp length-set (omega arith))
     (λ c. simp length-set (omega arith))
     (λ c. search needs)
-    returns-2
-    (λ c. search needs)
-    (λ c κs. search needs)
-    (λ c κs. search needs)
-    (λ c. simp length-set (omega arith))
-    (λ c. simp length-set (omega arith))
-    (λ c. search needs)
     (λ c κs. search needs)
     (λ c. simp length-set (omega arith))
     (λ c. search needs)
-    returns-3)
+    returns-2)
