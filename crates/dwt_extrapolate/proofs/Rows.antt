@@ -19,7 +19,7 @@ use Rattle.dwt_columns.proofs.Wide.{Wide, rows-wide}
 
 -- ════ rows of w places ════
 
--- laid out one after another, the first rows of that are they
+-- rows laid out one after another are the first rows of that list
 pub flat-rows : (w : ℕ) (rs : List (List ℤ)) (t : List ℤ) → Wide w rs → rows w (length rs) (flatten rs ++ t) ≡ rs
 unfolding rows flatten
 flat-rows w [] t v = refl
