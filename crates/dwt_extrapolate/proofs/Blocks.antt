@@ -1,13 +1,16 @@
 -- Blocks: the rows of a block and the halves of its lines, what its two steps leave in scratch and buffer, and the three blocks one after another.
 -- Assumes nothing.
 use mathlib.Core.Path.{_≡_, sym, ap, _∙_}
+use mathlib.Core.Bool.{_&&_}
 use mathlib.Core.List.{List, [], _++_, append-assoc, append-nil, flatten}
 use Prim.Native.Nat.{ℕ, _+_, _*_, _-_, _≤_}
 use native.Mathlib.Nat.{add-mul}
 use native.Mathlib.Omega.{arith}
+use lib.Dec.{T, leb, lit≤}
 use lib.IntN.{ℤ}
 use lib.ListN.{length, take, drop, length-append, length-drop, drop-of-length-le}
 use lib.Seq.{drop-drop, take-at, drop-at}
+use mir.Facts.{and-yes}
 use Rattle.dwt_lines.specs.Line.{Halves}
 use Rattle.dwt_extrapolate.specs.Block.{lines, lows, highs, scratch, block, blockAt}
 use Rattle.dwt_extrapolate.specs.Transform.{inner, inverse, scratched}
@@ -93,15 +96,12 @@ module _ (p q : ℕ) (v : Halves p q) (b : List ℤ) (nb : (p + q) * (p + q) ≤
 
 -- ════ the three blocks ════
 
--- each makes lines
-pub first-halves : Halves 9 8
-first-halves = record { some = omega arith; least = omega arith; most = omega arith }
-
-pub second-halves : Halves 17 16
-second-halves = record { some = omega arith; least = omega arith; most = omega arith }
-
-pub third-halves : Halves 33 31
-third-halves = record { some = omega arith; least = omega arith; most = omega arith }
+-- each makes lines, by a test of its two numbers
+pub makes-lines : {p q : ℕ} → T (leb 1 q && (leb (q + 1) p && leb p (q + 2))) → Halves p q
+makes-lines {p} {q} t =
+    let u = and-yes (leb 1 q) (leb (q + 1) p && leb p (q + 2)) t in
+    let v = and-yes (leb (q + 1) p) (leb p (q + 2)) (u .1) in
+    record { some = lit≤ (u .0); least = lit≤ (v .0); most = lit≤ (v .1) }
 
 -- a block at the end of the buffer
 at-end : (p q i k : ℕ) (b u : List ℤ) → k ≡ length b - i → u ≡ block p q (take k (drop i b)) → putPart i k b u ≡ blockAt i p q b
@@ -133,7 +133,7 @@ module _ (b t u₃ t₃ u₂ t₂ b₁ t₁ : List ℤ) (k₃ k₂ : ℕ) (n₃ 
       let B : List ℤ = putPart 3807 k₃ b u₃ in
       let m₃ : length (take k₃ (drop 3807 b)) ≡ k₃ = part-length b k₃ 3807 (omega arith) in
       let m₂ : length (take k₂ (drop 3007 B)) ≡ k₂ = part-length B k₂ 3007 (omega arith) in
-      let r₃ : drop 289 t₃ ≡ drop 289 t = ap (drop 289) f₃ ∙ scratch-rest 9 8 first-halves (take k₃ (drop 3807 b)) (omega arith) t in
-      let r₂ : drop 1089 t₂ ≡ drop 1089 t₃ = ap (drop 1089) f₂ ∙ scratch-rest 17 16 second-halves (take k₂ (drop 3007 B)) (omega arith) t₃ in
+      let r₃ : drop 289 t₃ ≡ drop 289 t = ap (drop 289) f₃ ∙ scratch-rest 9 8 (makes-lines tt) (take k₃ (drop 3807 b)) (omega arith) t in
+      let r₂ : drop 1089 t₂ ≡ drop 1089 t₃ = ap (drop 1089) f₂ ∙ scratch-rest 17 16 (makes-lines tt) (take k₂ (drop 3007 B)) (omega arith) t₃ in
       let rest : drop 4096 t₂ ≡ drop 4096 t = drop-more t₂ t₃ 1089 4096 (omega arith) r₂ ∙ drop-more t₃ t 289 4096 (omega arith) r₃ in
       (e₁ ∙ ap (block 33 31) is-inner, f₁ ∙ scratch-same (putPart 3007 k₂ B u₂) t t₂ rest ∙ ap (λ (z : List ℤ). scratch 33 31 z t) is-inner)

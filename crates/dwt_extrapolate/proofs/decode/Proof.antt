@@ -8,7 +8,7 @@ use lib.ListN.{length}
 use borrow.Author.Needs.{needs}
 use borrow.Author.Tests.{lt-leb, le-leb}
 use Rattle.dwt_columns.specs.Inner.{putPart}
-use Rattle.dwt_extrapolate.proofs.Blocks.{three-blocks}
+use Rattle.dwt_extrapolate.proofs.Blocks.{makes-lines, three-blocks}
 use Rattle.dwt_extrapolate.proofs.decode.Statement.{statement}
 use Rattle.dwt_extrapolate.proofs.decode.Tie as tie
 
@@ -26,13 +26,13 @@ returns-2 c =
 
 -- each block makes lines
 decode-block-requires : tie.Need-decode-block-requires
-decode-block-requires c κs = (record { some = omega arith; least = omega arith; most = omega arith }, search needs)
+decode-block-requires c κs = (makes-lines tt, search needs)
 
 decode-block-requires-2 : tie.Need-decode-block-requires-2
-decode-block-requires-2 c κs = (record { some = omega arith; least = omega arith; most = omega arith }, search needs)
+decode-block-requires-2 c κs = (makes-lines tt, search needs)
 
 decode-block-requires-3 : tie.Need-decode-block-requires-3
-decode-block-requires-3 c κs = (record { some = omega arith; least = omega arith; most = omega arith }, search needs)
+decode-block-requires-3 c κs = (makes-lines tt, search needs)
 
 same-length : tie.Need-same-length
 same-length c = c .before .before .decode-block3 .kept .0 ∙ c .before .before .before .before .before .before .buffer2 .given .1 ∙ c .before .before .before .before .before .before .before .before .before .before .before .buffer .given .1
