@@ -36,7 +36,7 @@ pub record Halves (low high : ℕ) : Type 0 where
   pub most : low ≤ high + 2
 
 -- from the even place x on: h is the high place beside it and l the low place after it; the low and the high places after those are given.
--- The two endings are those of two low places more than high ones (33/31) and of one more (9/8, 17/16)
+-- The two endings, where no high place is left, are those of two low places more than high ones (33/31) and of one more (9/8, 17/16)
 unfoldable pub from : ℤ → ℤ → ℤ → List ℤ → List ℤ → List ℤ
 from x h l (m ∷ ls) (k ∷ hs) = x ∷ odd x (even l h k) h ∷ from (even l h k) k m ls hs
 from x h l (m ∷ ls) [] = x ∷ odd x (half l h) h ∷ half l h ∷ mean (half l h) m ∷ []
