@@ -34,14 +34,13 @@ values-few (t ∷ ts) (c ∷ cs) (p ∷ ps) (s ∷ ss) = by (source t s) (values
     by srl h = omega (arith, h)
     by raw h = h
 
-any-writer : (e : Bool) (prev curr : List ℕ) (ss vs : List ℤ) (n : ℕ) → length vs ≤ length (srlWidths (steps e prev curr) ss) → callZeros 0 (take n vs) ≤ mostSrlValues e
-any-writer e prev curr ss vs n h = omega (arith, h, zeros-few 0 n vs, few-srl-values .most e prev curr ss)
-
 -- the law, in both its parts
 pub few-pending-zeros : FewPendingZeros
 few-pending-zeros =
     record {
-      any-writer = any-writer;
+      any-writer = λ e prev curr ss vs n h. omega (arith, h, zeros-few 0 n vs, few-srl-values .most e prev curr ss);
       this-writer =
-          λ e prev curr cs ps ss n. any-writer e prev curr ss (srlDifferences (steps e prev curr) cs ps ss) n (values-few (steps e prev curr) cs ps ss);
+          λ e prev curr cs ps ss n.
+          let ts = steps e prev curr in
+          omega (arith, values-few ts cs ps ss, zeros-few 0 n (srlDifferences ts cs ps ss), few-srl-values .most e prev curr ss);
     }

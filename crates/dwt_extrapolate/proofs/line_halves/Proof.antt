@@ -11,13 +11,13 @@ use Rattle.dwt_extrapolate.proofs.line_halves.Tie as tie
 
 returns : tie.Need-returns
 returns c = record {
-  first = λ b n. block-lines 9 8 (makes-lines tt) (drop 3807 b) (simp length-drop (omega arith));
+  first = λ b n. block-lines _ _ (makes-lines tt) (drop 3807 b) (simp length-drop (omega arith));
   second = λ b n.
       let e : length (blockAt 3807 9 8 b) ≡ length b = block-at-length 3807 9 8 b (omega arith) in
-      block-lines 17 16 (makes-lines tt) (drop 3007 (blockAt 3807 9 8 b)) (simp length-drop (omega arith));
+      block-lines _ _ (makes-lines tt) (drop 3007 (blockAt 3807 9 8 b)) (simp length-drop (omega arith));
   third = λ b n.
       let e : length (inner b) ≡ length b = inner-length b n in
-      block-lines 33 31 (makes-lines tt) (inner b) (omega arith);
+      block-lines _ _ (makes-lines tt) (inner b) (omega arith);
 }
 
 pub line-halves-spec : {M : Type 1} → statement M
