@@ -1,5 +1,4 @@
 -- How many zeros a pass can have pending: no more than it has values. Assumes nothing.
-use mathlib.Core.Bool.{Bool}
 use mathlib.Core.List.{List, [], _∷_}
 use Prim.Native.Nat.{ℕ, zero, suc, _+_, _≤_}
 use native.Mathlib.Omega.{arith}
@@ -8,7 +7,6 @@ use lib.ListN.{length, take}
 use Rattle.srl_encoder.specs.Encode.{valueZeros, callZeros}
 use Rattle.srl_encoder.proofs.EncodedValues.{value-zeros}
 use Rattle.upgrade_steps.specs.Steps.{Step, Source, skipped, srl, raw, source, steps, srlWidth, srlWidths}
-use Rattle.upgrade_steps.specs.Counts.{mostSrlValues}
 use Rattle.upgrade_steps.proofs.Counts.{few-srl-values}
 use Rattle.progressive_encoder.specs.Encode.{srlDifference, srlGiven, srlDifferences}
 use Rattle.progressive_encoder.specs.Pending.{FewPendingZeros}
