@@ -61,6 +61,18 @@ pub fn hold(src: &[u8], r: BitReader) -> BitReader
     r
 }
 
+// How many bits past the stream's end were read up to a place, by a reader that began in the stream.
+pub fn past_end(src: &[u8], r: BitReader) -> u64
+    requires { ⌜ (r .«bit_idx» ≤ 7) × (bitsRead r < 8 * length (now src) + 2 ^ 63) ⌝ }
+    ensures { λ n. ⌜ n ≡ bitsRead r - 8 * length (now (src .entry)) ⌝ }
+{
+    let len = src.len();
+    if r.byte_idx < len {
+        return 0;
+    }
+    8 * ((r.byte_idx - len) as u64) + r.bit_idx as u64
+}
+
 // ---- words
 
 fn wide(x: u8) -> u64

@@ -7,16 +7,9 @@ ghost use lib.ListN.{length};
 ghost use Rattle.bands.specs.Positions.{rowInDomain};
 ghost use Rattle.planes.specs.Planes.{three};
 ghost use Rattle.components.specs.Inner.{ComponentPassed, ComponentsPassed};
-use progressive_decoder::upgrade::Readers;
+use progressive_decoder::MissingBits;
 
-// Where the readers of each component ended.
-pub struct Ends {
-    pub y: Readers,
-    pub cb: Readers,
-    pub cr: Readers,
-}
-
-// One component of the flat arrays, by its number; where its readers end. The tile has seen that no position is above 15.
+// One component of the flat arrays, by its number; the bits that were missing. The tile has seen that no position is above 15.
 fn upgrade_component(
     k: usize,
     srl_data: &[u8],
@@ -26,7 +19,7 @@ fn upgrade_component(
     use_reduce_extrapolate: bool,
     coefficients: &mut [i16],
     sign: &mut [i8],
-) -> Readers
+) -> MissingBits
     requires { ⌜ (k < 3) × (rowInDomain positions ≡ true) × (length (now coefficients) ≡ 12288) × (length (now sign) ≡ 12288) ⌝ }
     ensures { λ r. ⌜ ComponentPassed k «use_reduce_extrapolate» positions rows (now («srl_data» .entry)) (now («raw_data» .entry))
         (now (coefficients .entry)) (now (sign .entry)) (now (coefficients .exit)) (now (sign .exit)) r ⌝ }
@@ -35,7 +28,7 @@ fn upgrade_component(
     let curr = rows[k];
     let at = k * bands::COEFFICIENTS_PER_COMPONENT;
     let end = at + bands::COEFFICIENTS_PER_COMPONENT;
-    progressive_decoder::upgrade::upgrade_bands(
+    progressive_decoder::upgrade::upgrade_all(
         srl_data,
         raw_data,
         prev,
@@ -46,7 +39,7 @@ fn upgrade_component(
     )
 }
 
-// All three; where their readers end.
+// All three; the bits that were missing in all of them.
 pub fn upgrade_components(
     y_srl: &[u8],
     y_raw: &[u8],
@@ -59,7 +52,7 @@ pub fn upgrade_components(
     use_reduce_extrapolate: bool,
     coefficients: &mut [i16],
     sign: &mut [i8],
-) -> Ends
+) -> MissingBits
     requires { ⌜ (rowInDomain positions ≡ true) × (length (now coefficients) ≡ 12288) × (length (now sign) ≡ 12288) ⌝ }
     ensures { λ r. ⌜ ComponentsPassed «use_reduce_extrapolate» positions rows
         (three (now («y_srl» .entry)) (now («cb_srl» .entry)) (now («cr_srl» .entry)))
@@ -70,5 +63,8 @@ pub fn upgrade_components(
     let y = upgrade_component(0, y_srl, y_raw, positions, rows, e, coefficients, sign);
     let cb = upgrade_component(1, cb_srl, cb_raw, positions, rows, e, coefficients, sign);
     let cr = upgrade_component(2, cr_srl, cr_raw, positions, rows, e, coefficients, sign);
-    Ends { y, cb, cr }
+    MissingBits {
+        srl: y.srl + cb.srl + cr.srl,
+        raw: y.raw + cb.raw + cr.raw,
+    }
 }

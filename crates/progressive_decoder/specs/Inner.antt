@@ -12,8 +12,9 @@ use Rattle.srl_decoder.specs.Srl.{Reader, start, nextValue, nextReader, readerA
 use Rattle.srl_decoder.specs.Decode.{opened}
 use Rattle.upgrade_steps.specs.Steps.{Step, Source, skipped, srl, raw, source, srlWidths, rawWidths}
 use Rattle.upgrade_steps.specs.Inner.{fromSrl}
-use Rattle.progressive_decoder.specs.Upgrade.{srlCoefficient, srlSign, adds, rawCoefficient, upgradedCoefficients, upgradedSigns}
+use Rattle.progressive_decoder.specs.Upgrade.{srlCoefficient, srlSign, adds, rawCoefficient, upgradedCoefficients, upgradedSigns, passMissing}
 use Rattle.progressive_decoder.specs.declared.upgrade.Readers.{Readers}
+use Rattle.progressive_decoder.specs.declared.MissingBits.{MissingBits}
 
 -- the coefficients and signs, and both readers: the SRL reader and the count of raw bits read
 pub record Walked : Type 0 where
@@ -137,8 +138,14 @@ pub record Ended (ts : List Step) (srlData : List ℕ) (ss : List ℤ) (r : Read
   pub srl : opened (r .srl) ≡ readerAfter srlData (srlWidths ts ss) start
   pub raw : r .raw ≡ countAfter (rawWidths ts ss) 0
 
--- what a pass over all places fixes
+-- what a pass over all places fixes, with where its readers end
 pub record Upgrades (ts : List Step) (srlData rawData : List ℕ) (cs ss cs′ ss′ : List ℤ) (r : Readers) : Type 0 where
   pub coefficients : cs′ ≡ upgradedCoefficients ts srlData rawData cs ss
   pub sign : ss′ ≡ upgradedSigns ts srlData ss
   pub ends : Ended ts srlData ss r
+
+-- and with the bits that were missing
+pub record UpgradesAll (ts : List Step) (srlData rawData : List ℕ) (cs ss cs′ ss′ : List ℤ) (r : MissingBits) : Type 0 where
+  pub coefficients : cs′ ≡ upgradedCoefficients ts srlData rawData cs ss
+  pub sign : ss′ ≡ upgradedSigns ts srlData ss
+  pub missing : r ≡ passMissing ts srlData rawData ss

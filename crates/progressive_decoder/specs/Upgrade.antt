@@ -8,10 +8,14 @@ use lib.IntN.{ℤ, pos, negsuc}
 use Rattle.fixed.specs.Fixed.{addScaled, subScaled, isOne}
 use Rattle.bands.specs.Positions.{rowInDomain}
 use Rattle.bits.specs.Bits.{numbers}
+use Rattle.bits.specs.Missing.{readNumbers, missingIn}
 use Rattle.srl_decoder.specs.Srl.{start, values}
+use Rattle.srl_decoder.specs.Missing.{valuesMissing}
 use Rattle.upgrade_steps.specs.Steps.{Step, Source, skipped, srl, raw, source, steps, srlWidths, rawWidths}
 use Rattle.answer.specs.Refusals.{sliceTooShort, outOfDomain, unless, firstOf, longEnough, answered, unlessRefused}
 use Rattle.answer.specs.declared.Answer.{Answer}
+use Rattle.progressive_decoder.specs.declared.MissingBits.{MissingBits}
+use Rattle.progressive_decoder.specs.declared.PassDecoded.{PassDecoded}
 
 -- ════ what a value does at its place ════
 
@@ -85,6 +89,24 @@ abbrev pub upgradedCoefficients : List Step → List ℕ → List ℕ → List �
 upgradedCoefficients ts srlData rawData cs ss =
     coefficientsAfter ts cs ss (srlValues ts srlData ss) (rawNumbers ts rawData ss)
 
+-- ════ the bits that were missing ════
+
+-- two counts by themselves
+abbrev pub missingBits : ℕ → ℕ → MissingBits
+missingBits m n = record { srl = m; raw = n }
+
+-- of the SRL stream; "with no SRL value due the SRL stream is not read"
+abbrev pub srlMissing : List Step → List ℕ → List ℤ → ℕ
+srlMissing ts srlData ss = valuesMissing srlData (srlWidths ts ss) start
+
+-- of the raw stream
+abbrev pub rawMissing : List Step → List ℕ → List ℤ → ℕ
+rawMissing ts rawData ss = missingIn (readNumbers rawData (rawWidths ts ss) 0)
+
+-- "a pass gives two counts"
+abbrev pub passMissing : List Step → List ℕ → List ℕ → List ℤ → MissingBits
+passMissing ts srlData rawData ss = missingBits (srlMissing ts srlData ss) (rawMissing ts rawData ss)
+
 -- ════ `decode_upgrade_pass` ════
 
 -- "order: .. 1, 2"
@@ -106,8 +128,14 @@ abbrev pub decodeSigns : List ℕ → List ℕ → List ℕ → Bool → List �
 decodeSigns srlData prev curr e cs ss =
     unlessRefused (decodePassRefusal prev curr cs ss) (upgradedSigns (steps e prev curr) srlData ss) ss
 
--- what the call fixes: its answer, and both slices
-pub record DecodesPass (srlData rawData prev curr : List ℕ) (e : Bool) (cs ss : List ℤ) (r : Answer) (cs′ ss′ : List ℤ) : Type 0 where
-  pub answer : r ≡ decodePassAnswer prev curr cs ss
+-- the counts of missing bits: "a refusal gives 0 for every count"
+abbrev pub decodeMissing : List ℕ → List ℕ → List ℕ → List ℕ → Bool → List ℤ → List ℤ → MissingBits
+decodeMissing srlData rawData prev curr e cs ss =
+    unlessRefused (decodePassRefusal prev curr cs ss) (passMissing (steps e prev curr) srlData rawData ss) (missingBits 0 0)
+
+-- what the call fixes: its answer, the counts of missing bits, and both slices
+pub record DecodesPass (srlData rawData prev curr : List ℕ) (e : Bool) (cs ss : List ℤ) (r : PassDecoded) (cs′ ss′ : List ℤ) : Type 0 where
+  pub answer : r .answer ≡ decodePassAnswer prev curr cs ss
+  pub missing : r .missing ≡ decodeMissing srlData rawData prev curr e cs ss
   pub coefficients : cs′ ≡ decodeCoefficients srlData rawData prev curr e cs ss
   pub sign : ss′ ≡ decodeSigns srlData prev curr e cs ss

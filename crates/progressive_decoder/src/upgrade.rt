@@ -14,8 +14,9 @@ ghost use Rattle.places.specs.Inner.{placeRows};
 ghost use Rattle.bands.specs.Positions.{rowInDomain};
 ghost use Rattle.upgrade_steps.specs.Steps.{steps, srl, raw};
 ghost use Rattle.upgrade_steps.specs.Inner.{bandStep};
-ghost use Rattle.progressive_decoder.specs.Upgrade.{adds, rawCoefficient};
-ghost use Rattle.progressive_decoder.specs.Inner.{walked, over, signBy, PlacesWithin, Early, BandWalked, Upgrades};
+ghost use Rattle.progressive_decoder.specs.Upgrade.{adds, rawCoefficient, missingBits};
+ghost use Rattle.progressive_decoder.specs.Inner.{walked, over, signBy, PlacesWithin, Early, BandWalked, Upgrades, UpgradesAll};
+use crate::MissingBits;
 
 // A reader for each stream: the SRL decoder's state, and the count of raw bits read.
 pub struct Readers {
@@ -261,9 +262,8 @@ fn upgrade_band(
 
 // ---- all bands
 
-// The ten bands, with both readers at the start of their streams; where the readers end. A part of `decode_upgrade_pass` and of a tile's pass,
-// which have seen that no position is above 15.
-pub fn upgrade_bands(
+// The ten bands, with both readers at the start of their streams; where the readers end.
+fn upgrade_bands(
     srl_data: &[u8],
     raw_data: &[u8],
     prev: [u8; 10],
@@ -303,4 +303,47 @@ pub fn upgrade_bands(
         b += 1;
     }
     readers
+}
+
+// How many bits were missing of both streams, by where the readers end.
+fn missing_by(srl_data: &[u8], raw_data: &[u8], ends: Readers) -> MissingBits
+    requires { ⌜
+        (ends .srl .reader .«bit_idx» ≤ 7)
+        × (bitsRead (ends .srl .reader) < 8 * length (now «srl_data») + 2 ^ 32)
+        × (ends .raw < 2 ^ 32) ⌝ }
+    ensures { λ r. ⌜ r ≡ missingBits (bitsRead (ends .srl .reader) - 8 * length (now («srl_data» .entry))) (ends .raw - 8 * length (now («raw_data» .entry))) ⌝ }
+{
+    let state = ends.srl;
+    let srl = bits::reader::past_end(srl_data, state.reader);
+    let raw = bits::reader::past_end(raw_data, bits::reader::place(ends.raw));
+    MissingBits {
+        srl: srl as u32,
+        raw: raw as u32,
+    }
+}
+
+// A pass over all places; the bits that were missing. A part of `decode_upgrade_pass` and of a tile's pass, which have seen that no position is above 15.
+pub fn upgrade_all(
+    srl_data: &[u8],
+    raw_data: &[u8],
+    prev: [u8; 10],
+    curr: [u8; 10],
+    use_reduce_extrapolate: bool,
+    coefficients: &mut [i16],
+    sign: &mut [i8],
+) -> MissingBits
+    requires { ⌜ (rowInDomain prev ≡ true) × (4096 ≤ length (now coefficients)) × (4096 ≤ length (now sign)) ⌝ }
+    ensures { λ r. ⌜ UpgradesAll (steps «use_reduce_extrapolate» prev curr) (now («srl_data» .entry)) (now («raw_data» .entry))
+        (now (coefficients .entry)) (now (sign .entry)) (now (coefficients .exit)) (now (sign .exit)) r ⌝ }
+{
+    let ends = upgrade_bands(
+        srl_data,
+        raw_data,
+        prev,
+        curr,
+        use_reduce_extrapolate,
+        coefficients,
+        sign,
+    );
+    missing_by(srl_data, raw_data, ends)
 }

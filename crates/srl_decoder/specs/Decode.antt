@@ -10,6 +10,7 @@ use Rattle.bits.specs.Bits.{bitsRead, readerMoved}
 use Rattle.answer.specs.Refusals.{invalidBitCount, impossibleState, unless, firstOf, noRoom, stored}
 use Rattle.srl_rules.specs.Rules.{widthOk}
 use Rattle.srl_decoder.specs.Srl.{Reader, reader, readied, nextReader, values, readerAfter}
+use Rattle.srl_decoder.specs.Missing.{valuesMissing}
 use Rattle.srl_decoder.specs.declared.SrlState.{SrlState}
 use Rattle.srl_decoder.specs.declared.Decoded.{Decoded}
 use Rattle.srl_decoder.specs.declared.Decoded.the-variants.{Values, Refused}
@@ -37,6 +38,10 @@ valuesFrom s st n w = values s (replicate n w) (opened st)
 -- the state after them
 abbrev pub stateAfter : List ℕ → SrlState → ℕ → ℕ → SrlState
 stateAfter s st n w = closed s st (readerAfter s (replicate n w) (opened st))
+
+-- how many of the bits that they are read from are missing
+abbrev pub missingFrom : List ℕ → SrlState → ℕ → ℕ → ℕ
+missingFrom s st n w = valuesMissing s (replicate n w) (opened st)
 
 -- ════ refusals ════
 
@@ -66,13 +71,13 @@ decodeRefusal s st room n w =
 -- ════ the answer, and what `out` holds then ════
 
 -- "a refusal gives its number, zero lengths and counts, and the state handed in, and alters no lent element"
-abbrev pub decoded : ℕ → ℕ → SrlState → SrlState → Decoded
-decoded zero n next st = Values n next
-decoded (suc k) n next st = Refused (suc k) st
+abbrev pub decoded : ℕ → ℕ → SrlState → ℕ → SrlState → Decoded
+decoded zero n next m st = Values n next m
+decoded (suc k) n next m st = Refused (suc k) st
 
 -- what `decode` answers
 abbrev pub decodeAnswer : List ℕ → SrlState → ℕ → ℕ → ℕ → Decoded
-decodeAnswer s st room n w = decoded (decodeRefusal s st room n w) n (stateAfter s st n w) st
+decodeAnswer s st room n w = decoded (decodeRefusal s st room n w) n (stateAfter s st n w) (missingFrom s st n w) st
 
 -- what `out` holds after it
 abbrev pub decodeOut : List ℕ → SrlState → List ℤ → ℕ → ℕ → List ℤ
@@ -85,15 +90,20 @@ pub record DecodesSrl (s : List ℕ) (st : SrlState) (o : List ℤ) (n w : ℕ) 
 
 -- the number of each case
 abbrev pub decodedNumber : Decoded → ℕ
-decodedNumber (Values n st) = 0
+decodedNumber (Values n st m) = 0
 decodedNumber (Refused k st) = k
 
 -- the count of values of each case: "zero lengths and counts" with a refusal
 abbrev pub decodedCount : Decoded → ℕ
-decodedCount (Values n st) = n
+decodedCount (Values n st m) = n
 decodedCount (Refused k st) = 0
 
 -- the state of each case
 abbrev pub decodedState : Decoded → SrlState
-decodedState (Values n st) = st
+decodedState (Values n st m) = st
 decodedState (Refused k st) = st
+
+-- the count of missing bits of each case: "a refusal gives 0 for every count"
+abbrev pub decodedMissing : Decoded → ℕ
+decodedMissing (Values n st m) = m
+decodedMissing (Refused k st) = 0

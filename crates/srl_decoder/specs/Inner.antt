@@ -10,6 +10,7 @@ use Rattle.bits.specs.Bits.{placeOf, held}
 use Rattle.srl_decoder.specs.Srl.{Reader, reader, nextValue, nextReader}
 use Rattle.srl_decoder.specs.declared.SrlState.{SrlState}
 use Rattle.srl_decoder.specs.declared.decoder.CodesRead.{CodesRead}
+use Rattle.srl_decoder.specs.declared.decoder.Stored.{Stored}
 
 -- the state that a reader is: the place runs on past the end with the count
 abbrev pub shut : Reader → SrlState
@@ -23,6 +24,10 @@ stateBy byte bit kp run pending =
 -- a reader as far as the stream goes
 abbrev pub heldReader : List ℕ → Reader → Reader
 heldReader s r = reader (held s (r .read)) (r .kp) (r .run) (r .pending)
+
+-- what storing values leaves, once the reader stands at r and m bits were missing
+abbrev pub storedBy : List ℕ → Reader → ℕ → Stored
+storedBy s r m = record { state = shut (heldReader s r); missing = m }
 
 -- the state that goes back to the caller, who handed in st
 abbrev pub handed : List ℕ → SrlState → SrlState → SrlState

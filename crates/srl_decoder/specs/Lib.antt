@@ -1,4 +1,5 @@
 -- What the contracts of `srl_decoder` cite, and `Inner` for inner functions.
 pub mod Srl
+pub mod Missing
 pub mod Decode
 pub mod Inner

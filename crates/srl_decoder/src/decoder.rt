@@ -2,15 +2,15 @@
 ghost use mathlib.Core.Path.{_≡_};
 ghost use mathlib.Core.Bool.{true, false};
 ghost use mathlib.Core.List.{List, _++_};
-ghost use Prim.Native.Nat.{ℕ, _*_, _^_, _+_, _≤_, _<_};
+ghost use Prim.Native.Nat.{ℕ, _*_, _^_, _+_, _-_, _≤_, _<_};
 ghost use lib.ListN.{length, drop, replicate};
 ghost use Rattle.bits.specs.Bits.{bitAt, zeros, bitsRead};
 ghost use Rattle.bits.specs.Inner.{Top, Front};
 ghost use Rattle.srl_decoder.specs.Srl.{mostZeros, behind, codeWord, readerAfter};
-ghost use Rattle.srl_decoder.specs.Decode.{opened, valuesFrom, stateAfter, stateOk, dueAmong, decoded};
+ghost use Rattle.srl_decoder.specs.Decode.{opened, valuesFrom, stateAfter, missingFrom, stateOk, dueAmong, decoded};
 ghost use Rattle.answer.specs.Refusals.{noRoom, stored};
 ghost use Rattle.srl_rules.specs.Inner.{Width};
-ghost use Rattle.srl_decoder.specs.Inner.{SoundState, shut, stateBy, heldReader, handed, readBehind, below, Brought, Clear};
+ghost use Rattle.srl_decoder.specs.Inner.{SoundState, shut, stateBy, heldReader, storedBy, handed, readBehind, below, Brought, Clear};
 use crate::Decoded;
 use crate::SrlState;
 
@@ -27,6 +27,12 @@ pub struct CodesRead {
     pub kp: u8,
     pub run: usize,
     pub pending: bool,
+}
+
+// What storing values leaves: the state, and how many of the bits read were missing.
+pub struct Stored {
+    pub state: SrlState,
+    pub missing: u64,
 }
 
 // Whether a decoder can have the state.
@@ -196,6 +202,19 @@ fn hold(src: &[u8], st: SrlState) -> SrlState
     }
 }
 
+// A call's end: the state, whose place has run on, held at the stream's end, and how many bits were missing.
+fn ended(src: &[u8], st: SrlState) -> Stored
+    requires { ⌜ (st .reader .«bit_idx» ≤ 7) × (bitsRead (st .reader) < 8 * length (now src) + 2 ^ 63) ⌝ }
+    ensures { λ r. ⌜ r ≡ storedBy (now (src .entry)) (opened st) (bitsRead (st .reader) - 8 * length (now (src .entry))) ⌝ }
+{
+    let reader = st.reader;
+    let missing = bits::reader::past_end(src, reader);
+    Stored {
+        state: hold(src, st),
+        missing,
+    }
+}
+
 // The state by its parts.
 fn state_of(byte_idx: usize, bit_idx: u8, kp: u8, run: usize, pending: bool) -> SrlState
     ensures { λ r. ⌜ r ≡ stateBy «byte_idx» «bit_idx» kp run pending ⌝ }
@@ -223,9 +242,9 @@ fn clear(out: &mut [i16], n: usize)
 }
 
 // Stores the next `n` values at the front of `out`. It is cleared first, so that a run of zeros need not be stored: `j` is the place of the next nonzero
-// value, or of the next code word. A turn reads code words and the value behind them from one word. The loop keeps the state's parts: a struct would take
-// its padding round.
-fn store_values(src: &[u8], st: SrlState, out: &mut [i16], n: usize, num_bits: u8) -> SrlState
+// value, or of the next code word. A turn reads code words and the value behind them from one word. The place runs on past the stream's end, so that at the
+// end of the call it tells how many bits were missing. The loop keeps the state's parts: a struct would take its padding round.
+fn store_values(src: &[u8], st: SrlState, out: &mut [i16], n: usize, num_bits: u8) -> Stored
     requires { ⌜
         (st .reader .«bit_idx» ≤ 7)
         × (st .kp ≤ 80)
@@ -233,7 +252,7 @@ fn store_values(src: &[u8], st: SrlState, out: &mut [i16], n: usize, num_bits: u
         × Width «num_bits»
         × (n ≤ length (now out)) ⌝ }
     ensures { λ r. ⌜
-        (r ≡ shut (heldReader (now (src .entry)) (readerAfter (now (src .entry)) (replicate n «num_bits») (opened st))))
+        (r ≡ storedBy (now (src .entry)) (readerAfter (now (src .entry)) (replicate n «num_bits») (opened st)) (missingFrom (now (src .entry)) st n «num_bits»))
         × (now (out .exit) ≡ valuesFrom (now (src .entry)) st n «num_bits» ++ drop n (now (out .entry))) ⌝ }
 {
     clear(out, n);
@@ -260,11 +279,10 @@ fn store_values(src: &[u8], st: SrlState, out: &mut [i16], n: usize, num_bits: u
             pending = false;
             j += 1;
         }
-        let held = bits::reader::hold(src, next);
-        byte_idx = held.byte_idx;
-        bit_idx = held.bit_idx;
+        byte_idx = next.byte_idx;
+        bit_idx = next.bit_idx;
     }
-    state_of(byte_idx, bit_idx, kp, j - n, pending)
+    ended(src, state_of(byte_idx, bit_idx, kp, j - n, pending))
 }
 
 // The state that goes back to the caller: a place that was handed in at or past the end stays as it is.
@@ -315,8 +333,8 @@ pub fn store_if_room(
 ) -> Decoded
     requires { ⌜ (st .reader .«bit_idx» ≤ 7) × (st .kp ≤ 80) × Width «num_bits» ⌝ }
     ensures { λ r. ⌜
-        (r ≡ decoded (noRoom (length (now (out .entry))) «num_values»)
-        «num_values» (stateAfter (now (src .entry)) st «num_values» «num_bits») st)
+        (r ≡ decoded (noRoom (length (now (out .entry))) «num_values») «num_values»
+        (stateAfter (now (src .entry)) st «num_values» «num_bits») (missingFrom (now (src .entry)) st «num_values» «num_bits») st)
         × (now (out .exit) ≡ stored (noRoom (length (now (out .entry))) «num_values»)
         (valuesFrom (now (src .entry)) st «num_values» «num_bits») (now (out .entry))) ⌝ }
 {
@@ -324,5 +342,6 @@ pub fn store_if_room(
         return Decoded::Refused(answer::OUTPUT_TOO_SHORT, st);
     }
     let done = store_values(src, hold(src, st), out, num_values, num_bits);
-    Decoded::Values(num_values, hand_back(src, st, done))
+    let next = done.state;
+    Decoded::Values(num_values, hand_back(src, st, next), done.missing)
 }

@@ -15,9 +15,10 @@ pub struct SrlState {
     pub nonzero_pending: bool,
 }
 
-// What `decode` answers: how many values it stored and the state after them, or a refusal and the state that was handed in.
+// What `decode` answers: how many values it stored, the state after them and how many of the bits read came from past the stream's end; or a
+// refusal and the state that was handed in.
 pub enum Decoded {
-    Values(usize, SrlState),
+    Values(usize, SrlState, u64),
     Refused(u8, SrlState),
 }
 

@@ -20,18 +20,23 @@ decoderAt src st = record { src = src; state = st }
 
 -- an answer without its state
 abbrev pub outcome : Decoded → Outcome
-outcome (D.Values n st) = O.Values n
+outcome (D.Values n st m) = O.Values n m
 outcome (D.Refused k st) = O.Refused k
 
 -- the number of each case
 abbrev pub outcomeNumber : Outcome → ℕ
-outcomeNumber (O.Values n) = 0
+outcomeNumber (O.Values n m) = 0
 outcomeNumber (O.Refused k) = k
 
 -- the count of values of each case
 abbrev pub outcomeCount : Outcome → ℕ
-outcomeCount (O.Values n) = n
+outcomeCount (O.Values n m) = n
 outcomeCount (O.Refused k) = 0
+
+-- the count of missing bits of each case
+abbrev pub outcomeMissing : Outcome → ℕ
+outcomeMissing (O.Values n m) = m
+outcomeMissing (O.Refused k) = 0
 
 -- "a call then answers as on that stream and state, and leaves the decoder at the new state"
 abbrev pub decodedBy : RefT (List ℕ) → Decoded → DecodedBy

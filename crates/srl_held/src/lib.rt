@@ -19,9 +19,9 @@ pub struct SrlDecoder<'a> {
     pub state: srl_decoder::SrlState,
 }
 
-// What a call of a decoder answers: how many values it stored, or the number of its refusal.
+// What a call of a decoder answers: how many values it stored and how many of the bits read were missing, or the number of its refusal.
 pub enum Outcome {
-    Values(usize),
+    Values(usize, u64),
     Refused(u8),
 }
 
@@ -50,8 +50,8 @@ fn decode_at(
         × (now (out .exit) ≡ decodeOut (now (src .entry)) state (now (out .entry)) «num_values» «num_bits») ⌝ }
 {
     match srl_decoder::decode(src, state, out, num_values, num_bits) {
-        srl_decoder::Decoded::Values(count, next) => Parts {
-            outcome: Outcome::Values(count),
+        srl_decoder::Decoded::Values(count, next, missing) => Parts {
+            outcome: Outcome::Values(count, missing),
             state: next,
         },
         srl_decoder::Decoded::Refused(number, kept) => Parts {

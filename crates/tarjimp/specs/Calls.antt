@@ -5,7 +5,7 @@ use mathlib.Core.List.{List, [], _∷_}
 use Prim.Native.Nat.{ℕ}
 use lib.IntN.{ℤ}
 use lib.ListN.{length, replicate}
-use Rattle.srl_decoder.specs.Decode.{decodeAnswer, decodeOut, decodedNumber}
+use Rattle.srl_decoder.specs.Decode.{decodeAnswer, decodeOut, decodedNumber, decodedMissing}
 use Rattle.srl_decoder.specs.declared.Decoded.{Decoded}
 use Rattle.srl_decoder.specs.declared.Decoded.the-variants as D
 use Rattle.srl_encoder.specs.Encode.{encodeAnswer, encodeOut, encodedNumber, encodedCount}
@@ -13,6 +13,8 @@ use Rattle.srl_encoder.specs.Finish.{finishAnswer, finishOut, finishedNumber, f
 use Rattle.srl_encoder.specs.declared.Encoded.{Encoded}
 use Rattle.srl_encoder.specs.declared.Encoded.the-variants as E
 use Rattle.answer.specs.Refusals.{impossibleState, answered}
+use Rattle.progressive_decoder.specs.Upgrade.{decodePassAnswer, decodeCoefficients, decodeSigns, decodeMissing}
+use Rattle.progressive_decoder.specs.declared.MissingBits.{MissingBits}
 use Rattle.progressive_encoder.specs.Encode.{writtenNumber, srlCount, rawCount, encodePassAnswer, encodeSrlOut, encodeRawOut}
 use Rattle.tile.specs.Tile.{decodeUpgrade}
 use Rattle.tile.specs.declared.TileState.{TileState}
@@ -22,7 +24,7 @@ use Rattle.tarjimp.specs.States.{readerFits, readerOf, readerNumbers, wr
 
 -- a state's numbers after an answer: "a refusal gives .. the state handed in"
 abbrev pub decodedNumbers : Decoded → List ℕ → List ℕ
-decodedNumbers (D.Values n st) s = readerNumbers st
+decodedNumbers (D.Values n st m) s = readerNumbers st
 decodedNumbers (D.Refused k st) s = s
 
 -- the number returned: "one that does not fit its field .. is no state: 8"
@@ -37,11 +39,16 @@ srlDecodeState src s room n w = cond (readerFits s) (decodedNumbers (decodeAnswe
 abbrev pub srlDecodeOut : List ℕ → List ℕ → List ℤ → ℕ → ℕ → List ℤ
 srlDecodeOut src s out n w = cond (readerFits s) (decodeOut src (readerOf s) out n w) out
 
--- what the call fixes: the number returned, the state's numbers, and the output
-pub record SrlDecodes (src s : List ℕ) (o : List ℤ) (n w : ℕ) (r : ℕ) (s′ : List ℕ) (o′ : List ℤ) : Type 0 where
+-- the count of missing bits: "a refusal gives 0 for every count"
+abbrev pub srlDecodeMissing : List ℕ → List ℕ → ℕ → ℕ → ℕ → ℕ
+srlDecodeMissing src s room n w = cond (readerFits s) (decodedMissing (decodeAnswer src (readerOf s) room n w)) 0
+
+-- what the call fixes: the number returned, the state's numbers, the output, and the count of missing bits
+pub record SrlDecodes (src s : List ℕ) (o : List ℤ) (n w : ℕ) (r : ℕ) (s′ : List ℕ) (o′ : List ℤ) (m′ : ℕ) : Type 0 where
   pub number : r ≡ srlDecodeNumber src s (length o) n w
   pub state : s′ ≡ srlDecodeState src s (length o) n w
   pub out : o′ ≡ srlDecodeOut src s o n w
+  pub missing : m′ ≡ srlDecodeMissing src s (length o) n w
 
 -- ════ `tarjimp_srl_encode`: s is the state's four numbers ════
 
@@ -93,6 +100,19 @@ pub record SrlFinishes (s o : List ℕ) (r : ℕ) (o′ : List ℕ) (n′ : ℕ)
   pub out : o′ ≡ srlFinishOut s o
   pub written : n′ ≡ srlFinishCount s (length o)
 
+-- ════ `tarjimp_decode_upgrade_pass` ════
+
+-- two counts of missing bits as numbers: of the SRL stream, and of the raw stream
+abbrev pub missingNumbers : MissingBits → List ℕ
+missingNumbers m = m .srl ∷ m .raw ∷ []
+
+-- what the call fixes: the number returned, both slices, and the counts of missing bits
+pub record ReadsPass (srlData rawData prev curr : List ℕ) (e : Bool) (cs ss : List ℤ) (r : ℕ) (cs′ ss′ : List ℤ) (counts : List ℕ) : Type 0 where
+  pub number : answered r ≡ decodePassAnswer prev curr cs ss
+  pub coefficients : cs′ ≡ decodeCoefficients srlData rawData prev curr e cs ss
+  pub sign : ss′ ≡ decodeSigns srlData prev curr e cs ss
+  pub missing : counts ≡ missingNumbers (decodeMissing srlData rawData prev curr e cs ss)
+
 -- ════ `tarjimp_encode_upgrade_pass` ════
 
 -- what the call fixes: the number returned, the counts of both streams ("zero lengths and counts" with a refusal), and both outputs
@@ -118,7 +138,8 @@ tileOf cs ss positions quants e pass quality = record {
   «use_reduce_extrapolate» = e;
 }
 
--- what the call fixes: the number returned, and the tile
-pub record UpgradesTile (t : TileState) (srlData rawData rows : List (List ℕ)) (q : ℕ) (r : ℕ) (t′ : TileState) : Type 0 where
+-- what the call fixes: the number returned, the tile, and the counts of missing bits
+pub record UpgradesTile (t : TileState) (srlData rawData rows : List (List ℕ)) (q : ℕ) (r : ℕ) (t′ : TileState) (counts : List ℕ) : Type 0 where
   pub number : answered r ≡ decodeUpgrade t srlData rawData rows q .answer
   pub tile : t′ ≡ decodeUpgrade t srlData rawData rows q .tile
+  pub missing : counts ≡ missingNumbers (decodeUpgrade t srlData rawData rows q .missing)

@@ -1,12 +1,13 @@
 // What calls answer, taken apart into numbers.
 
 ghost use mathlib.Core.Path.{_≡_};
-ghost use Rattle.srl_decoder.specs.Decode.{decodedNumber};
+ghost use Rattle.srl_decoder.specs.Decode.{decodedNumber, decodedMissing};
 ghost use Rattle.srl_encoder.specs.Encode.{encodedNumber, encodedCount};
 ghost use Rattle.srl_encoder.specs.Finish.{finishedNumber, finishedCount};
 ghost use Rattle.progressive_encoder.specs.Encode.{writtenNumber, srlCount, rawCount};
-ghost use Rattle.tarjimp.specs.Calls.{decodedNumbers, encodedNumbers};
+ghost use Rattle.tarjimp.specs.Calls.{decodedNumbers, encodedNumbers, missingNumbers};
 use crate::states;
+use progressive_decoder::MissingBits;
 use progressive_encoder::Written;
 use srl_decoder::Decoded;
 use srl_encoder::Encoded;
@@ -17,7 +18,7 @@ pub fn decoded_number(d: Decoded) -> u8
     ensures { λ r. ⌜ r ≡ decodedNumber d ⌝ }
 {
     match d {
-        Decoded::Values(_, _) => 0,
+        Decoded::Values(_, _, _) => 0,
         Decoded::Refused(k, _) => k,
     }
 }
@@ -27,8 +28,18 @@ pub fn decoded_numbers(d: Decoded, s: [u64; 5]) -> [u64; 5]
     ensures { λ r. ⌜ r ≡ decodedNumbers d s ⌝ }
 {
     match d {
-        Decoded::Values(_, st) => states::reader_numbers(st),
+        Decoded::Values(_, st, _) => states::reader_numbers(st),
         Decoded::Refused(_, _) => s,
+    }
+}
+
+// How many of the bits that it read were missing.
+pub fn decoded_missing(d: Decoded) -> u64
+    ensures { λ r. ⌜ r ≡ decodedMissing d ⌝ }
+{
+    match d {
+        Decoded::Values(_, _, m) => m,
+        Decoded::Refused(_, _) => 0,
     }
 }
 
@@ -110,4 +121,11 @@ pub fn raw_count(w: Written) -> usize
         Written::Bytes(_, m) => m,
         Written::Refused(_) => 0,
     }
+}
+
+// The counts of missing bits: of the SRL stream, and of the raw stream.
+pub fn missing_numbers(m: MissingBits) -> [u32; 2]
+    ensures { λ r. ⌜ r ≡ missingNumbers m ⌝ }
+{
+    [m.srl, m.raw]
 }

@@ -4,18 +4,18 @@
 
 ghost use mathlib.Core.Path.{_≡_};
 ghost use Rattle.answer.specs.Refusals.{answered};
-ghost use Rattle.progressive_decoder.specs.Upgrade.{DecodesPass};
 ghost use Rattle.dequantizer.specs.Dequantize.{Dequantizes};
 ghost use Rattle.dwt_extrapolate.specs.Transform.{Inverts};
 ghost use Rattle.color.specs.Color.{rgb};
 ghost use Rattle.pixels.specs.Pixels.{WritesPixels};
 ghost use Rattle.planes.specs.Planes.{three};
-ghost use Rattle.tarjimp.specs.Calls.{SrlDecodes, SrlEncodes, SrlFinishes, WritesPass, tileOf, UpgradesTile};
+ghost use Rattle.tarjimp.specs.Calls.{SrlDecodes, ReadsPass, SrlEncodes, SrlFinishes, WritesPass, tileOf, UpgradesTile};
 
 mod answers;
 mod states;
 
-// Reads `num_values` values of an SRL stream from a state on. The state is five numbers: byte, bit, kp, zero_run_remaining, nonzero_pending.
+// Reads `num_values` values of an SRL stream from a state on. The state is five numbers: byte, bit, kp, zero_run_remaining, nonzero_pending. `missing`
+// has the count of bits from past the stream's end then, 0 after a refusal.
 #[no_mangle]
 pub extern "C" fn tarjimp_srl_decode(
     src: &[u8],
@@ -23,16 +23,19 @@ pub extern "C" fn tarjimp_srl_decode(
     out: &mut [i16],
     num_values: usize,
     num_bits: u8,
+    missing: &mut u64,
 ) -> u8
     ensures { λ r. ⌜ SrlDecodes (now (src .entry)) (now (state .entry)) (now (out .entry)) «num_values» «num_bits»
-        r (now (state .exit)) (now (out .exit)) ⌝ }
+        r (now (state .exit)) (now (out .exit)) (now (missing .exit)) ⌝ }
 {
     let s = *state;
     if !states::reader_fits(s) {
+        *missing = 0;
         return answer::IMPOSSIBLE_STATE;
     }
     let d = srl_decoder::decode(src, states::reader_of(s), out, num_values, num_bits);
     *state = answers::decoded_numbers(d, s);
+    *missing = answers::decoded_missing(d);
     answers::decoded_number(d)
 }
 
@@ -75,7 +78,8 @@ pub extern "C" fn tarjimp_srl_finish(state: &[u64; 4], out: &mut [u8], written: 
     answers::finished_number(f)
 }
 
-// Reads a pass: the coefficients of each band go from its position in `prev` to that in `curr`.
+// Reads a pass: the coefficients of each band go from its position in `prev` to that in `curr`. `missing` has the counts of bits from past the end of
+// the SRL stream and of the raw stream then, 0 and 0 after a refusal.
 #[no_mangle]
 pub extern "C" fn tarjimp_decode_upgrade_pass(
     srl_data: &[u8],
@@ -85,13 +89,14 @@ pub extern "C" fn tarjimp_decode_upgrade_pass(
     use_reduce_extrapolate: bool,
     coefficients: &mut [i16],
     sign: &mut [i8],
+    missing: &mut [u32; 2],
 ) -> u8
-    ensures { λ r. ⌜ DecodesPass (now («srl_data» .entry)) (now («raw_data» .entry)) (now (prev .entry)) (now (curr .entry)) «use_reduce_extrapolate»
-        (now (coefficients .entry)) (now (sign .entry)) (answered r) (now (coefficients .exit)) (now (sign .exit)) ⌝ }
+    ensures { λ r. ⌜ ReadsPass (now («srl_data» .entry)) (now («raw_data» .entry)) (now (prev .entry)) (now (curr .entry)) «use_reduce_extrapolate»
+        (now (coefficients .entry)) (now (sign .entry)) r (now (coefficients .exit)) (now (sign .exit)) (now (missing .exit)) ⌝ }
 {
     let p = *prev;
     let q = *curr;
-    answer::number_of(progressive_decoder::decode_upgrade_pass(
+    let d = progressive_decoder::decode_upgrade_pass(
         srl_data,
         raw_data,
         p,
@@ -99,7 +104,9 @@ pub extern "C" fn tarjimp_decode_upgrade_pass(
         use_reduce_extrapolate,
         coefficients,
         sign,
-    ))
+    );
+    *missing = answers::missing_numbers(d.missing);
+    answer::number_of(d.answer)
 }
 
 // Dequantizes a component in place.
@@ -168,7 +175,8 @@ pub extern "C" fn tarjimp_ycbcr_to_rgb(y: i16, cb: i16, cr: i16, out: &mut [u8; 
     *out = color::ycbcr_to_rgb(y, cb, cr);
 }
 
-// A pass over the three components of a tile, in place: `TileState::decode_upgrade` on the fields that it reads and changes.
+// A pass over the three components of a tile, in place: `TileState::decode_upgrade` on the fields that it reads and changes. `missing` is as above,
+// with the sums over the three components.
 #[no_mangle]
 pub extern "C" fn tarjimp_tile_decode_upgrade(
     coefficients: &mut [i16; bands::COEFFICIENTS_PER_TILE],
@@ -186,6 +194,7 @@ pub extern "C" fn tarjimp_tile_decode_upgrade(
     cb_raw: &[u8],
     cr_srl: &[u8],
     cr_raw: &[u8],
+    missing: &mut [u32; 2],
 ) -> u8
     ensures { λ r. ⌜ UpgradesTile
         (tileOf (now (coefficients .entry)) (now (sign .entry)) (now («prog_quant» .entry)) (now («base_quant» .entry))
@@ -195,15 +204,17 @@ pub extern "C" fn tarjimp_tile_decode_upgrade(
         (now («prog_quants» .entry)) «new_quality»
         r
         (tileOf (now (coefficients .exit)) (now (sign .exit)) (now («prog_quant» .exit)) (now («base_quant» .entry))
-        «use_reduce_extrapolate» (now (pass .exit)) (now (quality .exit))) ⌝ }
+        «use_reduce_extrapolate» (now (pass .exit)) (now (quality .exit)))
+        (now (missing .exit)) ⌝ }
 {
     let rows = *prog_quants;
     let positions = *prog_quant;
     let quants = *base_quant;
     if !tile::in_domain(rows, positions, quants) {
+        *missing = [0, 0];
         return answer::OUT_OF_DOMAIN;
     }
-    tile::upgrade_in_place(
+    let bits = tile::upgrade_in_place(
         y_srl,
         y_raw,
         cb_srl,
@@ -218,6 +229,7 @@ pub extern "C" fn tarjimp_tile_decode_upgrade(
         pass,
     );
     *quality = new_quality;
+    *missing = answers::missing_numbers(bits);
     0
 }
 

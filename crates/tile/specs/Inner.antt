@@ -5,10 +5,10 @@ use mathlib.Core.List.{List}
 use Prim.Native.Nat.{ℕ}
 use lib.IntN.{ℤ}
 use Rattle.planes.specs.Planes.{joined, of}
-use Rattle.components.specs.Components.{passCoefficients, passSigns}
-use Rattle.components.specs.Inner.{ComponentsEnded}
-use Rattle.components.specs.declared.Ends.{Ends}
-use Rattle.tile.specs.Tile.{nextPass}
+use Rattle.progressive_decoder.specs.declared.MissingBits.{MissingBits}
+use Rattle.components.specs.Components.{passCoefficients, passSigns, passMissing}
+use Rattle.tile.specs.Tile.{nextPass, upgraded, upgradeMissing}
+use Rattle.tile.specs.declared.TileState.{TileState}
 
 -- the fields that a pass reads and changes
 pub record Fields : Type 0 where
@@ -21,10 +21,15 @@ pub record Fields : Type 0 where
 abbrev pub fields : List ℤ → List ℤ → List ℕ → ℕ → Fields
 fields cs ss positions n = record { coefficients = cs; sign = ss; positions = positions; pass = n }
 
--- what a pass fixes of them, from f to g; r is where the readers end
-pub record PassedInPlace (e : Bool) (rows srlData rawData : List (List ℕ)) (f g : Fields) (r : Ends) : Type 0 where
+-- what a pass fixes of them, from f to g, and the bits that were missing
+pub record PassedInPlace (e : Bool) (rows srlData rawData : List (List ℕ)) (f g : Fields) (r : MissingBits) : Type 0 where
   pub coefficients : g .coefficients ≡ passCoefficients e (f .positions) rows srlData rawData (f .coefficients) (f .sign)
   pub sign : g .sign ≡ passSigns e (f .positions) rows srlData (f .sign)
   pub positions : g .positions ≡ joined (of rows)
   pub pass : g .pass ≡ nextPass (f .pass)
-  pub ends : ComponentsEnded e (f .positions) rows srlData (f .sign) r
+  pub missing : r ≡ passMissing e (f .positions) rows srlData rawData (f .sign)
+
+-- what a pass over a tile fixes: the tile then, and the bits that were missing
+pub record PassesTile (t : TileState) (srlData rawData rows : List (List ℕ)) (q : ℕ) (t′ : TileState) (m : MissingBits) : Type 0 where
+  pub tile : t′ ≡ upgraded t srlData rawData rows q
+  pub missing : m ≡ upgradeMissing t srlData rawData rows

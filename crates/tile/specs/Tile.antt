@@ -8,7 +8,9 @@ use lib.ListN.{replicate}
 use Rattle.bands.specs.Positions.{every, rowInDomain, rowsInDomain}
 use Rattle.answer.specs.declared.Answer.{Answer}
 use Rattle.answer.specs.Refusals.{sliceTooShort, outOfDomain, unless, firstOf, longEnough, answered, unlessRefused}
-use Rattle.components.specs.Components.{passCoefficients, passSigns}
+use Rattle.progressive_decoder.specs.Upgrade.{missingBits}
+use Rattle.progressive_decoder.specs.declared.MissingBits.{MissingBits}
+use Rattle.components.specs.Components.{passCoefficients, passSigns, passMissing}
 use Rattle.planes.specs.Planes.{joined, of, taken}
 use Rattle.pixels.specs.Pixels.{pixelsAnswer, pixelsOut}
 use Rattle.tile.specs.declared.TileState.{TileState}
@@ -92,13 +94,18 @@ rowsRefusal positions quants rows = unless (rowsInDomain rows && (rowInDomain po
 abbrev pub upgradeRefusal : TileState → List (List ℕ) → ℕ
 upgradeRefusal t rows = rowsRefusal (t .«prog_quant») (t .«base_quant») rows
 
--- the answer by the refusal, and the tile: new, or if refused the old one
-abbrev pub upgradedBy : ℕ → TileState → TileState → Upgraded
-upgradedBy n new old = record { answer = answered n; tile = unlessRefused n new old }
+-- how many bits of its streams were missing
+abbrev pub upgradeMissing : TileState → List (List ℕ) → List (List ℕ) → List (List ℕ) → MissingBits
+upgradeMissing t srlData rawData rows = passMissing (t .«use_reduce_extrapolate») (t .«prog_quant») rows srlData rawData (t .sign)
 
--- what `decode_upgrade` answers: "a refusal gives .. the state handed in"
+-- the answer by the refusal, the tile and the bits that were missing: if refused the old tile and none
+abbrev pub upgradedBy : ℕ → TileState → TileState → MissingBits → Upgraded
+upgradedBy n new old m = record { answer = answered n; tile = unlessRefused n new old; missing = unlessRefused n m (missingBits 0 0) }
+
+-- what `decode_upgrade` answers: "a refusal gives .. the state handed in", and "0 for every count"
 abbrev pub decodeUpgrade : TileState → List (List ℕ) → List (List ℕ) → List (List ℕ) → ℕ → Upgraded
-decodeUpgrade t srlData rawData rows q = upgradedBy (upgradeRefusal t rows) (upgraded t srlData rawData rows q) t
+decodeUpgrade t srlData rawData rows q =
+    upgradedBy (upgradeRefusal t rows) (upgraded t srlData rawData rows q) t (upgradeMissing t srlData rawData rows)
 
 -- ════ its pixels ════
 

@@ -8,9 +8,10 @@ ghost use lib.Dec.{leb};
 ghost use lib.ListN.{length};
 ghost use Rattle.bands.specs.Positions.{every, rowInDomain, rowsInDomain};
 ghost use Rattle.planes.specs.Planes.{three};
-ghost use Rattle.tile.specs.Tile.{fresh, loaded, loadedBy, load, nextPass, upgraded, decodeUpgrade, Reconstructs};
+ghost use Rattle.tile.specs.Tile.{fresh, loaded, loadedBy, load, nextPass, decodeUpgrade, Reconstructs};
 ghost use Rattle.tile.specs.Refused.{TileRefusals};
-ghost use Rattle.tile.specs.Inner.{fields, PassedInPlace};
+ghost use Rattle.tile.specs.Inner.{fields, PassedInPlace, PassesTile};
+use progressive_decoder::MissingBits;
 
 // A tile: 64 x 64 pixels, with what has arrived of them. Arrays are flat: three components (Y, Cb, Cr) of 4,096, three rows of ten.
 #[repr(C)]
@@ -32,10 +33,17 @@ pub struct Loaded {
     pub tile: TileState,
 }
 
-// What `decode_upgrade` answers, and the tile then.
+// What `decode_upgrade` answers, the tile then, and the bits that were missing in all three components: none where it refuses.
 pub struct Upgraded {
     pub answer: answer::Answer,
     pub tile: TileState,
+    pub missing: MissingBits,
+}
+
+// The tile after a pass, and the bits that were missing.
+struct Passed {
+    pub tile: TileState,
+    pub missing: MissingBits,
 }
 
 // The number of a tile's next pass.
@@ -88,7 +96,7 @@ fn not_loaded(refusal: u8) -> Loaded
     }
 }
 
-// A pass over the fields of a tile that it changes, where they lie, and where its readers ended; the caller stores the quality. A part of the
+// A pass over the fields of a tile that it changes, where they lie, and the bits that were missing; the caller stores the quality. A part of the
 // tile's call and of the C function: both have seen that no position is above 15.
 pub fn upgrade_in_place(
     y_srl: &[u8],
@@ -103,7 +111,7 @@ pub fn upgrade_in_place(
     sign: &mut [i8; bands::COEFFICIENTS_PER_TILE],
     prog_quant: &mut [u8; 30],
     pass: &mut u16,
-) -> components::Ends
+) -> MissingBits
     requires { ⌜ rowInDomain (now «prog_quant») ≡ true ⌝ }
     ensures { λ r. ⌜ PassedInPlace «use_reduce_extrapolate» rows
         (three (now («y_srl» .entry)) (now («cb_srl» .entry)) (now («cr_srl» .entry)))
@@ -114,7 +122,7 @@ pub fn upgrade_in_place(
 {
     let prev = *prog_quant;
     let number = *pass;
-    let ends = components::upgrade_components(
+    let missing = components::upgrade_components(
         y_srl,
         y_raw,
         cb_srl,
@@ -129,7 +137,7 @@ pub fn upgrade_in_place(
     );
     *prog_quant = planes::flat_rows(rows);
     *pass = next_pass(number);
-    ends
+    missing
 }
 
 impl TileState {
@@ -254,19 +262,19 @@ impl TileState {
         cr_raw: &[u8],
         prog_quants: [[u8; 10]; 3],
         quality: u8,
-    ) -> TileState
+    ) -> Passed
         requires { ⌜ rowInDomain (self .«prog_quant») ≡ true ⌝ }
-        ensures { λ r. ⌜ r ≡ upgraded self
+        ensures { λ r. ⌜ PassesTile self
             (three (now («y_srl» .entry)) (now («cb_srl» .entry)) (now («cr_srl» .entry)))
             (three (now («y_raw» .entry)) (now («cb_raw» .entry)) (now («cr_raw» .entry)))
-            «prog_quants» quality ⌝ }
+            «prog_quants» quality (r .tile) (r .missing) ⌝ }
     {
         let e = self.use_reduce_extrapolate;
         let mut coefficients = self.coefficients;
         let mut sign = self.sign;
         let mut prog_quant = self.prog_quant;
         let mut pass = self.pass;
-        upgrade_in_place(
+        let missing = upgrade_in_place(
             y_srl,
             y_raw,
             cb_srl,
@@ -282,7 +290,7 @@ impl TileState {
         );
         let quant_idx = self.quant_idx;
         let base_quant = self.base_quant;
-        Self {
+        let tile = Self {
             coefficients: coefficients,
             sign: sign,
             prog_quant: prog_quant,
@@ -292,7 +300,8 @@ impl TileState {
             is_difference: self.is_difference,
             quality: quality,
             use_reduce_extrapolate: e,
-        }
+        };
+        Passed { tile, missing }
     }
 
     // One pass over the three components, from the tile's positions to those given, with two streams for each.
@@ -318,6 +327,7 @@ impl TileState {
             return Upgraded {
                 answer: answer::Answer::Refused(answer::OUT_OF_DOMAIN),
                 tile: self,
+                missing: MissingBits { srl: 0, raw: 0 },
             };
         }
         let next = self.upgraded(
@@ -330,9 +340,12 @@ impl TileState {
             prog_quants,
             quality,
         );
+        let tile = next.tile;
+        let missing = next.missing;
         Upgraded {
             answer: answer::Answer::Accepted,
-            tile: next,
+            tile,
+            missing,
         }
     }
 
