@@ -5,8 +5,9 @@ use mathlib.Core.List.{List, [], _∷_, _++_}
 use Prim.Native.Nat.{ℕ, zero, suc, _+_, _-_, _*_, _≤_, _<_}
 use native.Mathlib.Nat.{add-zero, zero-add, suc-add}
 use native.Mathlib.Numerals.{add-one}
+use native.Mathlib.Decide.{decLt}
 use native.Mathlib.Omega.{arith}
-use borrow.Author.Tests.{leb-true, leb-false, ltb-true, le-leb, lt-leb}
+use borrow.Author.Tests.{leb-true, leb-false, lt-ltb, le-ltb, le-leb}
 use lib.Dec.{leb, ltb}
 use lib.ListN.{length}
 use Rattle.bits.specs.Bits.{bitOf, bitAt, zeros, zerosLength}
@@ -57,16 +58,16 @@ zeros-read s n zero = refl
 zeros-read s n (suc l) = by (bitAt s n) (zeros-read s (suc n) l)
   where
     one : (z : ℕ) → z ≤ l → cond (ltb (suc z) (suc l)) (suc z + 1) (suc l) ≡ suc (cond (ltb z l) (z + 1) l)
-    one z h = by′ (ltb z l)
+    one z h = by′ (decLt z l)
       where
-        by′ : (t : Bool) → cond t (suc z + 1) (suc l) ≡ suc (cond t (z + 1) l)
-        by′ true = omega arith
-        by′ false = refl
+        by′ : Dec (z < l) → cond (ltb (suc z) (suc l)) (suc z + 1) (suc l) ≡ suc (cond (ltb z l) (z + 1) l)
+        by′ (yes p) = simp (lt-ltb (suc z) (suc l) (omega arith), lt-ltb z l p) (omega arith)
+        by′ (no p) = simp (le-ltb (suc z) (suc l) (omega arith), le-ltb z l (omega arith))
 
     by : (b : Bool) → readZeros s (suc n) l ≡ readNum s (suc n) (zerosLength s (suc n) l)
         → (readBit s n ∷ cond b [] (readZeros s (suc n) l))
         ≡ readNum s n (cond (ltb (cond b 0 (suc (zeros s (suc n) l))) (suc l)) (cond b 0 (suc (zeros s (suc n) l)) + 1) (suc l))
-    by true ih = refl
+    by true ih = ap (λ (t : Bool). readNum s n (cond t 1 (suc l))) (sym (lt-ltb 0 (suc l) (omega arith)))
     by false ih = ap (λ (r : List BitRead). readBit s n ∷ r) ih ∙ ap (readNum s n) (sym (one (zeros s (suc n) l) (zeros-le s (suc n) l)))
 
 -- ════ past the end ════
@@ -75,7 +76,9 @@ zeros-read s n (suc l) = by (bitAt s n) (zeros-read s (suc n) l)
 pub read-alike : (s : List ℕ) {m n : ℕ} → Alike s m n → readBit s m ≡ readBit s n
 read-alike s (same e) = ap (readBit s) e
 read-alike s {m} {n} (past g h) =
-    λ i. record { bit = bit-alike s {m} {n} (past g h) i; missing = (le-leb (8 * length s) m g ∙ sym (le-leb (8 * length s) n h)) i }
+    let a : Alike s m n = past g h in
+    let e : leb (8 * length s) m ≡ leb (8 * length s) n = le-leb (8 * length s) m g ∙ sym (le-leb (8 * length s) n h) in
+    λ i. record { bit = bit-alike s a i; missing = e i }
 
 -- a number's bits
 pub num-read-alike : (s : List ℕ) {m n : ℕ} (w : ℕ) → Alike s m n → readNum s m w ≡ readNum s n w
