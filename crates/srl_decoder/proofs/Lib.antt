@@ -5,4 +5,5 @@ pub mod Due
 pub mod States
 pub mod Chains
 pub mod Missing
+pub mod Most
 pub mod Filled
