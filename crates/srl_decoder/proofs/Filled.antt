@@ -19,7 +19,7 @@ use Rattle.srl_decoder.specs.Inner.{Same, Brought, Clear}
 use Rattle.srl_decoder.specs.declared.decoder.CodesRead.{CodesRead}
 use Rattle.srl_decoder.proofs.Chains.{zeros-brought}
 use Rattle.srl_decoder.proofs.States.{after-mono}
-use Rattle.srl_decoder.proofs.Most.{narrow-all, most-read}
+use Rattle.srl_decoder.proofs.Most.{narrow-replicate, most-read}
 
 -- the output and the reader
 pub record Filled : Type 0 where
@@ -174,7 +174,7 @@ module _ (s : List ℕ) (w : ℕ) where
   rest-bound n j at kp at₀ kp₀ j₀ p p₀ out out₀ h k l e =
       let r = reader at₀ kp₀ j₀ p₀ in
       let f : rest n j at kp p out .after .read ≡ readerAfter s (replicate n w) r .read = ap (λ (g : Filled). g .after .read) (sym e) ∙ ap (λ (q : Reader). q .read) (fill-after n 0 r out₀) in
-      omega (arith, f, rest-near n j at kp p out, most-read s (replicate n w) r (narrow-all n w h) k l, length-replicate n w)
+      omega (arith, f, rest-near n j at kp p out, most-read s (replicate n w) r (narrow-replicate n w h) k l, length-replicate n w)
 
   -- at the end no value is left
   pub rest-end : (n j at kp : ℕ) (p : Bool) (out : List ℤ) → n ≤ j → rest n j at kp p out ≡ filled out (reader at kp (j - n) p)
