@@ -14,7 +14,7 @@ use Rattle.bits.proofs.Holds.{Holds, pack-holds}
 use Rattle.bits.proofs.Past.{same, past, alike-held}
 use Rattle.bits.proofs.Places.{read-place}
 use Rattle.srl_decoder.specs.Srl.{Reader, reader, start, values, readerAfter}
-use Rattle.srl_decoder.specs.Decode.{startState, opened, closed, stateOk, decodeRefusal, decoded, decodeAnswer, decodeOut, decodedState}
+use Rattle.srl_decoder.specs.Decode.{startState, opened, closed, missingFrom, stateOk, decodeRefusal, decoded, decodeAnswer, decodeOut, decodedState}
 use Rattle.answer.specs.Refusals.{invalidBitCount, unless, firstOf, stored}
 use Rattle.answer.proofs.Numbers.{first-none, passes, room-for}
 use Rattle.srl_rules.specs.Rules.{widthOk}
@@ -135,7 +135,7 @@ back-reads s (a ∷ asks) st r h f k =
     let e = no-refusal s st (a .width) (a .count) (asked asks) h f in
     let v = values-alike s ws k in
     let after = readerAfter s ws (opened st) in
-    let next : decodedState (decodeAnswer s st (a .count) (a .count) (a .width)) ≡ closed s st after = ap (λ (n : ℕ). decodedState (decoded n (a .count) (closed s st after) st)) e in
+    let next : decodedState (decodeAnswer s st (a .count) (a .count) (a .width)) ≡ closed s st after = ap (λ (n : ℕ). decodedState (decoded n (a .count) (closed s st after) (missingFrom s st (a .count) (a .width)) st)) e in
     let ih = back-reads s asks (closed s st after) (readerAfter s ws r) (closed-ok s st ws h) (fine-rest (a .width) (a .count) f)
     (reader-trans s (closed-alike s st after (after-mono s ws (opened st))) (v .1)) in
     ap₂ (λ (x y : List ℤ). x ++ y) (out-is s st a e ∙ v .0) (ap (λ (t : SrlState). readBack s t asks) next ∙ ih) ∙ sym (values-append s ws (asked asks) r)

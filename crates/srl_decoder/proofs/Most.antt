@@ -19,9 +19,9 @@ use Rattle.srl_decoder.proofs.Codes.{code-zero, code-one, ready-pending
 use Rattle.srl_decoder.proofs.Chains.{below-next}
 
 -- widths that are all the same
-pub narrow-all : (n w : ℕ) → w ≤ 15 → Narrow (replicate n w)
-narrow-all zero w h = none
-narrow-all (suc n) w h = narrow h (narrow-all n w h)
+pub narrow-replicate : (n w : ℕ) → w ≤ 15 → Narrow (replicate n w)
+narrow-replicate zero w h = none
+narrow-replicate (suc n) w h = narrow h (narrow-replicate n w h)
 
 -- a nonzero value takes at most 32,767 bits
 behind-most : (s : List ℕ) (n w : ℕ) → w ≤ 15 → behind s n w ≤ n + 32767
