@@ -11,7 +11,7 @@ use borrow.Author.Tests.{leb-true, leb-false, lt-ltb, le-ltb, le-leb}
 use lib.Dec.{leb, ltb}
 use lib.ListN.{length}
 use Rattle.bits.specs.Bits.{bitOf, bitAt, zeros, zerosLength}
-use Rattle.bits.specs.Missing.{BitRead, readBit, readNum, readZeros, missingIn}
+use Rattle.bits.specs.Missing.{BitRead, readBit, readNum, readZeros, missingIn, InStream}
 use Rattle.bits.proofs.Ones.{zeros-le}
 use Rattle.bits.proofs.Past.{Alike, same, past, alike-on, bit-alike}
 
@@ -32,6 +32,14 @@ missing-num s n (suc w) = by (leb (8 * length s) n) refl (missing-num s (suc n) 
     by : (b : Bool) → leb (8 * length s) n ≡ b → {m : ℕ} → m ≡ w - (8 * length s - suc n) → bitOf b + m ≡ suc w - (8 * length s - n)
     by true e h = omega (arith, leb-true (8 * length s) n e)
     by false e h = omega (arith, leb-false (8 * length s) n e)
+
+-- none is missing if and only if every one of them lies in the stream
+pub none-missing : (s : List ℕ) (n w : ℕ) → (missingIn (readNum s n w) ≡ 0 → InStream s n (n + w)) × (InStream s n (n + w) → missingIn (readNum s n w) ≡ 0)
+none-missing s n w = ((λ e i h g. omega (arith, e, missing-num s n w)), by w)
+  where
+    by : (w : ℕ) → InStream s n (n + w) → missingIn (readNum s n w) ≡ 0
+    by zero h = omega (arith, missing-num s n 0)
+    by (suc w) h = omega (arith, missing-num s n (suc w), h (n + w) (omega arith) (omega arith))
 
 -- ════ one after another ════
 
