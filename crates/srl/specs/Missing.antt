@@ -1,7 +1,7 @@
 -- How much of an SRL stream was missing, as a statement: what the counts of `decode` say, and what they can be.
 use mathlib.Core.Path.{_≡_}
 use mathlib.Core.List.{List, [], _∷_, _++_}
-use Prim.Native.Nat.{ℕ, suc, _+_, _-_, _*_, _≤_}
+use Prim.Native.Nat.{ℕ, suc, _+_, _-_, _*_, _^_, _≤_, _<_}
 use lib.IntN.{ℤ}
 use lib.ListN.{length, replicate}
 use Rattle.bits.specs.Missing.{readNum, InStream}
@@ -50,8 +50,10 @@ pub record SrlMissingBits : Type 0 where
   pub in-a-row : (s : List ℕ) (st : SrlState) (asks : List Ask) → Granted s st asks → missedBack s st asks ≡ valuesMissing s (asked asks) (opened st)
   -- from whatever place, at most 32,777 bits can be missing, and one for each value
   pub most : (s ws : List ℕ) (r : Reader) → Narrow ws → r .kp ≤ 80 → valuesMissing s ws r ≤ length ws + 32777
-  -- a call's count therefore is at most 32,777 more than its output has room for, and fits 64 bits
+  -- so a call misses at most 32,777 bits more than its output has room for values, whatever it is given
   pub most-call : (s : List ℕ) (st : SrlState) (room n w : ℕ) → decodedMissing (decodeAnswer s st room n w) ≤ room + 32777
+  -- and its count fits 64 bits, as no slice has 2^63 elements
+  pub fits : (s : List ℕ) (st : SrlState) (room n w : ℕ) → room < 2 ^ 63 → decodedMissing (decodeAnswer s st room n w) < 2 ^ 64
   -- what `encode` and `finish` wrote misses nothing, read by `decode` however both sides split the values into calls
   pub whole : (cs : List EncodeCall) (asks : List Ask) → Accepted freshWriter cs → asked asks ≡ widths cs → missedBack (streamFrom freshWriter cs) startState asks ≡ 0
   -- k zero bytes behind the stream change no value, and no place that a reader comes to

@@ -7,6 +7,7 @@ use lib.IntN.{ℤ}
 use Rattle.fixed.specs.Fixed.{withSign}
 use Rattle.bits.proofs.Longer.{SameBits, num-same, zeros-same, zeros-length-same}
 use Rattle.srl_decoder.specs.Srl.{Reader, reader, mostZeros, codeWord, ready, value, past, readied, nextValue, nextReader, values, readerAfter}
+use Rattle.srl_decoder.specs.Decode.{due, dueAmong}
 
 module _ (s t : List ℕ) (same : SameBits s t) where
   code-same : (n kp : ℕ) → codeWord s n kp ≡ codeWord t n kp
@@ -42,3 +43,10 @@ module _ (s t : List ℕ) (same : SameBits s t) where
       let n = next-same w r in
       let i = values-same ws (nextReader t w r) in
       (ap₂ (λ (v : ℤ) (q : Reader). v ∷ values s ws q) (n .0) (n .1) ∙ ap (λ (vs : List ℤ). nextValue t w r ∷ vs) (i .0), ap (readerAfter s ws) (n .1) ∙ i .1)
+
+  -- and whether a nonzero value is due among them
+  pub due-same : (r : Reader) (n : ℕ) → dueAmong s r n ≡ dueAmong t r n
+  due-same r zero = refl
+  due-same r (suc n) =
+      ap₂ (λ (q p : Reader). cond (due (q .run)) true (dueAmong s p n)) (ready-same (r .read) (r .kp) (r .run) (r .pending)) (next-same 0 r .1)
+      ∙ ap (λ (b : Bool). cond (due (readied t r .run)) true b) (due-same (nextReader t 0 r) n)
