@@ -8,6 +8,8 @@ ghost use Rattle.progressive.specs.Refused.{PassRefusals};
 ghost use Rattle.progressive.specs.OwnCuts.{OwnCutsSent};
 pub use answer::Answer;
 pub use dequantizer::dequantize_component_ccq;
+pub use progressive_decoder::MissingBits;
+pub use progressive_decoder::PassDecoded;
 pub use progressive_decoder::decode_upgrade_pass;
 pub use progressive_encoder::Written;
 pub use progressive_encoder::encode_upgrade_pass;

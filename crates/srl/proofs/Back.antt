@@ -7,13 +7,11 @@ use native.Mathlib.Decide.{decLt}
 use native.Mathlib.Omega.{arith}
 use borrow.Author.Tests.{lt-ltb, le-ltb}
 use lib.IntN.{ℤ, pos, negsuc, natAbs}
-use lib.ListN.{length, replicate, length-append, length-replicate, drop-of-length-le}
+use lib.ListN.{length, replicate, length-replicate, drop-of-length-le}
 use lib.Pow.{pow-pos}
 use Rattle.bits.specs.Bits.{bitsRead, readerMoved, held}
 use Rattle.bits.specs.Missing.{missingIn}
 use Rattle.bits.specs.Written.{pack}
-use Rattle.bits.proofs.Holds.{Holds, pack-holds}
-use Rattle.bits.proofs.Packed.{length-pack}
 use Rattle.bits.proofs.Past.{same, past, alike-held}
 use Rattle.bits.proofs.Places.{read-place}
 use Rattle.srl_decoder.specs.Srl.{Reader, reader, start, values, readerAfter}
@@ -76,12 +74,7 @@ calls-stream kp z (c ∷ cs) =
 -- the values of calls that were all accepted, read one by one from the stream that they wrote, are those that were given, and no bit past its end is read
 pub stream-reads : (cs : List EncodeCall) → Accepted freshWriter cs → ReadBack (streamFrom freshWriter cs) (widths cs) start (given cs) (8 * length (streamFrom freshWriter cs))
 stream-reads cs a =
-    let s = streamFrom freshWriter cs in
-    let bits = allBits 8 0 cs in
-    let h : Holds s 0 bits = pack-holds bits s 0 0 0 (0 ∷ []) (omega arith) (stream-packed freshWriter cs) in
-    let r = stream-back (calls-legal freshWriter cs a) s (subst (Holds s 0) (calls-stream 8 0 cs) h) in
-    let l : length (pack 0 0 bits) + 1 ≡ length s = sym (ap length (stream-packed freshWriter cs) ∙ length-append (pack 0 0 bits) (0 ∷ [])) in
-    record { gives = r .gives; ends = omega (arith, r .ends, ap length (calls-stream 8 0 cs), l, length-pack bits 0 0 (omega arith)) }
+    stream-back (calls-legal freshWriter cs a) (streamFrom freshWriter cs) (stream-packed freshWriter cs ∙ ap (λ (bits : List Bool). pack 0 0 bits ++ (0 ∷ [])) (calls-stream 8 0 cs))
 
 -- ════ and by calls ════
 

@@ -2,7 +2,7 @@
 use mathlib.Core.Path.{_≡_, refl, sym, ap, ap₂, _∙_, subst}
 use mathlib.Core.Bool.{Bool, true, false, cond}
 use mathlib.Core.List.{List, [], _∷_, _++_, append-assoc, append-nil}
-use Prim.Native.Nat.{ℕ, zero, suc, _+_, _-_, _/_, _^_, _≤_, _<_, min}
+use Prim.Native.Nat.{ℕ, zero, suc, _+_, _-_, _*_, _/_, _^_, _≤_, _<_, min}
 use native.Mathlib.Numerals.{add-one}
 use native.Mathlib.Omega.{arith}
 use borrow.Author.Tests.{ltb-true, ltb-false, lt-ltb, le-ltb}
@@ -13,8 +13,9 @@ use lib.Pow.{pow-pos}
 use lib.Seq.{length-take-le, append-snoc}
 use Rattle.fixed.specs.Fixed.{withSign}
 use Rattle.bits.specs.Bits.{bitAt, num, zeros, zerosLength}
-use Rattle.bits.specs.Written.{bitsOf}
-use Rattle.bits.proofs.Holds.{Holds, holds-append, zeros-one, zeros-all, num-holds}
+use Rattle.bits.specs.Written.{bitsOf, pack}
+use Rattle.bits.proofs.Holds.{Holds, holds-append, zeros-one, zeros-all, num-holds, pack-holds}
+use Rattle.bits.proofs.Packed.{length-pack}
 use Rattle.bits.proofs.Puts.{length-bitsOf}
 use Rattle.srl_decoder.specs.Srl.{Reader, reader, start, mostZeros, nonzero, behind, codeWord, values, readerAfter}
 use Rattle.srl_encoder.specs.Encode.{stop, nonzeroBits, runBits, runKp}
@@ -190,6 +191,9 @@ reads (legal {w = w} {v = negsuc m} {ws = ws} {vs = vs} l ls) s n kp zs h =
     let kp′ = runKp (suc (length zs)) kp (length zs) in
     value-reads s n kp w m true zs ws (negsuc m) vs (streamBits kp′ 0 ws vs) (omega arith) (ap (withSign true) (add-one m)) h (λ i. reads ls s i kp′ [])
 
--- from the start of a stream: the values, and no bit behind those of the stream is read
-pub stream-back : {ws : List ℕ} {vs : List ℤ} → Legal ws vs → (s : List ℕ) → Holds s 0 (streamBits 8 0 ws vs) → ReadBack s ws start vs (length (streamBits 8 0 ws vs))
-stream-back l s h = let r = reads l s 0 8 [] h in record { gives = r .gives; ends = omega (arith, r .ends) }
+-- from the start of the whole stream: the values, and no bit past its end is read
+pub stream-back : {ws : List ℕ} {vs : List ℤ} → Legal ws vs → (s : List ℕ) → s ≡ pack 0 0 (streamBits 8 0 ws vs) ++ (0 ∷ []) → ReadBack s ws start vs (8 * length s)
+stream-back {ws} {vs} l s e =
+    let bits = streamBits 8 0 ws vs in
+    let r = reads l s 0 8 [] (pack-holds bits s 0 0 0 (0 ∷ []) (omega arith) e) in
+    record { gives = r .gives; ends = omega (arith, r .ends, ap length e, length-append (pack 0 0 bits) (0 ∷ []), length-pack bits 0 0 (omega arith)) }
