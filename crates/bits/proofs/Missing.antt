@@ -33,13 +33,13 @@ missing-num s n (suc w) = by (leb (8 * length s) n) refl (missing-num s (suc n) 
     by true e h = omega (arith, leb-true (8 * length s) n e)
     by false e h = omega (arith, leb-false (8 * length s) n e)
 
--- none is missing if and only if every one of them lies in the stream
-pub none-missing : (s : List ℕ) (n w : ℕ) → (missingIn (readNum s n w) ≡ 0 → InStream s n (n + w)) × (InStream s n (n + w) → missingIn (readNum s n w) ≡ 0)
-none-missing s n w = ((λ e i h g. omega (arith, e, missing-num s n w)), by w)
+-- of the bits from bit n on up to bit m none is missing if and only if every one of them lies in the stream
+pub none-missing : (s : List ℕ) (n m : ℕ) {k : ℕ} → n ≤ m → k ≡ missingIn (readNum s n (m - n)) → (k ≡ 0 → InStream s n m) × (InStream s n m → k ≡ 0)
+none-missing s n m {k} h e = ((λ z i a b. omega (arith, z, e, missing-num s n (m - n))), λ f. by f (decLt n m))
   where
-    by : (w : ℕ) → InStream s n (n + w) → missingIn (readNum s n w) ≡ 0
-    by zero h = omega (arith, missing-num s n 0)
-    by (suc w) h = omega (arith, missing-num s n (suc w), h (n + w) (omega arith) (omega arith))
+    by : InStream s n m → Dec (n < m) → k ≡ 0
+    by f (yes p) = omega (arith, e, missing-num s n (m - n), f (m - 1) (omega arith) (omega arith))
+    by f (no p) = omega (arith, e, missing-num s n (m - n))
 
 -- ════ one after another ════
 

@@ -1,5 +1,5 @@
 -- The bits that the decoder reads for some values are those between its two places, each once: how many of them are missing, in closed form.
-use mathlib.Core.Path.{_≡_, refl, sym, ap, ap₂, _∙_, subst}
+use mathlib.Core.Path.{_≡_, refl, sym, ap, ap₂, _∙_}
 use mathlib.Core.Bool.{Bool, true, false, cond}
 use mathlib.Core.List.{List, [], _∷_, _++_, append-nil}
 use Prim.Native.Nat.{ℕ, zero, suc, _+_, _-_, _*_, _/_, _^_, _≤_, min}
@@ -83,12 +83,7 @@ module _ (s : List ℕ) where
   -- none is missing if and only if every bit between the two places lies in the stream
   pub values-ended : (ws : List ℕ) (r : Reader)
       → (valuesMissing s ws r ≡ 0 → InStream s (r .read) (readerAfter s ws r .read)) × (InStream s (r .read) (readerAfter s ws r .read) → valuesMissing s ws r ≡ 0)
-  values-ended ws r =
-      let m = readerAfter s ws r .read in
-      let e : r .read + (m - r .read) ≡ m = omega (arith, after-mono s ws r) in
-      let f : missingIn (readNum s (r .read) (m - r .read)) ≡ valuesMissing s ws r = ap missingIn (sym (values-read ws r)) in
-      let n = none-missing s (r .read) (m - r .read) in
-      ((λ h. subst (InStream s (r .read)) e (n .0 (f ∙ h))), λ h. sym f ∙ n .1 (subst (InStream s (r .read)) (sym e) h))
+  values-ended ws r = none-missing s (r .read) (readerAfter s ws r .read) (after-mono s ws r) (ap missingIn (values-read ws r))
 
   -- some values and then others: both together
   pub missing-in-a-row : (us ws : List ℕ) (r : Reader) → valuesMissing s (us ++ ws) r ≡ valuesMissing s us r + valuesMissing s ws (readerAfter s us r)
