@@ -1,5 +1,5 @@
 -- The bits of both streams that a pass misses: none of a whole pass, what a count says, at most how many, and none once the streams are long enough.
-use mathlib.Core.Path.{_≡_, refl, ap, ap₂}
+use mathlib.Core.Path.{_≡_, refl, ap, ap₂, _∙_}
 use mathlib.Core.Bool.{Bool, _&&_}
 use mathlib.Core.List.{List, [], _∷_, _++_}
 use Prim.Native.Nat.{ℕ, zero, suc, _+_, _-_, _*_, _≤_}
@@ -28,7 +28,7 @@ use Rattle.progressive_decoder.specs.Inner.{countAfter}
 use Rattle.progressive_decoder.specs.declared.MissingBits.{MissingBits}
 use Rattle.progressive_decoder.proofs.Missing.{srl-missing, raw-missing, srl-most, raw-most}
 use Rattle.progressive_encoder.specs.Encode.{rawDifference, rawGiven, rawDifferences, srlBytes, rawBytes, passFault, encodePassRefusal}
-use Rattle.progressive.specs.Missing.{sum, rawBits, PassMissingBits}
+use Rattle.progressive.specs.Missing.{srlBits, sum, rawBits, PassMissingBits}
 use Rattle.progressive.proofs.Regained.{pass-values, taken, long}
 
 -- ════ how many raw bits are read, and written ════
@@ -129,6 +129,12 @@ fewer ts srlData rawData ss j k =
       omega (arith, raw-past ts (rawData ++ replicate k 0) ss, raw-past ts rawData ss, length-longer rawData k),
     )
 
+long-enough : (ts : List Step) (srlData rawData : List ℕ) (ss : List ℤ) (j k : ℕ) → srlBits ts srlData ss ≤ 8 * (length srlData + j) → rawBits ts ss ≤ 8 * (length rawData + k)
+    → passMissing ts (srlData ++ replicate j 0) (rawData ++ replicate k 0) ss ≡ missingBits 0 0
+long-enough ts srlData rawData ss j k a b =
+    let f = fewer ts srlData rawData ss j k in
+    ap₂ missingBits (f .0 ∙ omega (arith, srl-missing ts srlData ss, a)) (f .1 ∙ omega (arith, raw-past ts rawData ss, b))
+
 -- ════ the statement ════
 
 -- in its parts; the figures compute
@@ -148,4 +154,5 @@ missing = record {
       let n = decodePassRefusal prev curr cs ss in
       (ap (λ (a : List ℤ). unlessRefused n a cs) (l .0), ap (λ (a : List ℤ). unlessRefused n a ss) (l .1));
   fewer = fewer;
+  long-enough = long-enough;
 }

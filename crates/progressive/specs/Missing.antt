@@ -5,7 +5,7 @@ use mathlib.Core.Bool.{Bool, true, false}
 use mathlib.Core.List.{List, [], _∷_, _++_}
 use Prim.Native.Nat.{ℕ, _+_, _-_, _*_, _≤_}
 use lib.IntN.{ℤ, pos}
-use lib.ListN.{replicate}
+use lib.ListN.{length, replicate}
 use Rattle.bits.specs.Missing.{InStream}
 use Rattle.srl_decoder.specs.Srl.{start, readerAfter}
 use Rattle.upgrade_steps.specs.Steps.{Step, steps, srlWidths, rawWidths}
@@ -53,6 +53,9 @@ pub record PassMissingBits : Type 0 where
   pub longer-call : (srlData rawData prev curr : List ℕ) (e : Bool) (cs ss : List ℤ) (j k : ℕ)
       → (decodeCoefficients (srlData ++ replicate j 0) (rawData ++ replicate k 0) prev curr e cs ss ≡ decodeCoefficients srlData rawData prev curr e cs ss)
       × (decodeSigns (srlData ++ replicate j 0) prev curr e cs ss ≡ decodeSigns srlData prev curr e cs ss)
-  -- and take 8 from each count for each byte, so that both are 0 once the streams are long enough
+  -- and take 8 from each count for each byte
   pub fewer : (ts : List Step) (srlData rawData : List ℕ) (ss : List ℤ) (j k : ℕ)
       → (srlMissing ts (srlData ++ replicate j 0) ss ≡ srlMissing ts srlData ss - 8 * j) × (rawMissing ts (rawData ++ replicate k 0) ss ≡ rawMissing ts rawData ss - 8 * k)
+  -- so that both are 0 once the streams are long enough
+  pub long-enough : (ts : List Step) (srlData rawData : List ℕ) (ss : List ℤ) (j k : ℕ) → srlBits ts srlData ss ≤ 8 * (length srlData + j) → rawBits ts ss ≤ 8 * (length rawData + k)
+      → passMissing ts (srlData ++ replicate j 0) (rawData ++ replicate k 0) ss ≡ missingBits 0 0

@@ -23,7 +23,7 @@ use Rattle.srl_rules.specs.Rules.{widthOk}
 use Rattle.srl_encoder.specs.Encode.{valueBits, valueKp, valueZeros, callBits, callKp, callZeros, callBytes, callAfter, freshWriter, valueFault, fault}
 use Rattle.srl_encoder.specs.Finish.{streamBits}
 use Rattle.srl.specs.Laws.{Legal, legal, EncodeCall, Ask, Accepted, streamFrom, given, widths, asked, room, readBack, RoundTrip}
-use Rattle.srl.specs.Missing.{answerTo, Granted, missedBack}
+use Rattle.srl.specs.Missing.{answerTo, Granted, missedBack, Fine, fine}
 use Rattle.srl_decoder.specs.declared.SrlState.{SrlState}
 use Rattle.srl_encoder.specs.declared.SrlWriter.{SrlWriter}
 use Rattle.srl.proofs.Streamed.{allBits, stream-packed, accepted}
@@ -78,11 +78,6 @@ stream-reads cs a =
 
 -- ════ and by calls ════
 
--- every width is 1 to 15
-pub data Fine : List ℕ → Type 0 where
-  none : Fine []
-  fine : {w : ℕ} {ws : List ℕ} → widthOk w ≡ true → Fine ws → Fine (w ∷ ws)
-
 fine-call : (w n : ℕ) {ws : List ℕ} → widthOk w ≡ true → Fine ws → Fine (replicate n w ++ ws)
 fine-call w zero h f = f
 fine-call w (suc n) h f = fine h (fine-call w n h f)
@@ -134,7 +129,7 @@ closed-alike s st r h = by (decLt (st .reader .«byte_idx») (length s))
         subst (λ (n : ℕ). AlikeReader s (reader n (r .kp) (r .run) (r .pending)) r) (sym e) (alike (past (omega arith) (omega arith)))
 
 -- calls in a row whose widths are fine are accepted
-granted : (s : List ℕ) (st : SrlState) (asks : List Ask) → stateOk st ≡ true → Fine (asked asks) → Granted s st asks
+pub granted : (s : List ℕ) (st : SrlState) (asks : List Ask) → stateOk st ≡ true → Fine (asked asks) → Granted s st asks
 granted s st [] h f = tt
 granted s st (a ∷ asks) h f =
     let e = no-refusal s st (a .width) (a .count) (asked asks) h f in

@@ -24,7 +24,7 @@ use Rattle.srl_decoder.proofs.Most.{narrow-replicate, missing-most}
 use Rattle.srl_decoder.proofs.Longer.{values-same, due-same}
 use Rattle.srl.specs.Missing.{SrlMissingBits}
 use Rattle.srl.proofs.Kept.{kept}
-use Rattle.srl.proofs.Back.{back-reads, calls-back}
+use Rattle.srl.proofs.Back.{granted, back-reads, calls-back}
 
 -- ════ a call ════
 
@@ -90,6 +90,7 @@ missing = record {
   call = call-ended;
   refused = λ s st room n w k. call-refused s st room n w;
   in-a-row = λ s st asks g. back-reads s asks st (opened st) g (alike (same refl)) .1;
+  accepted = granted;
   most = missing-most;
   most-call = call-most;
   fits = λ s st room n w h. omega (arith, call-most s st room n w);

@@ -1,5 +1,6 @@
 -- How much of an SRL stream was missing, as a statement: what the counts of `decode` say, and what they can be.
 use mathlib.Core.Path.{_≡_}
+use mathlib.Core.Bool.{true}
 use mathlib.Core.List.{List, [], _∷_, _++_}
 use Prim.Native.Nat.{ℕ, suc, _+_, _-_, _*_, _^_, _≤_, _<_}
 use lib.IntN.{ℤ}
@@ -7,7 +8,8 @@ use lib.ListN.{length, replicate}
 use Rattle.bits.specs.Missing.{readNum, InStream}
 use Rattle.srl_decoder.specs.Srl.{Reader, values, readerAfter}
 use Rattle.srl_decoder.specs.Missing.{readValues, valuesMissing, Narrow}
-use Rattle.srl_decoder.specs.Decode.{startState, opened, decodeRefusal, decodeAnswer, decodeOut, decodedState, decodedMissing}
+use Rattle.srl_decoder.specs.Decode.{startState, opened, stateOk, decodeRefusal, decodeAnswer, decodeOut, decodedState, decodedMissing}
+use Rattle.srl_rules.specs.Rules.{widthOk}
 use Rattle.srl_encoder.specs.Encode.{freshWriter}
 use Rattle.srl.specs.Laws.{EncodeCall, Ask, Accepted, streamFrom, widths, asked}
 use Rattle.srl_decoder.specs.declared.SrlState.{SrlState}
@@ -29,6 +31,11 @@ abbrev pub missedBack : List ℕ → SrlState → List Ask → ℕ
 missedBack s st [] = 0
 missedBack s st (a ∷ asks) = decodedMissing (answerTo s st a) + missedBack s (decodedState (answerTo s st a)) asks
 
+-- every width is 1 to 15
+pub data Fine : List ℕ → Type 0 where
+  none : Fine []
+  fine : {w : ℕ} {ws : List ℕ} → widthOk w ≡ true → Fine ws → Fine (w ∷ ws)
+
 -- ════ the statement ════
 
 -- A value is asked for by its width; `readerAfter s ws r` is where a reader that stood at r stands once it has read a value for each width of ws
@@ -48,6 +55,8 @@ pub record SrlMissingBits : Type 0 where
   pub refused : (s : List ℕ) (st : SrlState) (room n w k : ℕ) → decodeRefusal s st room n w ≡ suc k → decodedMissing (decodeAnswer s st room n w) ≡ 0
   -- the counts of calls in a row add up to the count of one reading of all their values
   pub in-a-row : (s : List ℕ) (st : SrlState) (asks : List Ask) → Granted s st asks → missedBack s st asks ≡ valuesMissing s (asked asks) (opened st)
+  -- where the first state passes the decoder's test and every width is 1 to 15, they are all accepted
+  pub accepted : (s : List ℕ) (st : SrlState) (asks : List Ask) → stateOk st ≡ true → Fine (asked asks) → Granted s st asks
   -- from whatever place, at most 32,777 bits can be missing, and one for each value
   pub most : (s ws : List ℕ) (r : Reader) → Narrow ws → r .kp ≤ 80 → valuesMissing s ws r ≤ length ws + 32777
   -- so a call misses at most 32,777 bits more than its output has room for values, whatever it is given
