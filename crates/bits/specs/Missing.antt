@@ -1,7 +1,7 @@
 -- The bits that a reading takes, one by one, and how many of them came from past the end of the stream (docs/SCOPE.md, "Missing bits").
 use mathlib.Core.Bool.{Bool, cond}
 use mathlib.Core.List.{List, [], _∷_, _++_}
-use Prim.Native.Nat.{ℕ, zero, suc, _+_, _*_}
+use Prim.Native.Nat.{ℕ, zero, suc, _+_, _*_, _≤_, _<_}
 use lib.Dec.{leb}
 use lib.ListN.{length}
 use Rattle.bits.specs.Bits.{bitOf, bitAt}
@@ -38,3 +38,9 @@ readZeros s n (suc limit) = readBit s n ∷ cond (readBit s n .bit) [] (readZero
 unfoldable pub missingIn : List BitRead → ℕ
 missingIn [] = 0
 missingIn (b ∷ bs) = bitOf (b .missing) + missingIn bs
+
+-- ════ where a stream ended ════
+
+-- every bit from bit n on up to bit m lies in the stream
+abbrev pub InStream : List ℕ → ℕ → ℕ → Type 0
+InStream s n m = (i : ℕ) → n ≤ i → i < m → i < 8 * length s
