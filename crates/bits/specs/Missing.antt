@@ -11,7 +11,7 @@ pub record BitRead : Type 0 where
   pub bit : Bool
   pub missing : Bool
 
--- bit n of a stream, read: "it is missing if n is at or past 8 times the stream's length"
+-- "bit n of a stream is missing if n is at or past 8 times the stream's length"
 abbrev pub readBit : List ℕ → ℕ → BitRead
 readBit s n = record { bit = bitAt s n; missing = leb (8 * length s) n }
 
@@ -34,7 +34,7 @@ readZeros s n (suc limit) = readBit s n ∷ cond (readBit s n .bit) [] (readZero
 
 -- ════ how many of them are missing ════
 
--- "the number of flags that are true, counted bit by bit"
+-- "the number of flags that are true among the bits which it reads, counted bit by bit"
 unfoldable pub missingIn : List BitRead → ℕ
 missingIn [] = 0
 missingIn (b ∷ bs) = bitOf (b .missing) + missingIn bs
