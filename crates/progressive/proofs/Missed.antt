@@ -1,5 +1,5 @@
 -- The bits of both streams that a pass misses: none of a whole pass, what a count says, at most how many, and none once the streams are long enough.
-use mathlib.Core.Path.{_≡_, refl, ap, ap₂, _∙_}
+use mathlib.Core.Path.{_≡_, refl, ap, ap₂}
 use mathlib.Core.Bool.{Bool, _&&_}
 use mathlib.Core.List.{List, [], _∷_, _++_}
 use Prim.Native.Nat.{ℕ, zero, suc, _+_, _-_, _*_, _≤_}
@@ -11,7 +11,7 @@ use Rattle.bands.specs.Bands.{spread}
 use Rattle.bands.specs.Positions.{rowInDomain}
 use Rattle.bands.proofs.Every.{both-true}
 use Rattle.bits.specs.Written.{bitsOf, bitsOfAll}
-use Rattle.bits.specs.Missing.{InStream, readNum, readNumbers, readZeros, missingIn}
+use Rattle.bits.specs.Missing.{readNum, readNumbers, readZeros, missingIn}
 use Rattle.bits.proofs.Longer.{longer-bits, length-longer, numbers-same}
 use Rattle.bits.proofs.Missing.{missing-num, none-missing}
 use Rattle.bits.proofs.Packed.{length-pack}
@@ -27,12 +27,13 @@ use Rattle.progressive_decoder.specs.Upgrade.{srlMissing, rawMissing, missingBi
 use Rattle.progressive_decoder.specs.Inner.{countAfter}
 use Rattle.progressive_decoder.specs.declared.MissingBits.{MissingBits}
 use Rattle.progressive_decoder.proofs.Missing.{srl-missing, raw-missing, srl-most, raw-most}
-use Rattle.progressive_encoder.specs.Encode.{rawDifference, rawGiven, rawDifferences, srlBytes, rawBytes, passFault, encodePassRefusal}
+use Rattle.progressive_encoder.specs.Encode.{rawDifference, rawGiven, rawDifferences, srlBytes, rawBytes, passFault}
 use Rattle.progressive.specs.Missing.{srlBits, sum, rawBits, PassMissingBits}
 use Rattle.progressive.proofs.Regained.{pass-values, taken, long}
 
 -- ════ how many raw bits are read, and written ════
 
+-- the count behind some numbers
 count-sum : (ws : List ℕ) (n : ℕ) → countAfter ws n ≡ n + sum ws
 unfolding countAfter sum
 count-sum [] n = omega arith
@@ -68,36 +69,19 @@ raw-written (t ∷ ts) (c ∷ cs) (p ∷ ps) (s ∷ ss) h j k = by (source t s) 
 -- ════ a whole pass ════
 
 module _ (ts : List Step) (cs ps ss : List ℤ) (h : length ts ≤ length cs) (j : length ts ≤ length ps) (k : length ts ≤ length ss) where
+  -- the SRL reader ends in the stream
   srl-whole : passFault ts cs ps ss ≡ 0 → srlMissing ts (srlBytes ts cs ps ss) ss ≡ 0
   srl-whole e = omega (arith, srl-missing ts (srlBytes ts cs ps ss) ss, pass-values ts cs ps ss h j k e .ends)
 
+  -- the raw bits read are those written; no number need fit its width, since its low bits are always written
   raw-whole : rawMissing ts (rawBytes ts cs ps ss) ss ≡ 0
   raw-whole =
       let bits = bitsOfAll (rawWidths ts ss) (rawDifferences ts cs ps ss) in
       omega (arith, raw-past ts (rawBytes ts cs ps ss) ss, length-pack bits 0 0 (omega arith), raw-written ts cs ps ss h j k)
 
--- both counts of the call that reads what an accepted call wrote
-whole-pass : (cs ps ss : List ℤ) (prev curr : List ℕ) (e : Bool) (srlOut rawOut : List ℕ)
-    → encodePassRefusal cs ps prev curr ss e srlOut rawOut ≡ 0
-    → decodeMissing (srlBytes (steps e prev curr) cs ps ss) (rawBytes (steps e prev curr) cs ps ss) prev curr e ps ss ≡ missingBits 0 0
-whole-pass cs ps ss prev curr e srlOut rawOut n =
-    let t = taken cs ps ss prev curr e srlOut rawOut n in
-    let ts = steps e prev curr in
-    let h = long e prev curr cs (t .coefficients-long) in
-    let j = long e prev curr ps (t .previous-long) in
-    let k = long e prev curr ss (t .signs-long) in
-    simp (t .previous-long, t .signs-long, t .rows) (ap₂ missingBits (srl-whole ts cs ps ss h j k (t .no-fault)) (raw-whole ts cs ps ss h j k))
-
--- ════ what a count says ════
-
-raw-ended : (ts : List Step) (rawData : List ℕ) (ss : List ℤ)
-    → (rawMissing ts rawData ss ≡ 0 → InStream rawData 0 (rawBits ts ss)) × (InStream rawData 0 (rawBits ts ss) → rawMissing ts rawData ss ≡ 0)
-raw-ended ts rawData ss =
-    let n : ℕ = rawBits ts ss in
-    none-missing rawData 0 n (omega arith) (omega (arith, raw-past ts rawData ss, missing-num rawData 0 (n - 0)))
-
 -- ════ at most how many ════
 
+-- of any call: a refused one misses nothing, and the rows of an accepted one are in the domain
 most : (srlData rawData prev curr : List ℕ) (e : Bool) (cs ss : List ℤ)
     → (decodeMissing srlData rawData prev curr e cs ss .srl ≤ 32790) × (decodeMissing srlData rawData prev curr e cs ss .raw ≤ 61440)
 most srlData rawData prev curr e cs ss = by (decodePassRefusal prev curr cs ss) refl
@@ -114,6 +98,7 @@ most srlData rawData prev curr e cs ss = by (decodePassRefusal prev curr cs ss) 
 
 -- ════ longer streams ════
 
+-- the same values and numbers are read
 longer : (ts : List Step) (srlData rawData : List ℕ) (cs ss : List ℤ) (j k : ℕ)
     → (upgradedCoefficients ts (srlData ++ replicate j 0) (rawData ++ replicate k 0) cs ss ≡ upgradedCoefficients ts srlData rawData cs ss)
     × (upgradedSigns ts (srlData ++ replicate j 0) ss ≡ upgradedSigns ts srlData ss)
@@ -121,19 +106,14 @@ longer ts srlData rawData cs ss j k =
     let v = values-same (srlData ++ replicate j 0) srlData (longer-bits srlData j) (srlWidths ts ss) start .0 in
     (ap₂ (coefficientsAfter ts cs ss) v (numbers-same (rawData ++ replicate k 0) rawData (longer-bits rawData k) (rawWidths ts ss) 0), ap (signsAfter ts ss) v)
 
-fewer : (ts : List Step) (srlData rawData : List ℕ) (ss : List ℤ) (j k : ℕ)
-    → (srlMissing ts (srlData ++ replicate j 0) ss ≡ srlMissing ts srlData ss - 8 * j) × (rawMissing ts (rawData ++ replicate k 0) ss ≡ rawMissing ts rawData ss - 8 * k)
-fewer ts srlData rawData ss j k =
-    let r = ap (λ (q : Reader). q .read) (values-same (srlData ++ replicate j 0) srlData (longer-bits srlData j) (srlWidths ts ss) start .1) in (
-      omega (arith, srl-missing ts (srlData ++ replicate j 0) ss, srl-missing ts srlData ss, r, length-longer srlData j),
-      omega (arith, raw-past ts (rawData ++ replicate k 0) ss, raw-past ts rawData ss, length-longer rawData k),
-    )
+-- as many bits are read, of a stream that has more
+srl-longer : (ts : List Step) (srlData : List ℕ) (ss : List ℤ) (j : ℕ) → srlMissing ts (srlData ++ replicate j 0) ss ≡ srlBits ts srlData ss - 8 * (length srlData + j)
+srl-longer ts srlData ss j =
+    let r = ap (λ (q : Reader). q .read) (values-same (srlData ++ replicate j 0) srlData (longer-bits srlData j) (srlWidths ts ss) start .1) in
+    omega (arith, srl-missing ts (srlData ++ replicate j 0) ss, r, length-longer srlData j)
 
-long-enough : (ts : List Step) (srlData rawData : List ℕ) (ss : List ℤ) (j k : ℕ) → srlBits ts srlData ss ≤ 8 * (length srlData + j) → rawBits ts ss ≤ 8 * (length rawData + k)
-    → passMissing ts (srlData ++ replicate j 0) (rawData ++ replicate k 0) ss ≡ missingBits 0 0
-long-enough ts srlData rawData ss j k a b =
-    let f = fewer ts srlData rawData ss j k in
-    ap₂ missingBits (f .0 ∙ omega (arith, srl-missing ts srlData ss, a)) (f .1 ∙ omega (arith, raw-past ts rawData ss, b))
+raw-longer : (ts : List Step) (rawData : List ℕ) (ss : List ℤ) (k : ℕ) → rawMissing ts (rawData ++ replicate k 0) ss ≡ rawBits ts ss - 8 * (length rawData + k)
+raw-longer ts rawData ss k = omega (arith, raw-past ts (rawData ++ replicate k 0) ss, length-longer rawData k)
 
 -- ════ the statement ════
 
@@ -141,10 +121,18 @@ long-enough ts srlData rawData ss j k a b =
 pub missing : PassMissingBits
 unfolding spread srlWidths rawWidths isZero readValues readNumbers readNum readZeros missingIn
 missing = record {
-  whole = whole-pass;
+  whole = λ cs ps ss prev curr e srlOut rawOut n.
+      let t = taken cs ps ss prev curr e srlOut rawOut n in
+      let ts = steps e prev curr in
+      let h = long e prev curr cs (t .coefficients-long) in
+      let j = long e prev curr ps (t .previous-long) in
+      let k = long e prev curr ss (t .signs-long) in
+      simp (t .previous-long, t .signs-long, t .rows) (ap₂ missingBits (srl-whole ts cs ps ss h j k (t .no-fault)) (raw-whole ts cs ps ss h j k));
   call = λ srlData rawData prev curr e cs ss n. ap (λ (r : ℕ). unlessRefused r (passMissing (steps e prev curr) srlData rawData ss) (missingBits 0 0)) n;
   srl-ended = λ ts srlData ss. values-ended srlData (srlWidths ts ss) start;
-  raw-ended = raw-ended;
+  raw-ended = λ ts rawData ss.
+      let n : ℕ = rawBits ts ss in
+      none-missing rawData 0 n (omega arith) (omega (arith, raw-past ts rawData ss, missing-num rawData 0 (n - 0)));
   most = most;
   empty-standard = refl;
   empty-extrapolated = refl;
@@ -153,6 +141,9 @@ missing = record {
       let l = longer (steps e prev curr) srlData rawData cs ss j k in
       let n = decodePassRefusal prev curr cs ss in
       (ap (λ (a : List ℤ). unlessRefused n a cs) (l .0), ap (λ (a : List ℤ). unlessRefused n a ss) (l .1));
-  fewer = fewer;
-  long-enough = long-enough;
+  fewer = λ ts srlData rawData ss j k. (
+    omega (arith, srl-longer ts srlData ss j, srl-missing ts srlData ss),
+    omega (arith, raw-longer ts rawData ss k, raw-past ts rawData ss),
+  );
+  long-enough = λ ts srlData rawData ss j k a b. ap₂ missingBits (omega (arith, srl-longer ts srlData ss j, a)) (omega (arith, raw-longer ts rawData ss k, b));
 }

@@ -75,12 +75,6 @@ call-longer s st out n w k =
     in
     (e, ap₂ (λ (r : ℕ) (vs : List ℤ). stored r vs out) e (values-same t s (longer-bits s k) (replicate n w) (opened st) .0))
 
--- a stream that is long enough
-enough : (s ws : List ℕ) (r : Reader) (k : ℕ) → readerAfter s ws r .read ≤ 8 * (length s + k) → valuesMissing (s ++ replicate k 0) ws r ≡ 0
-enough s ws r k h =
-    let t = s ++ replicate k 0 in
-    omega (arith, values-missing t ws r, ap (λ (q : Reader). q .read) (values-same t s (longer-bits s k) ws r .1), length-longer s k)
-
 -- the statement, in its parts
 pub missing : SrlMissingBits
 missing = record {
@@ -97,5 +91,8 @@ missing = record {
   whole = λ cs asks a e. calls-back cs asks a e .1;
   longer = λ s ws r k. values-same (s ++ replicate k 0) s (longer-bits s k) ws r;
   longer-call = call-longer;
-  long-enough = enough;
+  long-enough = λ s ws r k h.
+      let t = s ++ replicate k 0 in
+      let e : readerAfter t ws r .read ≡ readerAfter s ws r .read = ap (λ (q : Reader). q .read) (values-same t s (longer-bits s k) ws r .1) in
+      omega (arith, values-missing t ws r, e, length-longer s k);
 }
