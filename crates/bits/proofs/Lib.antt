@@ -4,6 +4,7 @@ pub mod Ones
 pub mod Tops
 pub mod Places
 pub mod Past
+pub mod Missing
 pub mod Powers
 pub mod Puts
 pub mod Packed

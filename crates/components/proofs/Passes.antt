@@ -1,21 +1,21 @@
 -- A pass over three components in flat arrays: it keeps lengths, each component is upgraded where it lies, and all three one after another.
-use mathlib.Core.Path.{_≡_, refl, sym, ap, ap₂, _∙_, subst}
+use mathlib.Core.Path.{_≡_, refl, sym, ap, ap₂, _∙_}
 use mathlib.Core.Bool.{Bool}
 use mathlib.Core.List.{List, [], _∷_}
-use Prim.Native.Nat.{ℕ, suc, _*_, _≤_, _<_}
+use Prim.Native.Nat.{ℕ, suc, _+_, _*_, _≤_, _<_}
 use native.Mathlib.Omega.{arith}
 use borrow.Rule.Slice.PartMut.{putMid, midOf}
 use lib.IntN.{ℤ}
 use lib.ListN.{length}
 use Rattle.upgrade_steps.specs.Steps.{Step, Source, skipped, srl, raw, source, steps}
 use Rattle.progressive_decoder.specs.Upgrade.{signThen, signsAfter, coefficientThen, coefficientsAfter, upgradedCoefficients, upgradedSigns}
-use Rattle.progressive_decoder.specs.Inner.{Ended}
-use Rattle.progressive_decoder.specs.declared.upgrade.Readers.{Readers}
-use Rattle.components.specs.Components.{stepsOf, passCoefficients, passSigns}
+use Rattle.progressive_decoder.specs.Upgrade as P
+use Rattle.progressive_decoder.specs.Upgrade.{missingBits}
+use Rattle.progressive_decoder.specs.declared.MissingBits.{MissingBits}
+use Rattle.components.specs.Components.{stepsOf, passCoefficients, passSigns, passMissing}
 use Rattle.planes.specs.Planes.{component, rowOf, joined, of}
 use Rattle.planes.specs.Inner.{withComponent}
 use Rattle.components.specs.Inner.{coefficientsPast, signsPast, ComponentPassed, ComponentsPassed}
-use Rattle.components.specs.declared.Ends.{Ends}
 use Rattle.planes.proofs.Joined.{Long, upTo, joined-components, parts-long, here, next}
 
 -- ════ lengths ════
@@ -62,12 +62,11 @@ module _ (e : Bool) (positions : List ℕ) (rows : List (List ℕ)) (k n : ℕ) 
   pub component-long : (l : List ℤ) → length l ≡ 12288 → k < 3 → 4096 ≤ length (midOf (k * 4096) n l)
   component-long l long h = omega (arith, ap (λ (n : ℕ). length (midOf (k * 4096) n l)) whole, parts-long 4096 l long k h)
 
-  -- where the readers of a part end, as of the component
-  pub component-ends : (prev : List ℕ) → prev ≡ rowOf k positions → (srlData : List ℕ) (r : Readers)
-      → Ended (steps e prev (of rows k)) srlData (midOf (k * 4096) n ss) r → Ended (stepsOf e positions rows k) srlData (component k ss) r
-  component-ends prev row srlData r d =
-      subst (λ (n : ℕ). Ended (stepsOf e positions rows k) srlData (midOf (k * 4096) n ss) r) whole
-      (subst (λ (prev : List ℕ). Ended (steps e prev (of rows k)) srlData (midOf (k * 4096) n ss) r) row d)
+  -- the bits that a part misses, as of the component
+  pub component-missing : (prev : List ℕ) → prev ≡ rowOf k positions → (srlData rawData : List ℕ)
+      → P.passMissing (steps e prev (of rows k)) srlData rawData (midOf (k * 4096) n ss) ≡ P.passMissing (stepsOf e positions rows k) srlData rawData (component k ss)
+  component-missing prev row srlData rawData =
+      ap₂ (λ (n : ℕ) (prev : List ℕ). P.passMissing (steps e prev (of rows k)) srlData rawData (midOf (k * 4096) n ss)) whole row
 
 -- ════ all three ════
 
@@ -90,14 +89,14 @@ module _ (e : Bool) (positions : List ℕ) (rows srlData rawData : List (List �
   Reached k c s = (c ≡ joined (upTo k coefficientsOf (λ j. component j cs))) × (s ≡ joined (upTo k signsOf (λ j. component j ss)))
 
   -- component k is done, from one pair of lists to another
-  abbrev Past : ℕ → List ℤ → List ℤ → List ℤ → List ℤ → Readers → Type 0
+  abbrev Past : ℕ → List ℤ → List ℤ → List ℤ → List ℤ → MissingBits → Type 0
   Past k c s c′ s′ r = ComponentPassed k e positions rows (of srlData k) (of rawData k) c s c′ s′ r
 
   -- where component k lies nothing has changed, once those before it are done
   here-sign : (k : ℕ) → k < 3 → {c s : List ℤ} → Reached k c s → component k s ≡ component k ss
   here-sign k h {c} {s} r = here 4096 signsOf (λ j. component j ss) long-signs (parts-long 4096 ss longS) k h s (r .1)
 
-  one-more : (k : ℕ) → k < 3 → {c s c′ s′ : List ℤ} {q : Readers} → Reached k c s → Past k c s c′ s′ q → Reached (suc k) c′ s′
+  one-more : (k : ℕ) → k < 3 → {c s c′ s′ : List ℤ} {q : MissingBits} → Reached k c s → Past k c s c′ s′ q → Reached (suc k) c′ s′
   unfolding coefficientsPast signsPast
   one-more k h {c} {s} r d =
       let hereC : component k c ≡ component k cs = here 4096 coefficientsOf (λ j. component j cs) long-coefficients (parts-long 4096 cs longC) k h c (r .0) in
@@ -106,21 +105,27 @@ module _ (e : Bool) (positions : List ℕ) (rows srlData rawData : List (List �
         d .sign ∙ next 4096 signsOf (λ j. component j ss) long-signs (parts-long 4096 ss longS) k h s _ (r .1) (ap (upgradedSigns (stepsOf e positions rows k) (of srlData k)) hereS),
       )
 
-  -- where the readers of component k end, by the signs of the whole array at the start
-  ended : (k : ℕ) → k < 3 → {c s c′ s′ : List ℤ} {q : Readers} → Reached k c s → Past k c s c′ s′ q → Ended (stepsOf e positions rows k) (of srlData k) (component k ss) q
-  ended k h {q = q} r d = subst (λ (l : List ℤ). Ended (stepsOf e positions rows k) (of srlData k) l q) (here-sign k h r) (d .ends)
+  -- the bits that component k misses, by the signs of the whole array at the start
+  abbrev pub missingOf : ℕ → MissingBits
+  missingOf k = P.passMissing (stepsOf e positions rows k) (of srlData k) (of rawData k) (component k ss)
+
+  missed : (k : ℕ) → k < 3 → {c s c′ s′ : List ℤ} {q : MissingBits} → Reached k c s → Past k c s c′ s′ q → q ≡ missingOf k
+  missed k h r d = d .missing ∙ ap (P.passMissing (stepsOf e positions rows k) (of srlData k) (of rawData k)) (here-sign k h r)
 
   -- three components one after another are the pass
-  pub passed : {c₁ s₁ c₂ s₂ c₃ s₃ : List ℤ} (r : Ends) → Past 0 cs ss c₁ s₁ (r .y) → Past 1 c₁ s₁ c₂ s₂ (r .cb) → Past 2 c₂ s₂ c₃ s₃ (r .cr)
-      → ComponentsPassed e positions rows srlData rawData cs ss c₃ s₃ r
-  unfolding passCoefficients passSigns
-  passed r y cb cr =
+  pub passed : {c₁ s₁ c₂ s₂ c₃ s₃ : List ℤ} {y cb cr : MissingBits} → Past 0 cs ss c₁ s₁ y → Past 1 c₁ s₁ c₂ s₂ cb → Past 2 c₂ s₂ c₃ s₃ cr
+      → ComponentsPassed e positions rows srlData rawData cs ss c₃ s₃ (missingBits (y .srl + cb .srl + cr .srl) (y .raw + cb .raw + cr .raw))
+  unfolding passCoefficients passSigns passMissing
+  passed y cb cr =
       let none : Reached 0 cs ss = (sym (joined-components cs longC), sym (joined-components ss longS)) in
       let first = one-more 0 (omega arith) none y in
       let second = one-more 1 (omega arith) first cb in
       let all = one-more 2 (omega arith) second cr in
+      let my = missed 0 (omega arith) none y in
+      let mcb = missed 1 (omega arith) first cb in
+      let mcr = missed 2 (omega arith) second cr in
       record {
         coefficients = all .0;
         sign = all .1;
-        ends = record { y = ended 0 (omega arith) none y; cb = ended 1 (omega arith) first cb; cr = ended 2 (omega arith) second cr };
+        missing = λ i. missingBits (my i .srl + mcb i .srl + mcr i .srl) (my i .raw + mcb i .raw + mcr i .raw);
       }

@@ -137,6 +137,7 @@ countAfter (w ∷ ws) n = countAfter ws (n + w)
 pub record Ended (ts : List Step) (srlData : List ℕ) (ss : List ℤ) (r : Readers) : Type 0 where
   pub srl : opened (r .srl) ≡ readerAfter srlData (srlWidths ts ss) start
   pub raw : r .raw ≡ countAfter (rawWidths ts ss) 0
+  pub place : r .srl .reader .«bit_idx» ≤ 7
 
 -- what a pass over all places fixes, with where its readers end
 pub record Upgrades (ts : List Step) (srlData rawData : List ℕ) (cs ss cs′ ss′ : List ℤ) (r : Readers) : Type 0 where

@@ -19,7 +19,8 @@ abbrev pub brought : ℕ → ℕ → ℕ
 brought kp zero = 0
 brought kp (suc c) = 2 ^ (kp / 8) + brought (kp + 4) c
 
-below-next : (x : ℕ) → below (x + 4) ≡ 2 ^ (x / 8) + below x
+-- `below` at the next multiple of 4
+pub below-next : (x : ℕ) → below (x + 4) ≡ 2 ^ (x / 8) + below x
 below-next x = by (x / 4 % 2) refl
   where
     by : (b : ℕ) → x / 4 % 2 ≡ b → below (x + 4) ≡ 2 ^ (x / 8) + below x

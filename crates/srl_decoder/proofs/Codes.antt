@@ -83,7 +83,7 @@ past-kp s w r h = by (r .run)
     by (suc run) = h
 
 -- zeros before a 1 take no more bits than they may be
-length-le : (s : List ℕ) (n l : ℕ) → zerosLength s n l ≤ l
+pub length-le : (s : List ℕ) (n l : ℕ) → zerosLength s n l ≤ l
 length-le s n l = by (ltb (zeros s n l) l) refl
   where
     by : (b : Bool) → ltb (zeros s n l) l ≡ b → cond b (zeros s n l + 1) l ≤ l

@@ -9,16 +9,17 @@ use native.Mathlib.Omega.{arith}
 use borrow.Author.Tests.{eqb-true, eqb-false}
 use lib.Dec.{eqb}
 use lib.IntN.{ℤ, pos}
-use lib.ListN.{length, getD, set, take, drop, replicate, length-set, take-append-drop}
+use lib.ListN.{length, getD, set, take, drop, replicate, length-set, length-replicate, take-append-drop}
 use lib.Seq.{take-suc-set, drop-set-lt, append-snoc, set-getD, getD-set-same, getD-set-other}
 use Rattle.srl_decoder.specs.Srl.{Reader, reader, nonzero, behind, nextValue, nextReader, values, readerAfter}
-use Rattle.bits.specs.Bits.{bitsRead, placeOf, held}
+use Rattle.bits.specs.Bits.{bitsRead, placeOf}
 use Rattle.bits.specs.declared.reader.BitReader.{BitReader}
 use Rattle.bits.proofs.Places.{read-place}
-use Rattle.srl_decoder.specs.Inner.{Same, Brought, Clear, heldReader}
+use Rattle.srl_decoder.specs.Inner.{Same, Brought, Clear}
 use Rattle.srl_decoder.specs.declared.decoder.CodesRead.{CodesRead}
 use Rattle.srl_decoder.proofs.Chains.{zeros-brought}
-use Rattle.srl_decoder.proofs.Values.{AlikeReader, reader-held, held-readers, next-alike}
+use Rattle.srl_decoder.proofs.States.{after-mono}
+use Rattle.srl_decoder.proofs.Most.{narrow-replicate, most-read}
 
 -- the output and the reader
 pub record Filled : Type 0 where
@@ -33,10 +34,6 @@ filled out r = record { out = out; after = r }
 unfoldable pub fill : List ℕ → ℕ → ℕ → ℕ → Reader → List ℤ → Filled
 fill s w zero j r out = filled out r
 fill s w (suc k) j r out = fill s w k (suc j) (nextReader s w r) (set out j (nextValue s w r))
-
--- with the reader held at the stream's end
-abbrev pub heldFill : List ℕ → Filled → Filled
-heldFill s f = filled (f .out) (heldReader s (f .after))
 
 -- what is clear stays so behind a store
 clear-behind : (out : List ℤ) (j n : ℕ) (v : ℤ) → Clear out j n → Clear (set out j v) (j + 1) n
@@ -55,6 +52,12 @@ module _ (s : List ℕ) (w : ℕ) where
       ∙ ap (λ (l : List ℤ). filled l (readerAfter s (replicate k w) (nextReader s w r)))
       (ap₂ (λ (a b : List ℤ). a ++ (values s (replicate k w) (nextReader s w r) ++ b)) (take-suc-set out j v (omega arith)) (drop-set-lt (suc j + k) out j v (omega arith) ∙ ap (λ (i : ℕ). drop i out) e)
       ∙ append-snoc (take j out) v (values s (replicate k w) (nextReader s w r) ++ drop (j + suc k) out))
+
+  -- the reader after it, whatever the output
+  pub fill-after : (k j : ℕ) (r : Reader) (out : List ℤ) → fill s w k j r out .after ≡ readerAfter s (replicate k w) r
+  unfolding fill readerAfter
+  fill-after zero j r out = refl
+  fill-after (suc k) j r out = fill-after k (suc j) (nextReader s w r) (set out j (nextValue s w r))
 
   -- readers that give the same
   pub fill-same : (k j : ℕ) (r q : Reader) (out : List ℤ) → Same s k r q → fill s w k j r out ≡ fill s w k j q out
@@ -93,30 +96,17 @@ module _ (s : List ℕ) (w : ℕ) where
       let e : k ≡ suc k - 1 = omega arith in
       (λ i. fill s w (e i) (sym (add-one j) i) (reader (behind s n w) kp 0 false) (set out j (nonzero s n w)))
 
-  -- ════ held at the end ════
-
-  fill-alike : (k j : ℕ) {r q : Reader} (out : List ℤ) → AlikeReader s r q → heldFill s (fill s w k j r out) ≡ heldFill s (fill s w k j q out)
-  unfolding fill
-  fill-alike zero j out a = ap (filled out) (held-readers s a)
-  fill-alike (suc k) j {r} {q} out a =
-      let n = next-alike s w a in
-      ap (λ (v : ℤ). heldFill s (fill s w k (suc j) (nextReader s w r) (set out j v))) (n .0) ∙ fill-alike k (suc j) (set out j (nextValue s w q)) (n .1)
-
-  -- values stored from a count that is held at the end are the same
-  pub fill-held : (k j n kp run : ℕ) (p : Bool) (out : List ℤ) → heldFill s (fill s w k j (reader n kp run p) out) ≡ heldFill s (fill s w k j (reader (held s n) kp run p) out)
-  fill-held k j n kp run p out = sym (fill-alike k j out (reader-held s (reader n kp run p)))
-
   -- ════ a turn of the loop, at the j-th of n places ════
 
   -- what is left: the zeros up to place j are given
   abbrev pub rest : ℕ → ℕ → ℕ → ℕ → Bool → List ℤ → Filled
-  rest n j at kp p out = heldFill s (fill s w (n - j) j (reader at kp (j - n) p) out)
+  rest n j at kp p out = fill s w (n - j) j (reader at kp (j - n) p) out
 
   -- at the start all n values are left
-  pub rest-start : (n at kp run : ℕ) (p : Bool) (out : List ℤ) → Clear out 0 n → heldFill s (fill s w n 0 (reader at kp run p) out) ≡ rest n run at kp p out
+  pub rest-start : (n at kp run : ℕ) (p : Bool) (out : List ℤ) → Clear out 0 n → fill s w n 0 (reader at kp run p) out ≡ rest n run at kp p out
   rest-start n at kp run p out c =
       let e : 0 + run ≡ run = omega arith in
-      ap (heldFill s) (fill-run n 0 at kp run p out (λ i a b. c i a (omega arith)) ∙ ap (λ (j : ℕ). fill s w (n - run) j (reader at kp (run - n) p) out) e)
+      fill-run n 0 at kp run p out (λ i a b. c i a (omega arith)) ∙ ap (λ (j : ℕ). fill s w (n - run) j (reader at kp (run - n) p) out) e
 
   rest-codes : (n j at kp run at′ kp′ : ℕ) (p p′ : Bool) (out : List ℤ) → j < n → Clear out j n → Same s (n - j) (reader at kp 0 p) (reader at′ kp′ run p′)
       → rest n j at kp p out ≡ rest n (j + run) at′ kp′ p′ out
@@ -124,18 +114,19 @@ module _ (s : List ℕ) (w : ℕ) where
       let z : j - n ≡ 0 = omega arith in
       let f : n - j - run ≡ n - (j + run) = omega arith in
       let g : run - (n - j) ≡ j + run - n = omega arith in
-      (λ i. heldFill s (fill s w (n - j) j (reader at kp (z i) p) out))
-      ∙ ap (heldFill s) (fill-same (n - j) j (reader at kp 0 p) (reader at′ kp′ run p′) out same ∙ fill-run (n - j) j at′ kp′ run p′ out (λ i a b. c i a (omega arith)))
-      ∙ (λ i. heldFill s (fill s w (f i) (j + run) (reader at′ kp′ (g i) p′) out))
+      (λ i. fill s w (n - j) j (reader at kp (z i) p) out)
+      ∙ fill-same (n - j) j (reader at kp 0 p) (reader at′ kp′ run p′) out same
+      ∙ fill-run (n - j) j at′ kp′ run p′ out (λ i a b. c i a (omega arith))
+      ∙ (λ i. fill s w (f i) (j + run) (reader at′ kp′ (g i) p′) out)
 
   rest-value : (n j at kp : ℕ) (p : Bool) (out : List ℤ) → j < n → p ≡ true → rest n j at kp p out ≡ rest n (j + 1) (behind s at w) kp false (set out j (nonzero s at w))
   rest-value n j at kp p out h e =
       let z : j - n ≡ 0 = omega arith in
       let f : n - j - 1 ≡ n - (j + 1) = omega arith in
       let g : 0 ≡ j + 1 - n = omega arith in
-      (λ i. heldFill s (fill s w (n - j) j (reader at kp (z i) (e i)) out))
-      ∙ ap (heldFill s) (fill-value (n - j) j at kp out (omega arith))
-      ∙ (λ i. heldFill s (fill s w (f i) (j + 1) (reader (behind s at w) kp (g i) false) (set out j (nonzero s at w))))
+      (λ i. fill s w (n - j) j (reader at kp (z i) (e i)) out)
+      ∙ fill-value (n - j) j at kp out (omega arith)
+      ∙ (λ i. fill s w (f i) (j + 1) (reader (behind s at w) kp (g i) false) (set out j (nonzero s at w)))
 
   -- what a turn does that reads on from place j and stops at place j′
   pub record Turned (n j at kp : ℕ) (p : Bool) (out : List ℤ) (j′ kp′ : ℕ) (next : BitReader) (p′ : Bool) (out′ : List ℤ) : Type 0 where
@@ -173,20 +164,22 @@ module _ (s : List ℕ) (w : ℕ) where
             ∙ rest-value n (j + r .run) (at + r .taken) (r .kp) (r .pending) out (d .1) (d .0) ∙ (λ i. rest n (j + r .run + 1) (read i) (r .kp) false (set out (j + r .run) (sym f i)));
       }
 
-  -- the turn's place, held at the end
-  pub rest-held : (n j at kp : ℕ) (p : Bool) (out : List ℤ) (q : BitReader) → q ≡ placeOf (held s at)
-      → (q .«bit_idx» ≤ 7) × (bitsRead q ≤ 8 * length s) × (rest n j at kp p out ≡ rest n j (bitsRead q) kp p out)
-  rest-held n j at kp p out q e =
-      let read : bitsRead q ≡ held s at = ap bitsRead e ∙ read-place (held s at) in (
-        omega (arith, ap (λ (r : BitReader). r .«bit_idx») e),
-        omega (arith, read),
-        fill-held (n - j) j at kp (j - n) p out ∙ ap (λ (m : ℕ). rest n j m kp p out) (sym read),
-      )
+  -- the reader has not come further than it will
+  pub rest-near : (n j at kp : ℕ) (p : Bool) (out : List ℤ) → at ≤ rest n j at kp p out .after .read
+  rest-near n j at kp p out = omega (arith, ap (λ (q : Reader). q .read) (fill-after (n - j) j (reader at kp (j - n) p) out), after-mono s (replicate (n - j) w) (reader at kp (j - n) p))
+
+  -- how far a reader that began in the stream has come
+  pub rest-bound : (n j at kp at₀ kp₀ j₀ : ℕ) (p p₀ : Bool) (out out₀ : List ℤ) → w ≤ 15 → kp₀ ≤ 80 → at₀ ≤ 8 * length s
+      → fill s w n 0 (reader at₀ kp₀ j₀ p₀) out₀ ≡ rest n j at kp p out → at ≤ 8 * length s + n + 32777
+  rest-bound n j at kp at₀ kp₀ j₀ p p₀ out out₀ h k l e =
+      let r = reader at₀ kp₀ j₀ p₀ in
+      let f : rest n j at kp p out .after .read ≡ readerAfter s (replicate n w) r .read = ap (λ (g : Filled). g .after .read) (sym e) ∙ ap (λ (q : Reader). q .read) (fill-after n 0 r out₀) in
+      omega (arith, f, rest-near n j at kp p out, most-read s (replicate n w) r (narrow-replicate n w h) k l, length-replicate n w)
 
   -- at the end no value is left
-  pub rest-end : (n j at kp : ℕ) (p : Bool) (out : List ℤ) → n ≤ j → rest n j at kp p out ≡ filled out (reader (held s at) kp (j - n) p)
+  pub rest-end : (n j at kp : ℕ) (p : Bool) (out : List ℤ) → n ≤ j → rest n j at kp p out ≡ filled out (reader at kp (j - n) p)
   unfolding fill
-  rest-end n j at kp p out h = let z : n - j ≡ 0 = omega arith in ap (λ (k : ℕ). heldFill s (fill s w k j (reader at kp (j - n) p) out)) z
+  rest-end n j at kp p out h = let z : n - j ≡ 0 = omega arith in ap (λ (k : ℕ). fill s w k j (reader at kp (j - n) p) out) z
 
 -- one place more is cleared
 pub clear-next : (out : List ℤ) (n : ℕ) → n < length out → Clear out 0 n → Clear (set out n (pos 0)) 0 (n + 1)

@@ -4,4 +4,6 @@ pub mod Values
 pub mod Due
 pub mod States
 pub mod Chains
+pub mod Missing
+pub mod Most
 pub mod Filled

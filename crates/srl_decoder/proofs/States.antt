@@ -25,7 +25,7 @@ stateOk-sound st h =
 -- ════ a state that is handed back ════
 
 -- the count of bits read only grows
-past-mono : (s : List ℕ) (w : ℕ) (r : Reader) → r .read ≤ past s w (r .read) (r .kp) (r .run) (r .pending) .read
+pub past-mono : (s : List ℕ) (w : ℕ) (r : Reader) → r .read ≤ past s w (r .read) (r .kp) (r .run) (r .pending) .read
 past-mono s w r = by (r .run)
   where
     by : (run : ℕ) → r .read ≤ past s w (r .read) (r .kp) run (r .pending) .read

@@ -54,7 +54,8 @@ code-alike s {m} {n} kp a = rw (← bit-alike s a, ← num-alike s (kp / 8) (ali
     by true z = alike (alike-on s (kp / 8) (alike-on s 1 a))
     by false z = alike (alike-on s 1 a)
 
-ready-alike : (s : List ℕ) {r q : Reader} → AlikeReader s r q → AlikeReader s (readied s r) (readied s q)
+-- once they are ready
+pub ready-alike : (s : List ℕ) {r q : Reader} → AlikeReader s r q → AlikeReader s (readied s r) (readied s q)
 ready-alike s (alike {run = suc z} {pending = pending} a) = alike a
 ready-alike s (alike {run = zero} {pending = true} a) = alike a
 ready-alike s (alike {kp = kp} {run = zero} {pending = false} a) = code-alike s kp a

@@ -1,7 +1,7 @@
 -- The bits that the SRL decoder reads, value by value as in `Srl`, and how many of them are missing (docs/SCOPE.md, "Missing bits").
 use mathlib.Core.Bool.{Bool, true, false, cond}
 use mathlib.Core.List.{List, [], _∷_, _++_}
-use Prim.Native.Nat.{ℕ, zero, suc, _+_, _/_}
+use Prim.Native.Nat.{ℕ, zero, suc, _+_, _/_, _≤_}
 use Rattle.bits.specs.Missing.{BitRead, readBit, readNum, readZeros, missingIn}
 use Rattle.srl_decoder.specs.Srl.{Reader, mostZeros, readied, nextReader}
 
@@ -36,3 +36,8 @@ readValues s (w ∷ ws) r = readNext s w r ++ readValues s ws (nextReader s w r)
 -- how many of those bits are missing
 abbrev pub valuesMissing : List ℕ → List ℕ → Reader → ℕ
 valuesMissing s ws r = missingIn (readValues s ws r)
+
+-- each width is at most 15
+pub data Narrow : List ℕ → Type 0 where
+  none : Narrow []
+  narrow : {w : ℕ} {ws : List ℕ} → w ≤ 15 → Narrow ws → Narrow (w ∷ ws)

@@ -10,12 +10,12 @@ use Rattle.bands.proofs.Every.{part-passes}
 use Rattle.upgrade_steps.specs.Steps.{Step}
 use Rattle.progressive_decoder.specs.Upgrade.{upgradedCoefficients, upgradedSigns}
 use Rattle.components.specs.Inner.{coefficientsPast, signsPast}
-use Rattle.components.proofs.Passes.{component-put, component-long, component-ends}
+use Rattle.components.proofs.Passes.{component-put, component-long, component-missing}
 use Rattle.components.proofs.upgrade_component.Statement.{statement}
 use Rattle.components.proofs.upgrade_component.Tie as tie
 
-upgrade-bands-requires : tie.Need-upgrade-bands-requires
-upgrade-bands-requires c κs =
+upgrade-all-requires : tie.Need-upgrade-all-requires
+upgrade-all-requires c κs =
     let s = c .before .before .before .before .before .before in
     let a = s .args in
     let row = c .before .before .before .row-at in
@@ -33,12 +33,12 @@ returns c =
     let whole : a .k * 4096 + 4096 - a .k * 4096 ≡ 4096 = omega arith in
     let row = c .before .before .before .before .before .before .row-at in
     let lay = component-put (a .use-reduce-extrapolate) (a .positions) (a .t5) (a .k) n (a .coefficients .now) (a .sign .now) whole (row .result) (row .ensures) in
-    let d = c .before .before .upgrade-bands .ensures in
+    let d = c .before .before .upgrade-all .ensures in
     record {
       coefficients = lay (λ (ts : List Step) (x y : List ℤ). upgradedCoefficients ts (a .srl-data .now) (a .raw-data .now) x y) (a .coefficients .now) _ (d .coefficients);
       sign = lay (λ (ts : List Step) (x y : List ℤ). upgradedSigns ts (a .srl-data .now) y) (a .sign .now) _ (d .sign);
-      ends = component-ends (a .use-reduce-extrapolate) (a .positions) (a .t5) (a .k) n (a .coefficients .now) (a .sign .now) whole (row .result) (row .ensures) (a .srl-data .now) _ (d .ends);
+      missing = d .missing ∙ component-missing (a .use-reduce-extrapolate) (a .positions) (a .t5) (a .k) n (a .coefficients .now) (a .sign .now) whole (row .result) (row .ensures) (a .srl-data .now) (a .raw-data .now);
     }
 
 pub upgrade-component-spec : {M : Type 1} → statement M
-upgrade-component-spec = tie.close (tie.spec (λ c. search needs) (λ c κs. search needs) (λ c. search needs) (λ c. search needs) (λ c. search needs) (λ c. search needs) (λ c. search needs) (λ c. search needs) (λ c. search needs) (λ c. search needs) (λ c. search needs) (λ c. search needs) (λ c. search needs) upgrade-bands-requires (λ c. search needs) (λ c. search needs) returns)
+upgrade-component-spec = tie.close (tie.spec (λ c. search needs) (λ c κs. search needs) (λ c. search needs) (λ c. search needs) (λ c. search needs) (λ c. search needs) (λ c. search needs) (λ c. search needs) (λ c. search needs) (λ c. search needs) (λ c. search needs) (λ c. search needs) (λ c. search needs) upgrade-all-requires (λ c. search needs) (λ c. search needs) returns)

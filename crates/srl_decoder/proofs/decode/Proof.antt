@@ -8,6 +8,7 @@ use Rattle.srl_rules.specs.Rules.{widthOk}
 use Rattle.srl_rules.proofs.Widths.{widthOk-width}
 use Rattle.srl_decoder.proofs.States.{stateOk-sound}
 use Rattle.srl_decoder.proofs.Due.{width-free}
+use Rattle.srl_decoder.proofs.Missing.{width-free-read}
 use borrow.Author.Needs.{needs}
 use Rattle.srl_decoder.proofs.decode.Statement.{statement}
 use Rattle.srl_decoder.proofs.decode.Tie as tie
@@ -58,9 +59,10 @@ returns-4 c =
     let narrow : widthOk (k .args .num-bits) ≡ false = sym (c .before .before .before .before .before .before .width-ok .ensures) ∙ c .before .before .before .before .before .if2 .left in
     let none : dueAmong (k .args .src .now) (opened (k .args .state)) (k .args .num-values) ≡ false = sym (c .before .before .before .before .any-due .ensures) ∙ c .before .before .before .if3 .left in
     let same = width-free (k .args .src .now) (k .args .num-bits) 1 (opened (k .args .state)) (k .args .num-values) none in
+    let bits = width-free-read (k .args .src .now) (k .args .num-bits) 1 (opened (k .args .state)) (k .args .num-values) none in
     let e = c .before .store-if-room2 .ensures in
     let ok = good (c .before .before .before .before .before .before .before) in
-    record { answer = simp (ok, narrow, none) (rw (same .1) (e .0)); out = simp (ok, narrow, none) (rw (same .0) (e .1)) }
+    record { answer = simp (ok, narrow, none) (rw (same .1, bits) (e .0)); out = simp (ok, narrow, none) (rw (same .0) (e .1)) }
 
 pub decode-spec : {M : Type 1} → statement M
 decode-spec = tie.close (tie.spec (λ c κs. search needs) returns (λ c κs. search needs) store-if-room-requires (λ c. search needs) returns-2 any-due-requires returns-3 store-if-room-requires-2 (λ c. search needs) returns-4)

@@ -11,7 +11,7 @@ returns c =
       sign = done .sign;
       positions = c .before .flat-rows .ensures;
       pass = c .next-pass .ensures;
-      ends = done .ends;
+      missing = done .missing;
     }
 
 pub upgrade-in-place-spec : {M : Type 1} → statement M

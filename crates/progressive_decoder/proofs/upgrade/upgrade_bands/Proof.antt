@@ -123,6 +123,7 @@ returns c =
       ends = record {
         srl = sym (ap (λ (w : Walked). w .srl) done) ∙ walk-reader (a .srl-data .now) (a .raw-data .now) ts (a .coefficients .now) (a .sign .now) start 0 enough;
         raw = sym (ap (λ (w : Walked). w .raw) done) ∙ walk-count (a .srl-data .now) (a .raw-data .now) ts (a .coefficients .now) (a .sign .now) start 0 enough;
+        place = l .inv .5 .place;
       };
     }
 

@@ -6,11 +6,15 @@ use native.Mathlib.Omega.{arith}
 use lib.IntN.{ℤ}
 use lib.ListN.{drop, replicate, length-replicate}
 use borrow.Author.Tests.{lt-ltb, le-ltb}
+use Rattle.bits.specs.Missing.{missingIn}
 use Rattle.srl_decoder.specs.Srl.{Reader, values, readerAfter}
 use Rattle.srl_decoder.specs.Decode.{opened}
-use Rattle.srl_decoder.specs.Inner.{shut, heldReader, handed}
+use Rattle.srl_decoder.specs.Missing.{valuesMissing}
+use Rattle.srl_decoder.specs.Inner.{shut, heldReader, storedBy, handed}
 use Rattle.srl_decoder.specs.declared.SrlState.{SrlState}
 use Rattle.srl_decoder.specs.declared.Decoded.the-variants.{Values}
+use Rattle.srl_decoder.specs.declared.decoder.Stored.{Stored}
+use Rattle.srl_decoder.proofs.Missing.{values-read-alike}
 use Rattle.srl_decoder.proofs.Values.{opened-shut, reader-held, held-readers, values-alike, length-values}
 use borrow.Author.Needs.{needs}
 use Rattle.srl_decoder.proofs.decoder.store_if_room.Statement.{statement}
@@ -36,19 +40,22 @@ store-values-requires c κs =
 
 returns-2 : tie.Need-returns-2
 returns-2 c =
-    let k = c .before .before .before .before .before .before .before in
+    let k = c .before .before .before .before .before .before .before .before in
     let s = k .args .src .now in
     let st = k .args .st in
     let n = k .args .num-values in
     let ws = replicate n (k .args .num-bits) in
-    let room = le-ltb _ _ (c .before .before .before .before .before .if1 .left) in
-    let e = c .before .before .store-values .ensures in
-    let o = held-read (c .before .before .before .before) in
-    let v = values-alike s ws (reader-held s (opened st)) in
-    let done = e .0 ∙ ap (λ (r : Reader). shut (heldReader s (readerAfter s ws r))) o ∙ ap shut (held-readers s (v .1)) in
+    let room = le-ltb _ _ (c .before .before .before .before .before .before .if1 .left) in
+    let e = c .before .before .before .store-values .ensures in
+    let o = held-read (c .before .before .before .before .before) in
+    let held = reader-held s (opened st) in
+    let v = values-alike s ws held in
+    let done = e .0 ∙ ap (λ (r : Reader). storedBy s (readerAfter s ws r) (valuesMissing s ws r)) o in
+    let state = ap (λ (d : Stored). d .state) done ∙ ap shut (held-readers s (v .1)) in
+    let missing = ap (λ (d : Stored). d .missing) done ∙ ap missingIn (values-read-alike s ws held) in
     let stored = e .1 ∙ ap (λ (r : Reader). values s ws r ++ drop n (k .args .out .now)) o
     ∙ ap₂ (λ (vs : List ℤ) (m : ℕ). vs ++ drop m (k .args .out .now)) (v .0) (sym (length-values s ws (opened st) ∙ length-replicate n (k .args .num-bits))) in (
-      simp room (ap (Values n) (c .hand-back .ensures ∙ ap (handed s st) done)),
+      simp room (ap₂ (Values n) (c .hand-back .ensures ∙ ap (handed s st) state) missing),
       simp room stored,
     )
 

@@ -1,34 +1,35 @@
 -- `srl_decoder::decoder::store_values` meets its contract: a turn reads code words and a nonzero value behind them, and what is left to store stays the same. Assumes nothing.
-use mathlib.Core.Path.{_≡_, refl, sym, ap, _∙_}
+use mathlib.Core.Path.{_≡_, refl, sym, ap, ap₂, _∙_}
 use mathlib.Core.List.{List, _++_}
-use mathlib.Core.Logic.{⊎-elim}
+use mathlib.Core.Bool.{false}
 use Prim.Native.Nat.{ℕ, _+_, _-_, _*_, _≤_}
 use native.Mathlib.Nat.{zero-add}
 use native.Mathlib.Omega.{arith}
 use lib.IntN.{ℤ}
-use lib.ListN.{length, drop, replicate}
+use lib.ListN.{length, set, drop, replicate}
 use mir.Syntax.{w16}
 use mir.Val.{toZ, ofZ}
 use Rattle.fixed.specs.Fixed.{clampI16, withSign}
 use Rattle.fixed.proofs.Machine.{got}
-use Rattle.bits.specs.Bits.{bitAt, zeros, bitsRead, placeOf, held}
+use Rattle.bits.specs.Bits.{bitAt, zeros, bitsRead, placeOf}
 use Rattle.bits.specs.declared.reader.BitReader.{BitReader}
 use Rattle.bits.proofs.Places.{read-place}
 use Rattle.bits.proofs.Tops.{front-skip}
-use Rattle.srl_decoder.specs.Srl.{reader, mostZeros, nonzero, behind, values, readerAfter}
+use Rattle.srl_decoder.specs.Srl.{Reader, reader, mostZeros, nonzero, behind, values, readerAfter}
 use Rattle.srl_decoder.specs.Decode.{opened}
-use Rattle.srl_decoder.specs.Inner.{shut, stateBy, heldReader, Clear, Brought}
+use Rattle.srl_decoder.specs.Inner.{storedBy, Clear, Brought}
+use Rattle.srl_decoder.specs.declared.SrlState.{SrlState}
 use Rattle.srl_decoder.proofs.Codes.{nonzero-is}
-use Rattle.srl_decoder.proofs.Values.{shut-opened}
-use Rattle.srl_decoder.proofs.Filled.{Filled, filled, fill, heldFill, fill-is, rest, rest-start, Turned, turn-codes, turn-value, rest-held, rest-end}
+use Rattle.srl_decoder.proofs.Missing.{missing-past}
+use Rattle.srl_decoder.proofs.Filled.{Filled, filled, fill, fill-is, rest, rest-start, Turned, turn-codes, turn-value, rest-bound, rest-end}
 use borrow.Author.Needs.{needs}
 use Rattle.srl_decoder.proofs.decoder.store_values.Statement.{statement}
 use Rattle.srl_decoder.proofs.decoder.store_values.Tie as tie
 
 abbrev Inv-loop : tie.InvT-loop
 Inv-loop src out₀ n w byte₀ bit₀ kp₀ pending₀ j₀ out byte bit kp pending j =
-    (bit ≤ 7) × (kp ≤ 80) × (8 * byte + bit ≤ 8 * length src) × (length out ≡ length out₀) × Clear out j n
-    × (heldFill src (fill src w n 0 (reader (8 * byte₀ + bit₀) kp₀ j₀ pending₀) out₀) ≡ rest src w n j (8 * byte + bit) kp pending out)
+    (bit ≤ 7) × (kp ≤ 80) × (8 * byte + bit ≤ 8 * length src + n + 32777) × (length out ≡ length out₀) × Clear out j n
+    × (fill src w n 0 (reader (8 * byte₀ + bit₀) kp₀ j₀ pending₀) out₀ ≡ rest src w n j (8 * byte + bit) kp pending out)
 
 abbrev μ-loop : tie.MeasureT-loop
 μ-loop src out₀ n w byte₀ bit₀ kp₀ pending₀ j₀ out byte bit kp pending j = n - j
@@ -40,7 +41,7 @@ loop-holds c =
     let u = c .before .before .clear in (
       k .pre .0,
       omega (arith, k .pre .1),
-      k .pre .2,
+      omega (arith, k .pre .2),
       refl,
       λ i a b. u .ensures .0 i (omega arith) b,
       rest-start (k .args .src .now) (k .args .num-bits) (k .args .n) (bitsRead (st .reader)) (st .kp) (st .«zero_run_remaining») (st .«nonzero_pending») (u .last .0) (u .ensures .0),
@@ -57,7 +58,7 @@ brings c =
     c .up-to-value .ensures (c .before .before .before .before .before .before .before .before .before .args .src .now) (8 * l .byte-idx + l .bit-idx) (64 - l .bit-idx) (c .before .ahead .ensures) (omega (arith, l .inv .0))
 
 skip-requires : tie.Need-skip-requires Inv-loop μ-loop
-skip-requires c κs = let l = c .before .before .before .loop in (l .inv .0, omega (arith, l .inv .2, brings c .near))
+skip-requires c κs = let l = c .before .before .before .loop in (l .inv .0, omega (arith, l .inv .2, brings c .near, c .before .before .before .before .before .before .before .before .before .pre .4, c .before .before .before .before .before .before .before .before .before .good))
 
 -- the place behind them
 next : (c : tie.After-skip Inv-loop μ-loop) → bitsRead (c .skip .result) ≡ 8 * c .before .before .before .before .loop .byte-idx + c .before .before .before .before .loop .bit-idx + c .before .up-to-value .result .taken
@@ -87,14 +88,14 @@ decode-nonzero-requires c κs =
     let v = 64 - l .bit-idx in
     let m = c .before .before .before .before .before .before .up-to-value .result .taken in (
       omega (arith, ap (λ (r : BitReader). r .«bit_idx») (c .before .before .before .before .before .skip .ensures)),
-      omega (arith, e, near, l .inv .2),
+      omega (arith, e, near, l .inv .2, k .pre .4, k .good),
       k .pre .3,
       omega (arith, near, l .inv .0),
       rw (e, c .behind .ensures) (front-skip v m _ (c .before .before .before .before .before .before .before .ahead .result) (k .args .src .now) (8 * l .byte-idx + l .bit-idx) (c .before .before .before .before .before .before .before .ahead .ensures) (omega (arith, near, l .inv .0))),
     )
 
-mul-t30 : tie.Need-mul-t30 Inv-loop μ-loop
-mul-t30 c = record { fits = omega (arith, c .before .before .before .before .before .due .ensures .0 (c .before .before .before .before .if1 .taken) .1, c .before .before .before .before .before .before .before .before .before .before .before .before .before .before .before .before .before .pre .4, c .before .before .before .before .before .before .before .before .before .before .before .before .before .before .before .before .before .good) }
+mul-t29 : tie.Need-mul-t29 Inv-loop μ-loop
+mul-t29 c = record { fits = omega (arith, c .before .before .before .before .before .due .ensures .0 (c .before .before .before .before .if1 .taken) .1, c .before .before .before .before .before .before .before .before .before .before .before .before .before .before .before .before .before .pre .4, c .before .before .before .before .before .before .before .before .before .before .before .before .before .before .before .before .before .good) }
 
 slice-set-from-out : tie.Need-slice-set-from-out Inv-loop μ-loop
 slice-set-from-out c = omega (arith, c .before .before .before .before .before .due .ensures .0 (c .before .before .before .before .if1 .taken) .1, c .before .before .before .before .before .before .before .before .before .before .before .loop .inv .3, c .before .before .before .before .before .before .before .before .before .before .before .before .before .before .clear .kept .0, c .before .before .before .before .before .before .before .before .before .before .before .before .before .before .before .before .before .pre .4)
@@ -103,75 +104,94 @@ skip-requires-2 : tie.Need-skip-requires-2 Inv-loop μ-loop
 skip-requires-2 c κs =
     let e = next (c .before .before .before .before .before .before .before) in (
       omega (arith, ap (λ (r : BitReader). r .«bit_idx») (c .before .before .before .before .before .before .before .skip .ensures)),
-      omega (arith, e, brings (c .before .before .before .before .before .before .before .before) .near, c .before .before .before .before .before .before .before .before .before .before .before .loop .inv .2, c .before .decode-nonzero .ensures .3, c .before .before .before .before .before .before .before .before .before .before .before .before .before .before .before .before .before .good),
+      omega (arith, e, brings (c .before .before .before .before .before .before .before .before) .near, c .before .before .before .before .before .before .before .before .before .before .before .loop .inv .2, c .before .decode-nonzero .ensures .3, c .before .before .before .before .before .before .before .before .before .before .before .before .before .before .before .before .before .pre .4, c .before .before .before .before .before .before .before .before .before .before .before .before .before .before .before .before .before .good),
     )
 
 add-j-2 : tie.Need-add-j-2 Inv-loop μ-loop
 add-j-2 c = record { fits = omega (arith, c .before .before .before .before .before .before .due .ensures .0 (c .before .before .before .before .before .if1 .taken) .1, c .before .before .before .before .before .before .before .before .before .before .before .before .before .before .before .before .before .before .good) }
 
--- what the turn does
-turned : (c : tie.Joined1 Inv-loop μ-loop)
-    → Turned (c .before .before .before .before .before .before .before .before .before .before .before .before .before .args .src .now) (c .before .before .before .before .before .before .before .before .before .before .before .before .before .args .num-bits) (c .before .before .before .before .before .before .before .before .before .before .before .before .before .args .n) (c .before .before .before .before .before .before .before .loop .j) (8 * c .before .before .before .before .before .before .before .loop .byte-idx + c .before .before .before .before .before .before .before .loop .bit-idx) (c .before .before .before .before .before .before .before .loop .kp) (c .before .before .before .before .before .before .before .loop .pending) (c .before .before .before .before .before .before .before .loop .out)
-    (c .if1 .j) (c .before .before .before .before .up-to-value .result .kp) (c .if1 .next) (c .if1 .pending) (c .if1 .out)
+-- what a turn does with a value behind its code words, and without one
+turned : (c : tie.After-skip2 Inv-loop μ-loop)
+    → Turned (c .before .before .before .before .before .before .before .before .before .before .before .before .before .before .before .before .before .before .args .src .now) (c .before .before .before .before .before .before .before .before .before .before .before .before .before .before .before .before .before .before .args .num-bits) (c .before .before .before .before .before .before .before .before .before .before .before .before .before .before .before .before .before .before .args .n) (c .before .before .before .before .before .before .before .before .before .before .before .before .loop .j) (8 * c .before .before .before .before .before .before .before .before .before .before .before .before .loop .byte-idx + c .before .before .before .before .before .before .before .before .before .before .before .before .loop .bit-idx) (c .before .before .before .before .before .before .before .before .before .before .before .before .loop .kp) (c .before .before .before .before .before .before .before .before .before .before .before .before .loop .pending) (c .before .before .before .before .before .before .before .before .before .before .before .before .loop .out)
+    (c .before .before .before .before .before .before .before .before .before .before .before .before .loop .j + c .before .before .before .before .before .before .before .before .before .up-to-value .result .run + 1) (c .before .before .before .before .before .before .before .before .before .up-to-value .result .kp) (c .skip2 .result) false
+    (set (c .before .before .before .before .before .before .before .before .before .before .before .before .loop .out) (c .before .before .before .before .before .before .before .before .before .before .before .before .loop .j + c .before .before .before .before .before .before .before .before .before .up-to-value .result .run) (toZ w16 (ofZ w16 (c .before .with-sign .result))))
 turned c =
-    let k = c .before .before .before .before .before .before .before .before .before .before .before .before .before in
+    let k = c .before .before .before .before .before .before .before .before .before .before .before .before .before .before .before .before .before .before in
     let s = k .args .src .now in
-    let n = k .args .n in
     let w = k .args .num-bits in
-    let l = c .before .before .before .before .before .before .before .loop in
+    let l = c .before .before .before .before .before .before .before .before .before .before .before .before .loop in
     let at = 8 * l .byte-idx + l .bit-idx in
-    let r = c .before .before .before .before .up-to-value .result in
-    let here = bitsRead (c .before .before .before .skip .result) in
-    let e = next (c .before .before .before) in
-    let due = c .before .due .ensures in
-    ⊎-elim
-    (λ p.
-    let v = p .3 in
-    let made = p .4 in
+    let r = c .before .before .before .before .before .before .before .before .before .up-to-value .result in
+    let here = bitsRead (c .before .before .before .before .before .before .before .before .skip .result) in
+    let e = next (c .before .before .before .before .before .before .before .before) in
+    let v = c .before .before .decode-nonzero in
+    let made = c .before .with-sign in
     let value : toZ w16 (ofZ w16 (made .result)) ≡ nonzero s (at + r .taken) w =
     got w16 (made .ok) (made .ensures ∙ (λ i. clampI16 (withSign (v .ensures .0 i) (v .ensures .1 i))) ∙ nonzero-is s here w (zeros s (here + 1) (mostZeros w)) (bitAt s here) (k .pre .3) refl refl ∙ ap (λ (m : ℕ). nonzero s m w) e) in
-    rw (p .6, p .7, p .8, p .9) (turn-value s w n (l .j) at (l .kp) (l .pending) (l .out) r (p .5 .result) (toZ w16 (ofZ w16 (made .result))) (l .inv .4) (brings (c .before .before .before .before)) (due .0 (p .0 .taken)) value (p .5 .ensures ∙ ap placeOf (v .ensures .2 ∙ ap (λ (m : ℕ). behind s m w) e))))
-    (λ p. rw (p .1, p .2, p .3, p .4) (turn-codes s w n (l .j) at (l .kp) (l .pending) (l .out) r (c .before .before .before .skip .result) (c .before .before .before .before .before .before .loop-test .taken) (l .inv .4) (brings (c .before .before .before .before)) (due .1 (p .0 .left)) (c .before .before .before .skip .ensures)))
-    (c .if1 .came)
+    turn-value s w (k .args .n) (l .j) at (l .kp) (l .pending) (l .out) r (c .skip2 .result) (toZ w16 (ofZ w16 (made .result))) (l .inv .4) (brings (c .before .before .before .before .before .before .before .before .before)) (c .before .before .before .before .before .before .due .ensures .0 (c .before .before .before .before .before .if1 .taken)) value (c .skip2 .ensures ∙ ap placeOf (v .ensures .2 ∙ ap (λ (m : ℕ). behind s m w) e))
 
-hold-requires : tie.Need-hold-requires Inv-loop μ-loop
-hold-requires c κs = turned c .low
+turned-2 : (c : tie.Else1 Inv-loop μ-loop)
+    → Turned (c .before .before .before .before .before .before .before .before .before .before .before .before .before .args .src .now) (c .before .before .before .before .before .before .before .before .before .before .before .before .before .args .num-bits) (c .before .before .before .before .before .before .before .before .before .before .before .before .before .args .n) (c .before .before .before .before .before .before .before .loop .j) (8 * c .before .before .before .before .before .before .before .loop .byte-idx + c .before .before .before .before .before .before .before .loop .bit-idx) (c .before .before .before .before .before .before .before .loop .kp) (c .before .before .before .before .before .before .before .loop .pending) (c .before .before .before .before .before .before .before .loop .out)
+    (c .before .before .before .before .before .before .before .loop .j + c .before .before .before .before .up-to-value .result .run) (c .before .before .before .before .up-to-value .result .kp) (c .before .before .before .skip .result) (c .before .before .before .before .up-to-value .result .pending) (c .before .before .before .before .before .before .before .loop .out)
+turned-2 c =
+    let k = c .before .before .before .before .before .before .before .before .before .before .before .before .before in
+    let l = c .before .before .before .before .before .before .before .loop in
+    turn-codes (k .args .src .now) (k .args .num-bits) (k .args .n) (l .j) (8 * l .byte-idx + l .bit-idx) (l .kp) (l .pending) (l .out) (c .before .before .before .before .up-to-value .result) (c .before .before .before .skip .result) (c .before .before .before .before .before .before .loop-test .taken) (l .inv .4) (brings (c .before .before .before .before)) (c .before .due .ensures .1 (c .if1 .left)) (c .before .before .before .skip .ensures)
 
 loop-less : tie.Need-loop-less Inv-loop μ-loop
-loop-less c = turned (c .before) .nearer
+loop-less c = turned c .nearer
 
 loop-again : tie.Need-loop-again Inv-loop μ-loop
 loop-again c =
-    let a = c .before .before .before .before .before .before .before .before .before .before .before .before .before .before .args in
-    let l = c .before .before .before .before .before .before .before .before .loop in
-    let q = c .before .if1 in
-    let b = brings (c .before .before .before .before .before) in
-    let t = turned (c .before) in
-    let held = rest-held (a .src .now) (a .num-bits) (a .n) (q .j) (bitsRead (q .next)) (c .before .before .before .before .before .up-to-value .result .kp) (q .pending) (q .out) (c .hold .result) (c .hold .ensures) in
-    (held .0, b .kp-low, held .1, t .long ∙ l .inv .3, t .clear, l .inv .5 ∙ t .left ∙ held .2)
+    let k = c .before .before .before .before .before .before .before .before .before .before .before .before .before .before .before .before .before .before in
+    let l = c .before .before .before .before .before .before .before .before .before .before .before .before .loop in
+    let t = turned c in
+    let left = l .inv .5 ∙ t .left in
+    (t .low, brings (c .before .before .before .before .before .before .before .before .before) .kp-low, rest-bound (k .args .src .now) (k .args .num-bits) (k .args .n) _ _ _ _ _ _ _ _ _ _ (k .pre .3 .1) (k .pre .1) (k .pre .2) left, t .long ∙ l .inv .3, t .clear, left)
+
+loop-less-2 : tie.Need-loop-less-2 Inv-loop μ-loop
+loop-less-2 c = turned-2 c .nearer
+
+loop-again-2 : tie.Need-loop-again-2 Inv-loop μ-loop
+loop-again-2 c =
+    let k = c .before .before .before .before .before .before .before .before .before .before .before .before .before in
+    let l = c .before .before .before .before .before .before .before .loop in
+    let t = turned-2 c in
+    let left = l .inv .5 ∙ t .left in
+    (t .low, brings (c .before .before .before .before) .kp-low, rest-bound (k .args .src .now) (k .args .num-bits) (k .args .n) _ _ _ _ _ _ _ _ _ _ (k .pre .3 .1) (k .pre .1) (k .pre .2) left, t .long ∙ l .inv .3, t .clear, left)
+
+-- the state at the end
+ends : (c : tie.After-state-of Inv-loop μ-loop) → bitsRead (c .state-of .result .reader) ≡ 8 * c .before .before .loop .byte-idx + c .before .before .loop .bit-idx
+ends c = ap (λ (t : SrlState). bitsRead (t .reader)) (c .state-of .ensures)
+
+ended-requires : tie.Need-ended-requires Inv-loop μ-loop
+ended-requires c κs =
+    let k = c .before .before .before .before .before .before .before .before in
+    let l = c .before .before .loop in
+    (omega (arith, ap (λ (t : SrlState). t .reader .«bit_idx») (c .state-of .ensures), l .inv .0), omega (arith, ends c, l .inv .2, k .pre .4, k .good))
 
 same-length : tie.Need-same-length Inv-loop μ-loop
-same-length c = c .before .before .loop .inv .3 ∙ c .before .before .before .before .before .clear .kept .0
+same-length c = c .before .before .before .loop .inv .3 ∙ c .before .before .before .before .before .before .clear .kept .0
 
 returns : tie.Need-returns Inv-loop μ-loop
 returns c =
-    let k = c .before .before .before .before .before .before .before .before in
+    let k = c .before .before .before .before .before .before .before .before .before in
     let a = k .args in
     let s = a .src .now in
     let w = a .num-bits in
     let n = a .n in
-    let l = c .before .before .loop in
+    let l = c .before .before .before .loop in
     let at = 8 * l .byte-idx + l .bit-idx in
-    let u = c .before .before .before .before .before .clear in
-    let same : held s at ≡ at = omega (arith, l .inv .2) in
-    let done : filled (values s (replicate n w) (opened (a .st)) ++ drop (0 + n) (u .last .0)) (heldReader s (readerAfter s (replicate n w) (opened (a .st)))) ≡ filled (l .out) (reader (held s at) (l .kp) (l .j - n) (l .pending)) =
-    sym (ap (heldFill s) (fill-is s w n 0 (opened (a .st)) (u .last .0) (omega (arith, u .kept .0, k .pre .4)))) ∙ l .inv .5 ∙ rest-end s w n (l .j) at (l .kp) (l .pending) (l .out) (omega (arith, c .before .loop-test .left)) in (
-      c .state-of .ensures ∙ shut-opened (stateBy (l .byte-idx) (l .bit-idx) (l .kp) (l .j - n) (l .pending)) (l .inv .0)
-          ∙ ap (λ (m : ℕ). shut (reader m (l .kp) (l .j - n) (l .pending))) (sym same) ∙ sym (ap (λ (f : Filled). shut (f .after)) done),
+    let u = c .before .before .before .before .before .before .clear in
+    let after = readerAfter s (replicate n w) (opened (a .st)) in
+    let done : filled (values s (replicate n w) (opened (a .st)) ++ drop (0 + n) (u .last .0)) after ≡ filled (l .out) (reader at (l .kp) (l .j - n) (l .pending)) =
+    sym (fill-is s w n 0 (opened (a .st)) (u .last .0) (omega (arith, u .kept .0, k .pre .4))) ∙ l .inv .5 ∙ rest-end s w n (l .j) at (l .kp) (l .pending) (l .out) (omega (arith, c .before .before .loop-test .left)) in
+    let stands : opened (c .before .state-of .result) ≡ after = ap opened (c .before .state-of .ensures) ∙ sym (ap (λ (f : Filled). f .after) done) in (
+      c .ended .ensures ∙ ap₂ (storedBy s) stands (ap (λ (r : Reader). r .read - 8 * length s) stands ∙ sym (missing-past s (replicate n w) (opened (a .st)) (k .pre .2))),
       sym (ap (λ (f : Filled). f .out) done) ∙ ap (λ (o : List ℤ). values s (replicate n w) (opened (a .st)) ++ o) (ap (λ (m : ℕ). drop m (u .last .0)) (zero-add n) ∙ u .ensures .1),
     )
 
 pub store-values-spec : {M : Type 1} → statement M
 store-values-spec =
     tie.close
-    (tie.spec Inv-loop μ-loop (λ c κs. search needs) loop-holds (λ c κs. search needs) (λ c. search needs) up-to-value-requires skip-requires add-j (λ c κs. search needs) cast-taken (λ c. search needs) sub-have sub-have-2 behind-requires decode-nonzero-requires (λ c κs. search needs) mul-t30 slice-set-from-out skip-requires-2 add-j-2 hold-requires loop-less loop-again (λ c κs. search needs) same-length returns)
+    (tie.spec Inv-loop μ-loop (λ c κs. search needs) loop-holds (λ c κs. search needs) (λ c. search needs) up-to-value-requires skip-requires add-j (λ c κs. search needs) cast-taken (λ c. search needs) sub-have sub-have-2 behind-requires decode-nonzero-requires (λ c κs. search needs) mul-t29 slice-set-from-out skip-requires-2 add-j-2 loop-less loop-again loop-less-2 loop-again-2 (λ c κs. search needs) ended-requires same-length returns)

@@ -86,18 +86,18 @@ Core 𝓤 H A mem run = tripleOf 𝓤 H A core.signature (core.spec 𝓤 H A mem
 
 -- a value of the enum has the machine value that its variant's does, whichever it is
 outcome-is : (o : Outcome) → Is O.the-row o (EL.vals O.the-type O′.the-laws o) → Is O.the-row o (O′.lowered o ∷ [])
-outcome-is (E.Values n) p = p
+outcome-is (E.Values n m) p = p
 outcome-is (E.Refused k) p = p
 
 -- and so has a struct that holds one
 parts-are : (o : Outcome) (st : SrlState) → Is O.the-row o (EL.vals O.the-type O′.the-laws o) × (Is S.the-row st (S′.lowered st ∷ []) × Unit {0})
     → Is R.the-row (record { outcome = o; state = st }) (R′.lowered (record { outcome = o; state = st }) ∷ [])
-parts-are (E.Values n) st are = LL.owes R.the-type R′.the-laws (record { outcome = E.Values n; state = st }) are
+parts-are (E.Values n m) st are = LL.owes R.the-type R′.the-laws (record { outcome = E.Values n m; state = st }) are
 parts-are (E.Refused k) st are = LL.owes R.the-type R′.the-laws (record { outcome = E.Refused k; state = st }) are
 
 -- and the answer, which holds one beside a decoder, has its type
 answer-typed : (o : Outcome) (next : SrlDecoder) → Holds (hasTy (By′.mir (named 0)) (By′.lowered (record { outcome = o; decoder = next })))
-answer-typed (E.Values n) next = tt
+answer-typed (E.Values n m) next = tt
 answer-typed (E.Refused k) next = tt
 
 -- the callee's answer with the decoder of the stream
@@ -188,7 +188,7 @@ module _ {M : Type 1} (𝓤 : URA M) (H : Heap 𝓤) (A : Atoms 𝓤) (W : Given
   -- what an outcome and a decoder own together is what the answer owns
   shut : (o : Outcome) (next : SrlDecoder)
       → ent 𝓤 (⋆ 𝓤 H A (‵ (owns (O.the-row ∷ T.the-row α ∷ []) (o, (next, tt)) (O′.lowered o ∷ [], (T′.lowered next ∷ [], tt))) ∷ [])) (sem 𝓤 H A (By.the-row α .own (record { outcome = o; decoder = next }) (By′.lowered (record { outcome = o; decoder = next }) ∷ [])))
-  shut (E.Values n) next = own-shut 𝓤 H A W (By.the-type α) (By′.the-laws α) (E.Values n, (next, tt))
+  shut (E.Values n m) next = own-shut 𝓤 H A W (By.the-type α) (By′.the-laws α) (E.Values n m, (next, tt))
   shut (E.Refused k) next = own-shut 𝓤 H A W (By.the-type α) (By′.the-laws α) (E.Refused k, (next, tt))
 
   exits : (r : Parts) (zs : List ℤ) → Said r zs → length zs ≡ length ys → Is R.the-row r (R′.lowered r ∷ []) → ent 𝓤 (⋆ 𝓤 H A ((‵ (flft κ q) ⊛ ‵ (flft κ′ q′) ⊛ ‵ ftrue) ∷ ‵ (finally i16 γ zs) ∷ ‵ Own ∷ [])) (Post (By′.lowered (handed (d .src) r)))

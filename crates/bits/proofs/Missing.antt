@@ -1,0 +1,97 @@
+-- The bits that are read stand one after another: how many of them are missing, in closed form, and the same bits past the end.
+use mathlib.Core.Path.{_≡_, refl, sym, ap, ap₂, _∙_}
+use mathlib.Core.Bool.{Bool, true, false, cond}
+use mathlib.Core.List.{List, [], _∷_, _++_}
+use Prim.Native.Nat.{ℕ, zero, suc, _+_, _-_, _*_, _≤_, _<_}
+use native.Mathlib.Nat.{add-zero, zero-add, suc-add}
+use native.Mathlib.Numerals.{add-one}
+use native.Mathlib.Decide.{decLt}
+use native.Mathlib.Omega.{arith}
+use borrow.Author.Tests.{leb-true, leb-false, lt-ltb, le-ltb, le-leb}
+use lib.Dec.{leb, ltb}
+use lib.ListN.{length}
+use Rattle.bits.specs.Bits.{bitOf, bitAt, zeros, zerosLength}
+use Rattle.bits.specs.Missing.{BitRead, readBit, readNum, readZeros, missingIn}
+use Rattle.bits.proofs.Ones.{zeros-le}
+use Rattle.bits.proofs.Past.{Alike, same, past, alike-on, bit-alike}
+
+-- ════ counted ════
+
+-- of two lists
+pub missing-append : (a b : List BitRead) → missingIn (a ++ b) ≡ missingIn a + missingIn b
+unfolding missingIn
+missing-append [] b = sym (zero-add (missingIn b))
+missing-append (x ∷ a) b = omega (arith, missing-append a b)
+
+-- of the w bits from bit n on: those read, less those that were there
+pub missing-num : (s : List ℕ) (n w : ℕ) → missingIn (readNum s n w) ≡ w - (8 * length s - n)
+unfolding missingIn readNum
+missing-num s n zero = omega arith
+missing-num s n (suc w) = by (leb (8 * length s) n) refl (missing-num s (suc n) w)
+  where
+    by : (b : Bool) → leb (8 * length s) n ≡ b → {m : ℕ} → m ≡ w - (8 * length s - suc n) → bitOf b + m ≡ suc w - (8 * length s - n)
+    by true e h = omega (arith, leb-true (8 * length s) n e)
+    by false e h = omega (arith, leb-false (8 * length s) n e)
+
+-- ════ one after another ════
+
+-- a + b bits are a bits and then b bits
+pub num-append : (s : List ℕ) (n a b : ℕ) → readNum s n a ++ readNum s (n + a) b ≡ readNum s n (a + b)
+unfolding readNum
+num-append s n zero b = ap₂ (λ (i j : ℕ). readNum s i j) (add-zero n) (sym (zero-add b))
+num-append s n (suc a) b =
+    let e : n + suc a ≡ suc n + a = omega arith in
+    ap (λ (l : List BitRead). readBit s n ∷ l) (ap (λ (i : ℕ). readNum s (suc n) a ++ readNum s i b) e ∙ num-append s (suc n) a b)
+    ∙ ap (readNum s n) (sym (suc-add a b))
+
+-- the same by where they begin and end
+pub num-join : (s : List ℕ) (n m k : ℕ) → n ≤ m → m ≤ k → readNum s n (m - n) ++ readNum s m (k - m) ≡ readNum s n (k - n)
+num-join s n m k h g =
+    let e : n + (m - n) ≡ m = omega arith in
+    let f : m - n + (k - m) ≡ k - n = omega arith in
+    ap (λ (i : ℕ). readNum s n (m - n) ++ readNum s i (k - m)) (sym e) ∙ num-append s n (m - n) (k - m) ∙ ap (readNum s n) f
+
+-- zeros before a 1 are as many bits as they take
+pub zeros-read : (s : List ℕ) (n l : ℕ) → readZeros s n l ≡ readNum s n (zerosLength s n l)
+unfolding readZeros readNum zeros
+zeros-read s n zero = refl
+zeros-read s n (suc l) = by (bitAt s n) (zeros-read s (suc n) l)
+  where
+    one : (z : ℕ) → z ≤ l → cond (ltb (suc z) (suc l)) (suc z + 1) (suc l) ≡ suc (cond (ltb z l) (z + 1) l)
+    one z h = by′ (decLt z l)
+      where
+        by′ : Dec (z < l) → cond (ltb (suc z) (suc l)) (suc z + 1) (suc l) ≡ suc (cond (ltb z l) (z + 1) l)
+        by′ (yes p) = simp (lt-ltb (suc z) (suc l) (omega arith), lt-ltb z l p) (omega arith)
+        by′ (no p) = simp (le-ltb (suc z) (suc l) (omega arith), le-ltb z l (omega arith))
+
+    by : (b : Bool) → readZeros s (suc n) l ≡ readNum s (suc n) (zerosLength s (suc n) l)
+        → (readBit s n ∷ cond b [] (readZeros s (suc n) l))
+        ≡ readNum s n (cond (ltb (cond b 0 (suc (zeros s (suc n) l))) (suc l)) (cond b 0 (suc (zeros s (suc n) l)) + 1) (suc l))
+    by true ih = ap (λ (t : Bool). readNum s n (cond t 1 (suc l))) (sym (lt-ltb 0 (suc l) (omega arith)))
+    by false ih = ap (λ (r : List BitRead). readBit s n ∷ r) ih ∙ ap (readNum s n) (sym (one (zeros s (suc n) l) (zeros-le s (suc n) l)))
+
+-- ════ past the end ════
+
+-- at alike counts the same is read
+pub read-alike : (s : List ℕ) {m n : ℕ} → Alike s m n → readBit s m ≡ readBit s n
+read-alike s (same e) = ap (readBit s) e
+read-alike s {m} {n} (past g h) =
+    let a : Alike s m n = past g h in
+    let e : leb (8 * length s) m ≡ leb (8 * length s) n = le-leb (8 * length s) m g ∙ sym (le-leb (8 * length s) n h) in
+    λ i. record { bit = bit-alike s a i; missing = e i }
+
+-- a number's bits
+pub num-read-alike : (s : List ℕ) {m n : ℕ} (w : ℕ) → Alike s m n → readNum s m w ≡ readNum s n w
+unfolding readNum
+num-read-alike s zero a = refl
+num-read-alike s {m} {n} (suc w) a =
+    ap₂ (λ (b : BitRead) (l : List BitRead). b ∷ l) (read-alike s a)
+    (ap (λ (i : ℕ). readNum s i w) (sym (add-one m)) ∙ num-read-alike s w (alike-on s 1 a) ∙ ap (λ (i : ℕ). readNum s i w) (add-one n))
+
+-- the bits of zeros before a 1
+pub zeros-read-alike : (s : List ℕ) {m n : ℕ} (l : ℕ) → Alike s m n → readZeros s m l ≡ readZeros s n l
+unfolding readZeros
+zeros-read-alike s zero a = refl
+zeros-read-alike s {m} {n} (suc l) a =
+    ap₂ (λ (b : BitRead) (r : List BitRead). b ∷ cond (b .bit) [] r) (read-alike s a)
+    (ap (λ (i : ℕ). readZeros s i l) (sym (add-one m)) ∙ zeros-read-alike s l (alike-on s 1 a) ∙ ap (λ (i : ℕ). readZeros s i l) (add-one n))
