@@ -1,6 +1,6 @@
 -- A pass over three components in flat arrays: it keeps lengths, each component is upgraded where it lies, and all three one after another.
 use mathlib.Core.Path.{_≡_, refl, sym, ap, ap₂, _∙_}
-use mathlib.Core.Bool.{Bool}
+use mathlib.Core.Bool.{Bool, true}
 use mathlib.Core.List.{List, [], _∷_}
 use Prim.Native.Nat.{ℕ, suc, _+_, _*_, _≤_, _<_}
 use native.Mathlib.Omega.{arith}
@@ -15,7 +15,9 @@ use Rattle.progressive_decoder.specs.declared.MissingBits.{MissingBits}
 use Rattle.components.specs.Components.{stepsOf, passCoefficients, passSigns, passMissing}
 use Rattle.planes.specs.Planes.{component, rowOf, joined, of}
 use Rattle.planes.specs.Inner.{withComponent}
-use Rattle.components.specs.Inner.{coefficientsPast, signsPast, ComponentPassed, ComponentsPassed}
+use Rattle.components.specs.Inner.{coefficientsPast, signsPast, Few, ComponentPassed, ComponentsPassed}
+use Rattle.bands.specs.Positions.{rowInDomain}
+use Rattle.progressive_decoder.proofs.Missing.{srl-most, raw-most}
 use Rattle.planes.proofs.Joined.{Long, upTo, joined-components, parts-long, here, next}
 
 -- ════ lengths ════
@@ -67,6 +69,12 @@ module _ (e : Bool) (positions : List ℕ) (rows : List (List ℕ)) (k n : ℕ) 
       → P.passMissing (steps e prev (of rows k)) srlData rawData (midOf (k * 4096) n ss) ≡ P.passMissing (stepsOf e positions rows k) srlData rawData (component k ss)
   component-missing prev row srlData rawData =
       ap₂ (λ (n : ℕ) (prev : List ℕ). P.passMissing (steps e prev (of rows k)) srlData rawData (midOf (k * 4096) n ss)) whole row
+
+-- a pass over one component misses few bits
+pub few-missing : (e : Bool) (prev curr srlData rawData : List ℕ) (ss : List ℤ) {m : MissingBits} → m ≡ P.passMissing (steps e prev curr) srlData rawData ss
+    → rowInDomain prev ≡ true → Few m
+few-missing e prev curr srlData rawData ss d h =
+    (omega (arith, ap (λ (m : MissingBits). m .srl) d, srl-most e prev curr srlData ss h), omega (arith, ap (λ (m : MissingBits). m .raw) d, raw-most e prev curr rawData ss h))
 
 -- ════ all three ════
 

@@ -2,7 +2,7 @@
 use mathlib.Core.Path.{_≡_}
 use mathlib.Core.Bool.{Bool}
 use mathlib.Core.List.{List}
-use Prim.Native.Nat.{ℕ}
+use Prim.Native.Nat.{ℕ, _≤_}
 use lib.IntN.{ℤ}
 use Rattle.progressive_decoder.specs.Upgrade.{upgradedCoefficients, upgradedSigns}
 use Rattle.progressive_decoder.specs.Upgrade as P
@@ -20,11 +20,16 @@ coefficientsPast k e positions rows srlData rawData cs ss =
 unfoldable pub signsPast : ℕ → Bool → List ℕ → List (List ℕ) → List ℕ → List ℤ → List ℤ
 signsPast k e positions rows srlData ss = withComponent k (upgradedSigns (stepsOf e positions rows k) srlData (component k ss)) ss
 
+-- no more bits than a pass over one component can miss
+abbrev pub Few : MissingBits → Type 0
+Few m = (m .srl ≤ 32790) × (m .raw ≤ 61440)
+
 -- what a pass over component k alone fixes: both arrays, and the bits that were missing
 pub record ComponentPassed (k : ℕ) (e : Bool) (positions : List ℕ) (rows : List (List ℕ)) (srlData rawData : List ℕ) (cs ss cs′ ss′ : List ℤ) (r : MissingBits) : Type 0 where
   pub coefficients : cs′ ≡ coefficientsPast k e positions rows srlData rawData cs ss
   pub sign : ss′ ≡ signsPast k e positions rows srlData ss
   pub missing : r ≡ P.passMissing (stepsOf e positions rows k) srlData rawData (component k ss)
+  pub few : Few r
 
 -- what a pass over all three fixes
 pub record ComponentsPassed (e : Bool) (positions : List ℕ) (rows srlData rawData : List (List ℕ)) (cs ss cs′ ss′ : List ℤ) (r : MissingBits) : Type 0 where

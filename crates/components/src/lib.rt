@@ -2,11 +2,12 @@
 
 ghost use mathlib.Core.Path.{_≡_};
 ghost use mathlib.Core.Bool.{true};
-ghost use Prim.Native.Nat.{_<_};
+ghost use Prim.Native.Nat.{_+_, _<_};
 ghost use lib.ListN.{length};
 ghost use Rattle.bands.specs.Positions.{rowInDomain};
+ghost use Rattle.progressive_decoder.specs.Upgrade.{missingBits};
 ghost use Rattle.planes.specs.Planes.{three};
-ghost use Rattle.components.specs.Inner.{ComponentPassed, ComponentsPassed};
+ghost use Rattle.components.specs.Inner.{Few, ComponentPassed, ComponentsPassed};
 use progressive_decoder::MissingBits;
 
 // One component of the flat arrays, by its number; the bits that were missing. The tile has seen that no position is above 15.
@@ -39,6 +40,17 @@ fn upgrade_component(
     )
 }
 
+// The bits that three components missed.
+fn sum_of(y: MissingBits, cb: MissingBits, cr: MissingBits) -> MissingBits
+    requires { ⌜ Few y × Few cb × Few cr ⌝ }
+    ensures { λ r. ⌜ r ≡ missingBits (y .srl + cb .srl + cr .srl) (y .raw + cb .raw + cr .raw) ⌝ }
+{
+    MissingBits {
+        srl: y.srl + cb.srl + cr.srl,
+        raw: y.raw + cb.raw + cr.raw,
+    }
+}
+
 // All three; the bits that were missing in all of them.
 pub fn upgrade_components(
     y_srl: &[u8],
@@ -63,8 +75,5 @@ pub fn upgrade_components(
     let y = upgrade_component(0, y_srl, y_raw, positions, rows, e, coefficients, sign);
     let cb = upgrade_component(1, cb_srl, cb_raw, positions, rows, e, coefficients, sign);
     let cr = upgrade_component(2, cr_srl, cr_raw, positions, rows, e, coefficients, sign);
-    MissingBits {
-        srl: y.srl + cb.srl + cr.srl,
-        raw: y.raw + cb.raw + cr.raw,
-    }
+    sum_of(y, cb, cr)
 }

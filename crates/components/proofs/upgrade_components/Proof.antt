@@ -17,13 +17,17 @@ upgrade-component-requires-3 c κs =
       c .before .before .before .before .upgrade-component2 .kept .1 .1 .1 .1 .1 .1 .1 .0 ∙ c .before .before .before .before .before .before .before .before .before .upgrade-component .kept .1 .1 .1 .1 .1 .1 .1 .0 ∙ s .pre .2,
     )
 
+sum-of-requires : tie.Need-sum-of-requires
+sum-of-requires c κs = (c .before .before .before .before .before .before .before .before .before .before .before .before .upgrade-component .ensures .few, c .before .before .before .before .before .before .before .upgrade-component2 .ensures .few, c .before .before .upgrade-component3 .ensures .few)
+
 returns : tie.Need-returns
 returns c =
-    let s = c .before .before .before .before .before .before .before .before .before .before .before .before .before .before .before .before .before .before .before .before .before in
+    let s = c .before .before .before .before .before .before .before .before .before .before .before .before .before .before .before .before .before .before .before .before .before .before in
     let a = s .args in
-    passed (a .use-reduce-extrapolate) (a .positions) (a .rows) (three (a .y-srl .now) (a .cb-srl .now) (a .cr-srl .now)) (three (a .y-raw .now) (a .cb-raw .now) (a .cr-raw .now))
-    (a .coefficients .now) (a .sign .now) (s .pre .1) (s .pre .2) _
-    (c .before .before .before .before .before .before .before .before .before .before .before .before .upgrade-component .ensures) (c .before .before .before .before .before .before .before .upgrade-component2 .ensures) (c .before .before .upgrade-component3 .ensures)
+    let done = passed (a .use-reduce-extrapolate) (a .positions) (a .rows) (three (a .y-srl .now) (a .cb-srl .now) (a .cr-srl .now)) (three (a .y-raw .now) (a .cb-raw .now) (a .cr-raw .now))
+    (a .coefficients .now) (a .sign .now) (s .pre .1) (s .pre .2)
+    (c .before .before .before .before .before .before .before .before .before .before .before .before .before .upgrade-component .ensures) (c .before .before .before .before .before .before .before .before .upgrade-component2 .ensures) (c .before .before .before .upgrade-component3 .ensures) in
+    record { coefficients = done .coefficients; sign = done .sign; missing = c .sum-of .ensures ∙ done .missing }
 
 pub upgrade-components-spec : {M : Type 1} → statement M
-upgrade-components-spec = tie.close (tie.spec (λ c κs. search needs) (λ c κs. search needs) upgrade-component-requires-3 (λ c. search needs) (λ c. search needs) returns)
+upgrade-components-spec = tie.close (tie.spec (λ c κs. search needs) (λ c κs. search needs) upgrade-component-requires-3 sum-of-requires (λ c. search needs) (λ c. search needs) returns)

@@ -1,7 +1,7 @@
 -- `tile::refusals` meets its contract. Assumes nothing.
 use Rattle.answer.proofs.Numbers.{number-answered, kept}
-use Rattle.tile.specs.Tile.{fresh, loadRefusal, loaded, upgraded}
-use Rattle.tile.specs.Tile.{upgradeRefusal}
+use Rattle.progressive_decoder.specs.Upgrade.{missingBits}
+use Rattle.tile.specs.Tile.{fresh, loadRefusal, loaded, upgraded, upgradeRefusal, upgradeMissing}
 use Rattle.tile.specs.Refused.{pixelsRefusalOf}
 use Rattle.tile.proofs.refusals.Statement.{statement}
 use Rattle.tile.proofs.refusals.Tie as tie
@@ -12,6 +12,7 @@ returns c = record {
   load-fresh = λ cs ss rows quants e k n. kept (loaded cs ss rows quants e) fresh n;
   upgrade-number = λ t srlData rawData rows q. number-answered (upgradeRefusal t rows);
   upgrade-kept = λ t srlData rawData rows q k n. kept (upgraded t srlData rawData rows q) t n;
+  upgrade-counts = λ t srlData rawData rows q k n. kept (upgradeMissing t srlData rawData rows) (missingBits 0 0) n;
   pixels-number = λ t px. number-answered (pixelsRefusalOf t px);
   pixels-kept = λ t px k n. kept _ px n;
 }
