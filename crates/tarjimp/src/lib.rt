@@ -105,8 +105,10 @@ pub extern "C" fn tarjimp_decode_upgrade_pass(
         coefficients,
         sign,
     );
-    *missing = answers::missing_numbers(d.missing);
-    answer::number_of(d.answer)
+    let bits = d.missing;
+    let answer = d.answer;
+    *missing = answers::missing_numbers(bits);
+    answer::number_of(answer)
 }
 
 // Dequantizes a component in place.

@@ -1,7 +1,7 @@
 -- `tarjimp::tarjimp_tile_decode_upgrade` meets its contract: that of `TileState::decode_upgrade`, where the parts of the tile lie. Assumes nothing.
 use mathlib.Core.Bool.{Bool, true, false, _&&_}
 use mathlib.Core.List.{List}
-use mathlib.Core.Path.{_≡_, refl, sym, _∙_}
+use mathlib.Core.Path.{_≡_, refl, sym, ap, _∙_}
 use Prim.Native.Nat.{ℕ}
 use lib.IntN.{ℤ}
 use borrow.Author.Tests.{not-true, not-false}
@@ -11,15 +11,15 @@ use Rattle.bands.proofs.Every.{both-true}
 use Rattle.planes.specs.Planes.{joined, of}
 use Rattle.components.specs.Components.{passCoefficients, passSigns}
 use Rattle.tile.specs.Tile.{nextPass, upgraded}
-use Rattle.tarjimp.specs.Calls.{tileOf}
+use Rattle.tarjimp.specs.Calls.{missingNumbers, tileOf}
 use Rattle.tarjimp.proofs.tarjimp_tile_decode_upgrade.Statement.{statement}
 use Rattle.tarjimp.proofs.tarjimp_tile_decode_upgrade.Tie as tie
 
 returns : tie.Need-returns
 returns c =
-    let a = c .before .before .before .before .before .before .before .before .before .before .before .args in
-    let high : (rowsInDomain (a .prog-quants .now) && (rowInDomain (a .prog-quant .now) && rowInDomain (a .base-quant .now))) ≡ false = sym (c .before .in-domain .ensures) ∙ not-true _ (c .if1 .taken) in
-    record { number = simp high; tile = simp high }
+    let a = c .before .before .before .before .before .before .before .before .before .before .before .before .args in
+    let high : (rowsInDomain (a .prog-quants .now) && (rowInDomain (a .prog-quant .now) && rowInDomain (a .base-quant .now))) ≡ false = sym (c .before .before .in-domain .ensures) ∙ not-true _ (c .before .if1 .taken) in
+    record { number = simp high; tile = simp high; missing = simp high }
 
 -- past the test all positions and quantizers are in the domain
 low : (c : tie.Else1) → (rowsInDomain (c .before .before .before .before .before .before .before .before .before .before .before .args .prog-quants .now) && (rowInDomain (c .before .before .before .before .before .before .before .before .before .before .before .args .prog-quant .now) && rowInDomain (c .before .before .before .before .before .before .before .before .before .before .before .args .base-quant .now))) ≡ true
@@ -38,9 +38,13 @@ upgraded-tile cs₀ ss₀ ps₀ quants e n₀ q₀ q srlData rawData rows cs ss 
 
 returns-2 : tie.Need-returns-2
 returns-2 c =
-    let done = c .upgrade-in-place .ensures in
-    let low′ = low (c .before .before .before .before .before) in
-    record { number = simp low′; tile = simp low′ (upgraded-tile _ _ _ _ _ _ _ _ _ _ _ (done .coefficients) (done .sign) (done .positions) (done .pass)) }
+    let done = c .before .upgrade-in-place .ensures in
+    let low′ = low (c .before .before .before .before .before .before) in
+    record {
+      number = simp low′;
+      tile = simp low′ (upgraded-tile _ _ _ _ _ _ _ _ _ _ _ (done .coefficients) (done .sign) (done .positions) (done .pass));
+      missing = simp low′ (c .missing-numbers .ensures ∙ ap missingNumbers (done .missing));
+    }
 
 pub tarjimp-tile-decode-upgrade-spec : {M : Type 1} → statement M
-tarjimp-tile-decode-upgrade-spec = tie.close (tie.spec (λ c κs. search needs) returns upgrade-in-place-requires returns-2)
+tarjimp-tile-decode-upgrade-spec = tie.close (tie.spec (λ c κs. search needs) returns upgrade-in-place-requires (λ c κs. search needs) returns-2)
