@@ -183,7 +183,7 @@ fn show_answer(answer: progressive::Answer, values: &[i16], place: usize)
 }
 
 // The bits that were missing of both streams of a pass.
-fn both_missing(missing: progressive_decoder::MissingBits) {
+fn both_missing(missing: progressive::MissingBits) {
     text(b", bits missing: SRL ");
     decimal(missing.srl as u64);
     text(b", raw ");
@@ -191,7 +191,7 @@ fn both_missing(missing: progressive_decoder::MissingBits) {
 }
 
 // What a pass made of the value at a place.
-fn show_decoded_pass(done: progressive_decoder::PassDecoded, values: &[i16], place: usize)
+fn show_decoded_pass(done: progressive::PassDecoded, values: &[i16], place: usize)
     requires { ⌜ place < length (now values) ⌝ }
 {
     let answer = done.answer;
