@@ -1,7 +1,7 @@
 -- The bits that are read stand one after another: how many of them are missing, in closed form, and the same bits past the end.
 use mathlib.Core.Path.{_≡_, refl, sym, ap, ap₂, _∙_}
 use mathlib.Core.Bool.{Bool, true, false, cond}
-use mathlib.Core.List.{List, [], _∷_, _++_}
+use mathlib.Core.List.{List, [], _∷_, _++_, map}
 use Prim.Native.Nat.{ℕ, zero, suc, _+_, _-_, _*_, _≤_, _<_}
 use native.Mathlib.Nat.{add-zero, zero-add, suc-add}
 use native.Mathlib.Numerals.{add-one}
@@ -11,9 +11,47 @@ use borrow.Author.Tests.{leb-true, leb-false, lt-ltb, le-ltb, le-leb}
 use lib.Dec.{leb, ltb}
 use lib.ListN.{length}
 use Rattle.bits.specs.Bits.{bitOf, bitAt, zeros, zerosLength}
-use Rattle.bits.specs.Missing.{BitRead, readBit, readNum, readZeros, missingIn}
+use Rattle.bits.specs.Missing.{BitRead, readBit, readNum, readNumbers, readZeros, missingIn}
 use Rattle.bits.proofs.Ones.{zeros-le}
 use Rattle.bits.proofs.Past.{Alike, same, past, alike-on, bit-alike}
+
+-- ════ known streams, by `refl` ════
+
+-- a number of some bits, from a bit of a stream on
+record Sample : Type 0 where
+  stream : List ℕ
+  from : ℕ
+  width : ℕ
+  missing : ℕ
+
+-- the last bit of the last byte, which is there, and the one behind it; a byte and two bits; no bit; a stream of no bytes; a place past the end
+abbrev samples : List Sample
+samples =
+    record { stream = 1 ∷ []; from = 7; width = 1; missing = 0 }
+    ∷ record { stream = 1 ∷ []; from = 7; width = 2; missing = 1 }
+    ∷ record { stream = 255 ∷ 255 ∷ []; from = 8; width = 10; missing = 2 }
+    ∷ record { stream = 1 ∷ []; from = 8; width = 0; missing = 0 }
+    ∷ record { stream = []; from = 0; width = 15; missing = 15 }
+    ∷ record { stream = 255 ∷ 255 ∷ []; from = 75; width = 4; missing = 4 }
+    ∷ []
+
+samples-hold : map (λ s. missingIn (readNum (s .stream) (s .from) (s .width))) samples ≡ map (λ s. s .missing) samples
+unfolding missingIn readNum
+samples-hold = refl
+
+-- numbers of 5, 0 and 9 bits of one byte
+numbers-hold : missingIn (readNumbers (170 ∷ []) (5 ∷ 0 ∷ 9 ∷ []) 0) ≡ 6
+unfolding missingIn readNumbers readNum
+numbers-hold = refl
+
+-- zeros before a 1: the 1 is read too; and up to a limit past the end
+zeros-hold : map (λ l. missingIn (readZeros (1 ∷ []) 4 l)) (3 ∷ 9 ∷ []) ≡ 0 ∷ 0 ∷ []
+unfolding missingIn readZeros
+zeros-hold = refl
+
+zeros-past-end : map (λ l. missingIn (readZeros (2 ∷ []) 7 l)) (1 ∷ 9 ∷ []) ≡ 0 ∷ 8 ∷ []
+unfolding missingIn readZeros
+zeros-past-end = refl
 
 -- ════ counted ════
 
@@ -27,9 +65,9 @@ missing-append (x ∷ a) b = omega (arith, missing-append a b)
 pub missing-num : (s : List ℕ) (n w : ℕ) → missingIn (readNum s n w) ≡ w - (8 * length s - n)
 unfolding missingIn readNum
 missing-num s n zero = omega arith
-missing-num s n (suc w) = by (leb (8 * length s) n) refl (missing-num s (suc n) w)
+missing-num s n (suc w) = by (readBit s n .missing) refl (missing-num s (suc n) w)
   where
-    by : (b : Bool) → leb (8 * length s) n ≡ b → {m : ℕ} → m ≡ w - (8 * length s - suc n) → bitOf b + m ≡ suc w - (8 * length s - n)
+    by : (b : Bool) → readBit s n .missing ≡ b → {m : ℕ} → m ≡ w - (8 * length s - suc n) → bitOf b + m ≡ suc w - (8 * length s - n)
     by true e h = omega (arith, leb-true (8 * length s) n e)
     by false e h = omega (arith, leb-false (8 * length s) n e)
 

@@ -330,7 +330,7 @@ impl TileState {
                 missing: MissingBits { srl: 0, raw: 0 },
             };
         }
-        let next = self.upgraded(
+        let passed = self.upgraded(
             y_srl,
             y_raw,
             cb_srl,
@@ -340,11 +340,11 @@ impl TileState {
             prog_quants,
             quality,
         );
-        let tile = next.tile;
-        let missing = next.missing;
+        let next = passed.tile;
+        let missing = passed.missing;
         Upgraded {
             answer: answer::Answer::Accepted,
-            tile,
+            tile: next,
             missing,
         }
     }

@@ -23,7 +23,10 @@ cast-t9 c = record { fits = omega (arith, c .past-end2 .ensures, read (c .before
 
 returns : tie.Need-returns
 returns c =
-    ap₂ missingBits (c .before .before .past-end .ensures) (c .past-end2 .ensures ∙ ap (λ (n : ℕ). n - 8 * length (c .before .before .before .before .before .before .args .raw-data .now)) (read (c .before)))
+    let a = c .before .before .before .before .before .before .args in
+    let srl : c .before .before .past-end .result ≡ bitsRead (a .ends .srl .reader) - 8 * length (a .srl-data .now) = c .before .before .past-end .ensures in
+    let raw : c .past-end2 .result ≡ bitsRead (c .before .place .result) - 8 * length (a .raw-data .now) = c .past-end2 .ensures in
+    ap₂ missingBits srl (raw ∙ ap (λ (n : ℕ). n - 8 * length (a .raw-data .now)) (read (c .before)))
 
 pub missing-by-spec : {M : Type 1} → statement M
 missing-by-spec = tie.close (tie.spec (λ c κs. search needs) (λ c κs. search needs) past-end-requires-2 (λ c. search needs) cast-t9 returns)
