@@ -30,12 +30,12 @@
  *
  * MISSING BITS
  *
- * Past a stream's end every bit is 0, so a stream that is cut is read as well:
- * the picture is only less sharp. Each call that reads a stream says in missing
- * how many of the bits that it read came from past the end. 0: the stream had
- * all of them. A whole pass of tarjimp_encode_upgrade_pass, read from the same
- * signs and rows, misses none (proved); a writer that leaves out zeros at the
- * end of a stream may lack some and lose nothing.
+ * Past a stream's end every bit is 0, so a stream that is cut is not refused.
+ * Each call that reads a stream says in missing how many of the bits that it
+ * read came from past the end; 0 means that the stream had all of them. What
+ * tarjimp_encode_upgrade_pass writes misses none where it is read with the same
+ * signs and rows (proved). Some writers leave out zeros at the end of a stream:
+ * those count as missing too, though nothing is lost with them.
  *
  * WHAT MUST HOLD OF POINTERS
  *

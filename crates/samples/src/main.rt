@@ -369,8 +369,8 @@ fn show_zero_tile() {
     }
 }
 
-fn main() {
-    bench_samples();
+// SRL streams, written and read.
+fn show_srl() {
     show_written(&[1i16], 1);
     show_written(&[-1i16], 1);
     show_written(&[0i16], 1);
@@ -390,6 +390,10 @@ fn main() {
     show_read(b"\x80", 1, 15);
     show_zeros(&[0i16; bands::COEFFICIENTS_PER_COMPONENT]);
     show_zeros(&[0i16; 4097]);
+}
+
+// Passes over a component.
+fn show_passes() {
     show_pass([3; 10], [1; 10], 0, -8);
     show_pass(
         [0, 0, 0, 0, 0, 0, 0, 0, 0, 3],
@@ -402,6 +406,12 @@ fn main() {
     show_empty_pass(true);
     show_upgrade(7);
     show_upgrade(-7);
+}
+
+fn main() {
+    bench_samples();
+    show_srl();
+    show_passes();
     show_dequantized(5, -1);
     show_dequantized(5, 1);
     show_dequantized(5, -3);
