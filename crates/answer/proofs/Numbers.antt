@@ -1,13 +1,13 @@
 -- Laws of refusals and of an answer by its number. Assumes nothing.
 use mathlib.Core.Path.{_≡_, refl, ap, _∙_}
-use mathlib.Core.Bool.{Bool, true, false}
+use mathlib.Core.Bool.{Bool, true, false, cond}
 use mathlib.Core.List.{List}
-use Prim.Native.Nat.{ℕ, zero, suc, _<_}
+use Prim.Native.Nat.{ℕ, zero, suc, _≤_, _<_}
 use native.Mathlib.Omega.{arith}
 use lib.Dec.{ltb}
-use borrow.Author.Tests.{le-ltb, ltb-true}
+use borrow.Author.Tests.{le-ltb, ltb-true, ltb-false}
 use Rattle.answer.specs.declared.Answer.{Answer}
-use Rattle.answer.specs.Refusals.{unless, firstOf, noRoom, answered, unlessRefused, stored, numberOf}
+use Rattle.answer.specs.Refusals.{outputTooShort, unless, firstOf, noRoom, answered, unlessRefused, stored, numberOf}
 
 -- ════ which of them, 0 where there is none ════
 
@@ -33,6 +33,14 @@ first-none (suc n) f e = absurd (omega arith)
 -- n elements have room in an output of n
 pub room-for : (n : ℕ) → noRoom n n ≡ 0
 room-for n = simp (le-ltb n n (omega arith))
+
+-- an output that has room for n elements
+pub has-room : (room n : ℕ) → noRoom room n ≡ 0 → n ≤ room
+has-room room n = by (ltb room n) refl
+  where
+    by : (b : Bool) → ltb room n ≡ b → cond b outputTooShort 0 ≡ 0 → n ≤ room
+    by true e h = absurd (omega arith)
+    by false e h = ltb-false room n e
 
 -- ════ what follows from the number ════
 

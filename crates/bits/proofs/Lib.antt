@@ -9,3 +9,4 @@ pub mod Powers
 pub mod Puts
 pub mod Packed
 pub mod Holds
+pub mod Longer

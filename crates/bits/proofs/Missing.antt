@@ -11,7 +11,7 @@ use borrow.Author.Tests.{leb-true, leb-false, lt-ltb, le-ltb, le-leb}
 use lib.Dec.{leb, ltb}
 use lib.ListN.{length}
 use Rattle.bits.specs.Bits.{bitOf, bitAt, zeros, zerosLength}
-use Rattle.bits.specs.Missing.{BitRead, readBit, readNum, readNumbers, readZeros, missingIn}
+use Rattle.bits.specs.Missing.{BitRead, readBit, readNum, readNumbers, readZeros, missingIn, InStream}
 use Rattle.bits.proofs.Ones.{zeros-le}
 use Rattle.bits.proofs.Past.{Alike, same, past, alike-on, bit-alike}
 
@@ -70,6 +70,14 @@ missing-num s n (suc w) = by (readBit s n .missing) refl (missing-num s (suc n) 
     by : (b : Bool) → readBit s n .missing ≡ b → {m : ℕ} → m ≡ w - (8 * length s - suc n) → bitOf b + m ≡ suc w - (8 * length s - n)
     by true e h = omega (arith, leb-true (8 * length s) n e)
     by false e h = omega (arith, leb-false (8 * length s) n e)
+
+-- of the bits from bit n on up to bit m none is missing if and only if every one of them lies in the stream
+pub none-missing : (s : List ℕ) (n m : ℕ) {k : ℕ} → n ≤ m → k ≡ missingIn (readNum s n (m - n)) → (k ≡ 0 → InStream s n m) × (InStream s n m → k ≡ 0)
+none-missing s n m {k} h e = ((λ z i a b. omega (arith, z, e, missing-num s n (m - n))), λ f. by f (decLt n m))
+  where
+    by : InStream s n m → Dec (n < m) → k ≡ 0
+    by f (yes p) = omega (arith, e, missing-num s n (m - n), f (m - 1) (omega arith) (omega arith))
+    by f (no p) = omega (arith, e, missing-num s n (m - n))
 
 -- ════ one after another ════
 

@@ -23,11 +23,10 @@ use Rattle.bits.specs.Bits.{numbers}
 use Rattle.bits.specs.Written.{bitsOf, bitsOfAll, pack}
 use Rattle.bits.proofs.Holds.{Holds, holds-append, num-holds, pack-holds}
 use Rattle.bits.proofs.Puts.{length-bitsOf}
-use Rattle.srl_decoder.specs.Srl.{start, values}
-use Rattle.srl_encoder.specs.Finish.{streamBits}
+use Rattle.srl_decoder.specs.Srl.{start, values, readerAfter}
 use Rattle.srl.specs.Laws.{Legal, legal}
 use Rattle.answer.proofs.Numbers.{first-none}
-use Rattle.srl.proofs.Trip.{stream-values}
+use Rattle.srl.proofs.Trip.{ReadBack, stream-back}
 use Rattle.upgrade_steps.specs.Steps.{Step, Source, skipped, srl, raw, source, sourceOf, steps, stepOf, srlWidths, rawWidths}
 use Rattle.answer.specs.Refusals.{sliceTooShort, outOfDomain, magnitudeOutOfRange, unless, firstOf, longEnough}
 use Rattle.progressive_decoder.specs.Upgrade.{srlCoefficient, srlSign, adds, rawCoefficient, signThen, signsAfter, coefficientThen, coefficientsAfter, srlValues, rawNumbers, decodeCoefficients, decodeSigns}
@@ -128,14 +127,11 @@ all-legal (w ∷ ws) (v ∷ vs) l e = by (ltb (2 ^ w - 1) (natAbs v)) refl e (al
     by true q e ih = absurd (omega (arith, e))
     by false q e ih = legal {w = w} {v = v} (omega (arith, ltb-false (2 ^ w - 1) (natAbs v) q, pow-pos w)) (ih e)
 
--- the SRL stream of values that fit their widths is read back as these values
-pub read-values : (ws : List ℕ) (vs : List ℤ) → Legal ws vs → values (srlStream ws vs) ws start ≡ vs
-unfolding values
-read-values [] [] l = refl
-read-values ws (v ∷ vs) l =
-    let bits = streamBits 8 0 ws (v ∷ vs) in
-    let s = pack 0 0 bits ++ (0 ∷ []) in
-    stream-values l s (pack-holds bits s 0 0 0 (0 ∷ []) (omega arith) refl)
+-- the SRL stream of values that fit their widths is read back as these values, and no bit past its end is read
+pub read-values : (ws : List ℕ) (vs : List ℤ) → Legal ws vs → ReadBack (srlStream ws vs) ws start vs (8 * length (srlStream ws vs))
+unfolding values readerAfter
+read-values [] [] l = record { gives = refl; ends = omega arith }
+read-values ws (v ∷ vs) l = stream-back l (srlStream ws (v ∷ vs)) refl
 
 -- and so is a raw stream, from wherever the bits of its numbers stand
 pub read-numbers : {ws ms : List ℕ} → Small ws ms → (s : List ℕ) (n : ℕ) → Holds s n (bitsOfAll ws ms) → numbers s ws n ≡ ms
@@ -146,10 +142,14 @@ read-numbers (small {w = w} {m = m} {ws = ws} {ms = ms} l ls) s n h =
     ap₂ (λ (x : ℕ) (xs : List ℕ). x ∷ xs) (num-holds s n w m l (r .0))
     (read-numbers ls s (n + w) (subst (λ (k : ℕ). Holds s (n + k) (bitsOfAll ws ms)) (length-bitsOf w m) (r .1)))
 
+-- the SRL values of an accepted pass
+pub pass-values : (ts : List Step) (cs ps ss : List ℤ) → length ts ≤ length cs → length ts ≤ length ps → length ts ≤ length ss → passFault ts cs ps ss ≡ 0
+    → ReadBack (srlBytes ts cs ps ss) (srlWidths ts ss) start (srlDifferences ts cs ps ss) (8 * length (srlBytes ts cs ps ss))
+pass-values ts cs ps ss h j k e =
+    read-values (srlWidths ts ss) (srlDifferences ts cs ps ss) (all-legal (srlWidths ts ss) (srlDifferences ts cs ps ss) (sym (same-length ts cs ps ss h j k)) e)
+
 values-back : (ts : List Step) (cs ps ss : List ℤ) → Sent ts cs ps ss → srlValues ts (srlBytes ts cs ps ss) ss ≡ srlDifferences ts cs ps ss
-values-back ts cs ps ss h =
-    let same = sym (same-length ts cs ps ss (h .coefficients-long) (h .previous-long) (h .signs-long)) in
-    read-values (srlWidths ts ss) (srlDifferences ts cs ps ss) (all-legal (srlWidths ts ss) (srlDifferences ts cs ps ss) same (h .srl-fits))
+values-back ts cs ps ss h = pass-values ts cs ps ss (h .coefficients-long) (h .previous-long) (h .signs-long) (h .srl-fits) .gives
 
 numbers-back : (ts : List Step) (cs ps ss : List ℤ) → Sent ts cs ps ss → rawNumbers ts (rawBytes ts cs ps ss) ss ≡ rawDifferences ts cs ps ss
 numbers-back ts cs ps ss h =
@@ -221,14 +221,15 @@ module _ (ts : List Step) (cs ps ss : List ℤ) (h : Sent ts cs ps ss) (r : Rega
   signs-back = ap (signsAfter ts ss) (values-back ts cs ps ss h) ∙ all-signs r
 
 -- what an accepted call of the writer says of its arguments
-record Taken (cs ps ss : List ℤ) (prev curr : List ℕ) (e : Bool) : Type 0 where
+pub record Taken (cs ps ss : List ℤ) (prev curr : List ℕ) (e : Bool) : Type 0 where
   pub coefficients-long : longEnough cs ≡ true
   pub previous-long : longEnough ps ≡ true
   pub signs-long : longEnough ss ≡ true
   pub rows : (rowInDomain prev && rowInDomain curr) ≡ true
   pub no-fault : passFault (steps e prev curr) cs ps ss ≡ 0
 
-taken : (cs ps ss : List ℤ) (prev curr : List ℕ) (e : Bool) (srlOut rawOut : List ℕ) → encodePassRefusal cs ps prev curr ss e srlOut rawOut ≡ 0 → Taken cs ps ss prev curr e
+-- an accepted call passed every test
+pub taken : (cs ps ss : List ℤ) (prev curr : List ℕ) (e : Bool) (srlOut rawOut : List ℕ) → encodePassRefusal cs ps prev curr ss e srlOut rawOut ≡ 0 → Taken cs ps ss prev curr e
 taken cs ps ss prev curr e srlOut rawOut = by (longEnough cs && (longEnough ps && longEnough ss)) refl (rowInDomain prev && rowInDomain curr) refl
   where
     rest : ℕ
@@ -243,7 +244,8 @@ taken cs ps ss prev curr e srlOut rawOut = by (longEnough cs && (longEnough ps &
     by true la false lb k = absurd (omega (arith, k))
     by false la b lb k = absurd (omega (arith, k))
 
-long : {A : Type 0} (e : Bool) (prev curr : List ℕ) (l : List A) → longEnough l ≡ true → length (steps e prev curr) ≤ length l
+-- a slice that is long enough has an element for each place
+pub long : {A : Type 0} (e : Bool) (prev curr : List ℕ) (l : List A) → longEnough l ≡ true → length (steps e prev curr) ≤ length l
 long e prev curr l h = omega (arith, leb-true 4096 (length l) h, place-whole e (stepOf prev curr))
 
 calls-back : (cs ps ss : List ℤ) (prev curr : List ℕ) (e : Bool) (srlOut rawOut : List ℕ)

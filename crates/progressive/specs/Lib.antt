@@ -2,3 +2,4 @@
 pub mod Laws
 pub mod Refused
 pub mod OwnCuts
+pub mod Missing

@@ -7,7 +7,7 @@ use lib.IntN.{ℤ}
 use lib.ListN.{length}
 use Rattle.answer.specs.Refusals.{numberOf}
 use Rattle.upgrade_steps.specs.Steps.{steps}
-use Rattle.progressive_decoder.specs.Upgrade.{decodePassRefusal, decodePassAnswer, decodeCoefficients, decodeSigns}
+use Rattle.progressive_decoder.specs.Upgrade.{missingBits, decodePassRefusal, decodePassAnswer, decodeCoefficients, decodeSigns, decodeMissing}
 use Rattle.progressive_encoder.specs.Encode.{srlBytes, rawBytes, encodePassRefusal, encodePassAnswer, encodeSrlOut, encodeRawOut, writtenNumber, srlCount, rawCount}
 use Rattle.dequantizer.specs.Dequantize.{dequantizeRefusal, dequantizeAnswer, dequantizeOut}
 
@@ -15,7 +15,7 @@ use Rattle.dequantizer.specs.Dequantize.{dequantizeRefusal, dequantizeAnswer, d
 pub record PassRefusals : Type 0 where
   pub decode-number : (prev curr : List ℕ) (cs ss : List ℤ) → numberOf (decodePassAnswer prev curr cs ss) ≡ decodePassRefusal prev curr cs ss
   pub decode-kept : (srlData rawData prev curr : List ℕ) (e : Bool) (cs ss : List ℤ) (k : ℕ) → decodePassRefusal prev curr cs ss ≡ suc k
-      → (decodeCoefficients srlData rawData prev curr e cs ss ≡ cs) × (decodeSigns srlData prev curr e cs ss ≡ ss)
+      → (decodeCoefficients srlData rawData prev curr e cs ss ≡ cs) × (decodeSigns srlData prev curr e cs ss ≡ ss) × (decodeMissing srlData rawData prev curr e cs ss ≡ missingBits 0 0)
   pub encode-number : (cs ps : List ℤ) (prev curr : List ℕ) (ss : List ℤ) (e : Bool) (srlOut rawOut : List ℕ)
       → writtenNumber (encodePassAnswer cs ps prev curr ss e srlOut rawOut) ≡ encodePassRefusal cs ps prev curr ss e srlOut rawOut
   pub encode-kept : (cs ps : List ℤ) (prev curr : List ℕ) (ss : List ℤ) (e : Bool) (srlOut rawOut : List ℕ) (k : ℕ)

@@ -6,8 +6,11 @@
 ghost use Rattle.progressive.specs.Laws.{PassRoundTrip};
 ghost use Rattle.progressive.specs.Refused.{PassRefusals};
 ghost use Rattle.progressive.specs.OwnCuts.{OwnCutsSent};
+ghost use Rattle.progressive.specs.Missing.{PassMissingBits};
 pub use answer::Answer;
 pub use dequantizer::dequantize_component_ccq;
+pub use progressive_decoder::MissingBits;
+pub use progressive_decoder::PassDecoded;
 pub use progressive_decoder::decode_upgrade_pass;
 pub use progressive_encoder::Written;
 pub use progressive_encoder::encode_upgrade_pass;
@@ -25,4 +28,10 @@ pub fn refusals()
 // Where a pass goes on from the coefficients' own cut at the previous positions, every value fits its width: the writer never refuses by 5.
 pub fn own_cuts_sent()
     ensures { λ _. ⌜ OwnCutsSent ⌝ }
+{}
+
+// A pass that the writer wrote misses no bit of either stream. A count is 0 if and only if every bit that was read lies in the stream; zero
+// bytes behind both streams change nothing but the counts, which go down by 8 for each.
+pub fn missing_bits()
+    ensures { λ _. ⌜ PassMissingBits ⌝ }
 {}

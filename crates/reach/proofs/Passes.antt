@@ -245,7 +245,7 @@ pass-whole {p} {q} {bs} {cs} {ss} l f g =
     let r = walk-whole l f g in
     let ws = srlWidths ts ss in
     let us = rawWidths ts ss in
-    let v : srlValues ts (srlStream ws (r .vs)) ss ≡ r .vs = read-values ws (r .vs) (r .legals) in
+    let v : srlValues ts (srlStream ws (r .vs)) ss ≡ r .vs = read-values ws (r .vs) (r .legals) .gives in
     let m : rawNumbers ts (rawStream us (r .ms)) ss ≡ r .ms = read-raw (r .smalls) in
     record {
       srlData = srlStream ws (r .vs);

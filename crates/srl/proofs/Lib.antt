@@ -5,3 +5,4 @@ pub mod Magnitudes
 pub mod Resumed
 pub mod Trip
 pub mod Back
+pub mod Missed

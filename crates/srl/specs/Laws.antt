@@ -6,10 +6,10 @@ use Prim.Native.Nat.{ℕ, suc, _^_, _<_}
 use lib.IntN.{ℤ, pos, natAbs}
 use lib.ListN.{length, replicate}
 use Rattle.srl_decoder.specs.Srl.{Reader, values}
-use Rattle.srl_decoder.specs.Decode.{startState, stateAfter, stateOk, decodeRefusal, decodeAnswer, decodeOut, decodedNumber, decodedCount, decodedState}
+use Rattle.srl_decoder.specs.Decode.{startState, stateAfter, missingFrom, stateOk, decodeRefusal, decodeAnswer, decodeOut, decodedNumber, decodedCount, decodedState, decodedMissing}
 use Rattle.srl_encoder.specs.Encode.{freshWriter, writerOk, callBytes, callAfter, encodeRefusal, encodeAnswer, encodeOut, encodedNumber, encodedCount, encodedState}
 use Rattle.srl_encoder.specs.Finish.{finishBytes, finishRefusal, finishAnswer, finishOut, finishedNumber, finishedCount, finishedState}
-use Rattle.srl_held.specs.Held.{outcome, outcomeNumber, outcomeCount}
+use Rattle.srl_held.specs.Held.{outcome, outcomeNumber, outcomeCount, outcomeMissing}
 use Rattle.srl_held.specs.Stream.{streamBytes, streamRefusal, streamAnswer, streamOut}
 use Rattle.srl_decoder.specs.declared.SrlState.{SrlState}
 use Rattle.srl_decoder.specs.declared.Decoded.{Decoded}
@@ -101,13 +101,13 @@ pub record EncoderResumes : Type 0 where
 -- ════ answers: number, count and state of each case, and what is lent ════
 
 -- "a refusal gives its number, zero lengths and counts, and the state handed in, and alters no lent element"; an answer that is none has
--- the count and the state of the definitions
+-- the counts and the state of the definitions
 pub record Refusals : Type 0 where
   pub decode-number : (s : List ℕ) (st : SrlState) (room n w : ℕ) → decodedNumber (decodeAnswer s st room n w) ≡ decodeRefusal s st room n w
   pub decode-kept : (s : List ℕ) (st : SrlState) (out : List ℤ) (n w k : ℕ) → decodeRefusal s st (length out) n w ≡ suc k
-      → (decodedCount (decodeAnswer s st (length out) n w) ≡ 0) × (decodedState (decodeAnswer s st (length out) n w) ≡ st) × (decodeOut s st out n w ≡ out)
+      → (decodedCount (decodeAnswer s st (length out) n w) ≡ 0) × (decodedState (decodeAnswer s st (length out) n w) ≡ st) × (decodedMissing (decodeAnswer s st (length out) n w) ≡ 0) × (decodeOut s st out n w ≡ out)
   pub decode-done : (s : List ℕ) (st : SrlState) (room n w : ℕ) → decodeRefusal s st room n w ≡ 0
-      → (decodedCount (decodeAnswer s st room n w) ≡ n) × (decodedState (decodeAnswer s st room n w) ≡ stateAfter s st n w)
+      → (decodedCount (decodeAnswer s st room n w) ≡ n) × (decodedState (decodeAnswer s st room n w) ≡ stateAfter s st n w) × (decodedMissing (decodeAnswer s st room n w) ≡ missingFrom s st n w)
   pub encode-number : (st : SrlWriter) (vs : List ℤ) (room w : ℕ) → encodedNumber (encodeAnswer st vs room w) ≡ encodeRefusal st vs room w
   pub encode-kept : (st : SrlWriter) (vs : List ℤ) (out : List ℕ) (w k : ℕ) → encodeRefusal st vs (length out) w ≡ suc k
       → (encodedCount (encodeAnswer st vs (length out) w) ≡ 0) × (encodedState (encodeAnswer st vs (length out) w) ≡ st) × (encodeOut st vs out w ≡ out)
@@ -123,6 +123,7 @@ pub record Refusals : Type 0 where
 pub record HeldRefusals : Type 0 where
   pub held-number : (r : Decoded) → outcomeNumber (outcome r) ≡ decodedNumber r
   pub held-count : (r : Decoded) → outcomeCount (outcome r) ≡ decodedCount r
+  pub held-missing : (r : Decoded) → outcomeMissing (outcome r) ≡ decodedMissing r
   pub stream-number : (vs : List ℤ) (room w : ℕ) → finishedNumber (streamAnswer vs room w) ≡ streamRefusal vs room w
   pub stream-kept : (vs : List ℤ) (out : List ℕ) (w k : ℕ) → streamRefusal vs (length out) w ≡ suc k
       → (finishedCount (streamAnswer vs (length out) w) ≡ 0) × (finishedState (streamAnswer vs (length out) w) ≡ freshWriter ∷ []) × (streamOut vs out w ≡ out)

@@ -1,2 +1,3 @@
 -- What the contracts of `srl` cite.
 pub mod Laws
+pub mod Missing

@@ -2,6 +2,7 @@
 // proved by itself, and so is the decoder that holds its stream; here they are handed on, and here are the laws of both coders.
 
 ghost use Rattle.srl.specs.Laws.{Refusals, HeldRefusals, DecodedMagnitudes, RoundTrip, DecoderResumes, EncoderResumes};
+ghost use Rattle.srl.specs.Missing.{SrlMissingBits};
 pub use srl_decoder::Decoded;
 pub use srl_decoder::SrlState;
 pub use srl_decoder::decode;
@@ -21,8 +22,8 @@ pub use srl_rules::MAX_KP;
 
 // ---- laws: each is what its function ensures
 
-// A refused call gives the refusal's number, no count and the state handed in, and leaves the output as it was; an accepted one gives
-// the count and the state of the definitions.
+// A refused call gives the refusal's number, no counts and the state handed in, and leaves the output as it was; an accepted one gives
+// the counts and the state of the definitions.
 pub fn refusals()
     ensures { λ _. ⌜ Refusals ⌝ }
 {}
@@ -50,4 +51,10 @@ pub fn decoder_resumes()
 // A state that `encode` hands back with bytes is one that it accepts.
 pub fn encoder_resumes()
     ensures { λ _. ⌜ EncoderResumes ⌝ }
+{}
+
+// A count of missing bits is that of the bits read past the end: 0 if and only if every bit that was read lies in the stream. What
+// `encode` and `finish` wrote misses nothing; zero bytes behind a stream change no value, and once it is long enough nothing is missing.
+pub fn missing_bits()
+    ensures { λ _. ⌜ SrlMissingBits ⌝ }
 {}

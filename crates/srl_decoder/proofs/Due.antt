@@ -39,6 +39,10 @@ dueFrom s n r = cond (due (r .run)) true (dueAmong s (past s 0 (r .read) (r .kp)
 abbrev pub from : List ℕ → ℕ → List ℕ → Reader → List ℤ
 from s w ws r = value s w (r .read) (r .run) ∷ values s ws (past s w (r .read) (r .kp) (r .run) (r .pending))
 
+-- the reader after them
+abbrev pub afterFrom : List ℕ → ℕ → List ℕ → Reader → Reader
+afterFrom s w ws r = readerAfter s ws (past s w (r .read) (r .kp) (r .run) (r .pending))
+
 -- a code word leaves a run or a nonzero value
 pub code-ready : (s : List ℕ) (p kp : ℕ) → readied s (codeWord s p kp) ≡ codeWord s p kp
 code-ready s p kp = by (bitAt s p)

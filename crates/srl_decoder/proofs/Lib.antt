@@ -6,4 +6,5 @@ pub mod States
 pub mod Chains
 pub mod Missing
 pub mod Most
+pub mod Longer
 pub mod Filled

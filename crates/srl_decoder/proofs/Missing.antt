@@ -7,9 +7,9 @@ use native.Mathlib.Numerals.{add-one}
 use native.Mathlib.Omega.{arith}
 use lib.ListN.{length, replicate}
 use Rattle.bits.specs.Bits.{bitAt, num, zeros, zerosLength}
-use Rattle.bits.specs.Missing.{BitRead, readBit, readNum, readZeros, missingIn}
+use Rattle.bits.specs.Missing.{BitRead, readBit, readNum, readZeros, missingIn, InStream}
 use Rattle.bits.proofs.Past.{Alike, alike-on, bit-alike, zeros-alike}
-use Rattle.bits.proofs.Missing.{missing-num, num-join, zeros-read, read-alike, num-read-alike, zeros-read-alike}
+use Rattle.bits.proofs.Missing.{missing-append, missing-num, none-missing, num-join, zeros-read, read-alike, num-read-alike, zeros-read-alike}
 use Rattle.srl_decoder.specs.Srl.{Reader, reader, mostZeros, behind, codeWord, ready, past, readied, nextReader, readerAfter}
 use Rattle.srl_decoder.specs.Missing.{readNonzero, readCodeWord, readReady, readValue, readNext, readValues, valuesMissing}
 use Rattle.srl_decoder.specs.Decode.{dueAmong}
@@ -79,6 +79,19 @@ module _ (s : List ℕ) where
   -- from a place in the stream: how far past the end the reader has come
   pub missing-past : (ws : List ℕ) (r : Reader) → r .read ≤ 8 * length s → valuesMissing s ws r ≡ readerAfter s ws r .read - 8 * length s
   missing-past ws r h = omega (arith, values-missing ws r, after-mono s ws r)
+
+  -- none is missing if and only if every bit between the two places lies in the stream
+  pub values-ended : (ws : List ℕ) (r : Reader)
+      → (valuesMissing s ws r ≡ 0 → InStream s (r .read) (readerAfter s ws r .read)) × (InStream s (r .read) (readerAfter s ws r .read) → valuesMissing s ws r ≡ 0)
+  values-ended ws r = none-missing s (r .read) (readerAfter s ws r .read) (after-mono s ws r) (ap missingIn (values-read ws r))
+
+  -- some values and then others: both together
+  pub missing-in-a-row : (us ws : List ℕ) (r : Reader) → valuesMissing s (us ++ ws) r ≡ valuesMissing s us r + valuesMissing s ws (readerAfter s us r)
+  unfolding readValues readerAfter missingIn
+  missing-in-a-row [] ws r = omega arith
+  missing-in-a-row (u ∷ us) ws r =
+      let q = nextReader s u r in
+      omega (arith, missing-append (readNext s u r) (readValues s (us ++ ws) q), missing-append (readNext s u r) (readValues s us q), missing-in-a-row us ws q)
 
   -- ════ the same bits ════
 

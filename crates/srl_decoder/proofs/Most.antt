@@ -11,12 +11,14 @@ use lib.ListN.{length, replicate}
 use lib.Pow.{suc-ones, pow-pos, pow-mono}
 use Rattle.bits.specs.Bits.{bitAt, num}
 use Rattle.bits.proofs.Numbers.{bit-past}
-use Rattle.srl_decoder.specs.Srl.{Reader, reader, mostZeros, behind, past, readerAfter}
-use Rattle.srl_decoder.specs.Missing.{Narrow, none, narrow}
+use Rattle.srl_decoder.specs.Srl.{Reader, reader, mostZeros, behind, readerAfter}
+use Rattle.srl_decoder.specs.Missing.{valuesMissing, Narrow, none, narrow}
 use Rattle.srl_decoder.specs.Inner.{below}
 use Rattle.srl_rules.proofs.Widths.{both}
 use Rattle.srl_decoder.proofs.Codes.{code-zero, code-one, ready-pending, length-le}
 use Rattle.srl_decoder.proofs.Chains.{below-next}
+use Rattle.srl_decoder.proofs.Due.{afterFrom}
+use Rattle.srl_decoder.proofs.Missing.{values-missing}
 
 -- widths that are all the same
 pub narrow-replicate : (n w : ℕ) → w ≤ 15 → Narrow (replicate n w)
@@ -26,10 +28,6 @@ narrow-replicate (suc n) w h = narrow h (narrow-replicate n w h)
 -- a nonzero value takes at most 32,767 bits
 behind-most : (s : List ℕ) (n w : ℕ) → w ≤ 15 → behind s n w ≤ n + 32767
 behind-most s n w h = omega (arith, length-le s (n + 1) (mostZeros w), pow-mono {i = w} {j = 15} h)
-
--- the reader after a value from a ready reader, and some more
-abbrev afterFrom : List ℕ → ℕ → List ℕ → Reader → Reader
-afterFrom s w ws r = readerAfter s ws (past s w (r .read) (r .kp) (r .run) (r .pending))
 
 -- a code word 0 and one of its zeros
 zero-after : (s ws : List ℕ) (w n kp : ℕ) → bitAt s n ≡ false → readerAfter s (w ∷ ws) (reader n kp 0 false) .read ≡ readerAfter s ws (reader (n + 1) (min (kp + 4) 80) (2 ^ (kp / 8) - 1) false) .read
@@ -131,6 +129,12 @@ most-from s ws r M a k h end =
 -- from a place in the stream a reader comes at most 32,777 bits past the end, and one for each value
 pub most-read : (s ws : List ℕ) (r : Reader) → Narrow ws → r .kp ≤ 80 → r .read ≤ 8 * length s → readerAfter s ws r .read ≤ 8 * length s + length ws + 32777
 most-read s ws r a k h = most-from s ws r (8 * length s) a k h (omega arith)
+
+-- from any place at most so many are missing
+pub missing-most : (s ws : List ℕ) (r : Reader) → Narrow ws → r .kp ≤ 80 → valuesMissing s ws r ≤ length ws + 32777
+missing-most s ws r a k =
+    let M : ℕ = r .read + (8 * length s - r .read) in
+    omega (arith, values-missing s ws r, most-from s ws r M a k (omega arith) (omega arith))
 
 -- ════ at most 4,032 values, those of a pass ════
 

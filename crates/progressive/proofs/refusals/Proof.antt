@@ -5,7 +5,7 @@ use lib.ListN.{length}
 use Rattle.answer.proofs.Numbers.{number-answered, kept}
 use Rattle.answer.specs.Refusals.{stored}
 use Rattle.upgrade_steps.specs.Steps.{steps}
-use Rattle.progressive_decoder.specs.Upgrade.{upgradedCoefficients, upgradedSigns, decodePassRefusal}
+use Rattle.progressive_decoder.specs.Upgrade.{upgradedCoefficients, upgradedSigns, missingBits, passMissing, decodePassRefusal}
 use Rattle.progressive_encoder.specs.Encode.{srlBytes, rawBytes, encodePassRefusal, written, writtenNumber, srlCount, rawCount}
 use Rattle.dequantizer.specs.Dequantize.{dequantizedAll, quantizers, dequantizeRefusal}
 use Rattle.progressive.proofs.refusals.Statement.{statement}
@@ -19,8 +19,11 @@ written-number (suc k) n m = refl
 returns : tie.Need-returns
 returns c = record {
   decode-number = λ prev curr cs ss. number-answered (decodePassRefusal prev curr cs ss);
-  decode-kept = λ srlData rawData prev curr e cs ss k n.
-      (kept (upgradedCoefficients (steps e prev curr) srlData rawData cs ss) cs n, kept (upgradedSigns (steps e prev curr) srlData ss) ss n);
+  decode-kept = λ srlData rawData prev curr e cs ss k n. (
+    kept (upgradedCoefficients (steps e prev curr) srlData rawData cs ss) cs n,
+    kept (upgradedSigns (steps e prev curr) srlData ss) ss n,
+    kept (passMissing (steps e prev curr) srlData rawData ss) (missingBits 0 0) n,
+  );
   encode-number = λ cs ps prev curr ss e srlOut rawOut. written-number (encodePassRefusal cs ps prev curr ss e srlOut rawOut) _ _;
   encode-kept = λ cs ps prev curr ss e srlOut rawOut k n.
       let a = srlBytes (steps e prev curr) cs ps ss in let b = rawBytes (steps e prev curr) cs ps ss in (
