@@ -25,8 +25,17 @@
  *
  * Several reasons: the first in the order 8, 1, 2, 3, 4, 5 or 6 by the earlier
  * value, 7. With a refusal no buffer, state or field is altered, and counts of
- * bytes are 0. The bytes of a stream never cause one; past a stream's end
- * every bit is 0. tarjimp_message() below has the numbers in words.
+ * bytes and of missing bits are 0. The bytes of a stream never cause one.
+ * tarjimp_message() below has the numbers in words.
+ *
+ * MISSING BITS
+ *
+ * Past a stream's end every bit is 0, so a stream that is cut is not refused.
+ * Each call that reads a stream says in missing how many of the bits that it
+ * read came from past the end; 0 means that the stream had all of them. What
+ * tarjimp_encode_upgrade_pass writes misses none where it is read with the same
+ * signs and rows (proved). Some writers leave out zeros at the end of a stream:
+ * those count as missing too, though nothing is lost with them.
  *
  * WHAT MUST HOLD OF POINTERS
  *
@@ -86,12 +95,15 @@ enum tarjimp_refusal {
  * Stores the next num_values values at the front of out, each 0 or of a
  * magnitude of num_bits bits.
  * state: byte, bit, kp, zero_run_remaining, nonzero_pending (0 or 1).
+ * *missing is the count of bits that this call read from past the end of data;
+ * zeros of a run that an earlier call has read take no bit.
  * Refusals: 8, 4, 7.
  */
 uint8_t tarjimp_srl_decode(const uint8_t *data, size_t data_len,
                            uint64_t state[5],
                            int16_t *out, size_t out_len,
-                           size_t num_values, uint8_t num_bits);
+                           size_t num_values, uint8_t num_bits,
+                           uint64_t missing[1]);
 
 /*
  * Writes values: the whole bytes that this call completes, from the start of
@@ -114,14 +126,16 @@ uint8_t tarjimp_srl_finish(const uint64_t state[4],
 /*
  * Reads an upgrade pass over one component, in place: each band goes from its
  * position in prev to that in curr; a band whose position does not fall is
- * left alone. Refusals: 1, 2.
+ * left alone. missing has the counts of bits that were read from past the end
+ * of the SRL stream and of the raw stream. Refusals: 1, 2.
  */
 uint8_t tarjimp_decode_upgrade_pass(const uint8_t *srl, size_t srl_len,
                                     const uint8_t *raw, size_t raw_len,
                                     const uint8_t prev[10], const uint8_t curr[10],
                                     bool use_reduce_extrapolate,
                                     int16_t *coefficients, size_t coefficients_len,
-                                    int8_t *sign, size_t sign_len);
+                                    int8_t *sign, size_t sign_len,
+                                    uint32_t missing[2]);
 
 /*
  * Writes an upgrade pass over one component: from prev_coefficients, with
@@ -158,7 +172,9 @@ void tarjimp_ycbcr_to_rgb(int16_t y, int16_t cb, int16_t cr, uint8_t rgb[3]);
 /*
  * An upgrade pass over a tile, in place, from its positions in prog_quant to
  * prog_quants (three rows of ten): coefficients and signs, then prog_quant
- * and *quality are set and *pass rises by 1, up to 65535. Refusal: 2.
+ * and *quality are set and *pass rises by 1, up to 65535. missing has the
+ * counts of bits that were read from past the end of the three SRL streams and
+ * of the three raw streams, each as one sum. Refusal: 2.
  */
 uint8_t tarjimp_tile_decode_upgrade(int16_t coefficients[12288], int8_t sign[12288],
                                     uint8_t prog_quant[30], const uint8_t base_quant[30],
@@ -170,7 +186,8 @@ uint8_t tarjimp_tile_decode_upgrade(int16_t coefficients[12288], int8_t sign[122
                                     const uint8_t *cb_srl, size_t cb_srl_len,
                                     const uint8_t *cb_raw, size_t cb_raw_len,
                                     const uint8_t *cr_srl, size_t cr_srl_len,
-                                    const uint8_t *cr_raw, size_t cr_raw_len);
+                                    const uint8_t *cr_raw, size_t cr_raw_len,
+                                    uint32_t missing[2]);
 
 /*
  * The pixels of a tile, row by row, four bytes each: red, green, blue, 255.

@@ -35,14 +35,15 @@ static void srl_stream(void)
     uint64_t reader[5] = TARJIMP_SRL_DECODE_START;
     uint8_t stream[16];
     int16_t back[6];
+    uint64_t missing;
     size_t n, end;
 
     accepted("encode", tarjimp_srl_encode(values, 6, writer, stream, sizeof stream, 2, &n));
     accepted("finish", tarjimp_srl_finish(writer, stream + n, sizeof stream - n, &end));
     print_bytes("SRL stream of 0 0 3 -1 0 2, width 2", stream, n + end);
 
-    accepted("decode", tarjimp_srl_decode(stream, n + end, reader, back, 6, 4, 2));
-    accepted("decode", tarjimp_srl_decode(stream, n + end, reader, back + 4, 2, 2, 2));
+    accepted("decode", tarjimp_srl_decode(stream, n + end, reader, back, 6, 4, 2, &missing));
+    accepted("decode", tarjimp_srl_decode(stream, n + end, reader, back + 4, 2, 2, 2, &missing));
     printf("read back in two calls:");
     for (size_t i = 0; i < 6; i++)
         printf(" %d", back[i]);
@@ -69,13 +70,26 @@ static void print_pixel(const char *name, const struct tile *tile)
            tile->coefficients[0], tile->sign[0], pixels[0], pixels[1], pixels[2]);
 }
 
+/* Reads a pass over the luma component; the other two keep their positions, and need no streams. */
+static void upgrade(const char *name, struct tile *tile, const uint8_t rows[30], const uint8_t *srl, size_t srl_len,
+                    const uint8_t *raw, size_t raw_len)
+{
+    uint32_t missing[2];
+
+    accepted("upgrade", tarjimp_tile_decode_upgrade(tile->coefficients, tile->sign, tile->prog_quant, tile->base_quant,
+                                                    true, &tile->pass, &tile->quality, rows, 100, srl, srl_len, raw,
+                                                    raw_len, NULL, 0, NULL, 0, NULL, 0, NULL, 0, missing));
+    print_pixel(name, tile);
+    printf("bits missing: %" PRIu32 " of SRL, %" PRIu32 " raw\n", missing[0], missing[1]);
+}
+
 /*
- * A luma coefficient of -21 that the coarse tile has as 0: the pass brings it, and its sign. The writer makes the
- * two streams of the luma component; those of the other two are empty, which a reader takes as zeros.
+ * A luma coefficient of -21 that the coarse tile has as 0: the pass brings it, and its sign. Then the same pass once
+ * more, of whose SRL stream two bytes arrive: the bits behind them are read as zeros, and counted.
  */
 static void sharpen(void)
 {
-    static struct tile tile;
+    static struct tile tile, cut;
     static int16_t target[4096];
     static uint8_t srl[8192], raw[8192];
     uint8_t rows[30];
@@ -83,18 +97,18 @@ static void sharpen(void)
 
     memset(tile.prog_quant, 5, sizeof tile.prog_quant);
     memset(tile.base_quant, 6, sizeof tile.base_quant);
-    memset(rows, 0, sizeof rows);
+    memset(rows, 5, sizeof rows);
+    memset(rows, 0, 10);
     tile.pass = 1;
+    cut = tile;
     print_pixel("before", &tile);
 
     target[0] = -21;
     accepted("write", tarjimp_encode_upgrade_pass(target, 4096, tile.coefficients, 4096, tile.prog_quant, rows,
                                                   tile.sign, 4096, true, srl, sizeof srl, raw, sizeof raw, written));
     printf("the pass: %zu bytes of SRL, %zu bytes of raw bits\n", written[0], written[1]);
-    accepted("upgrade", tarjimp_tile_decode_upgrade(tile.coefficients, tile.sign, tile.prog_quant, tile.base_quant,
-                                                    true, &tile.pass, &tile.quality, rows, 100, srl, written[0], raw,
-                                                    written[1], NULL, 0, NULL, 0, NULL, 0, NULL, 0));
-    print_pixel("after", &tile);
+    upgrade("after", &tile, rows, srl, written[0], raw, written[1]);
+    upgrade("after a cut pass", &cut, rows, srl, 2, raw, written[1]);
 }
 
 static void print_refusal(const char *what, uint8_t number)
@@ -115,6 +129,7 @@ static void refusals(void)
     const uint8_t rows[30] = { 0 };
     uint64_t writer[4] = TARJIMP_SRL_ENCODE_START;
     uint64_t impossible[5] = { 0, 0, 300, 0, 0 };
+    uint64_t missing;
     uint8_t out[4];
     size_t n;
 
@@ -127,8 +142,9 @@ static void refusals(void)
     print_refusal("4 at width 2", tarjimp_srl_encode(values, 2, writer, out, sizeof out, 2, &n));
     print_refusal("4097 zeros", tarjimp_srl_encode(zeros, 4097, writer, out, sizeof out, 1, &n));
     print_refusal("no room for the end", tarjimp_srl_finish(writer, out, 0, &n));
-    print_refusal("kp 300", tarjimp_srl_decode(out, 0, impossible, component, 4096, 1, 1));
-    printf("after them: kp %" PRIu64 ", pending zeros %" PRIu64 ", %zu bytes written\n", writer[0], writer[1], n);
+    print_refusal("kp 300", tarjimp_srl_decode(out, 0, impossible, component, 4096, 1, 1, &missing));
+    printf("after them: kp %" PRIu64 ", pending zeros %" PRIu64 ", %zu bytes written, %" PRIu64 " bits missing\n",
+           writer[0], writer[1], n, missing);
 }
 
 int main(void)

@@ -22,6 +22,7 @@ unsafe extern "C" {
         out_len: usize,
         num_values: usize,
         num_bits: u8,
+        missing: *mut u64,
     ) -> u8;
 
     fn tarjimp_srl_encode(
@@ -53,6 +54,7 @@ unsafe extern "C" {
         coefficients_len: usize,
         sign: *mut i8,
         sign_len: usize,
+        missing: *mut u32,
     ) -> u8;
 
     fn tarjimp_encode_upgrade_pass(
@@ -110,6 +112,7 @@ unsafe extern "C" {
         cr_srl_len: usize,
         cr_raw: *const u8,
         cr_raw_len: usize,
+        missing: *mut u32,
     ) -> u8;
 
     fn tarjimp_tile_reconstruct_to_rgba(
@@ -128,9 +131,10 @@ pub fn srl_decode(
     out: &mut [i16],
     num_values: usize,
     num_bits: u8,
+    missing: &mut u64,
 ) -> u8 {
     // SAFETY: `data` and `out` come with their lengths, `state` has the five numbers that the function
-    // reads and writes, and what is written through is borrowed by this call alone.
+    // reads and writes, `missing` is one, and what is written through is borrowed by this call alone.
     unsafe {
         tarjimp_srl_decode(
             data.as_ptr(),
@@ -140,6 +144,7 @@ pub fn srl_decode(
             out.len(),
             num_values,
             num_bits,
+            missing,
         )
     }
 }
@@ -172,6 +177,7 @@ pub fn srl_finish(state: &[u64; 4], out: &mut [u8], written: &mut usize) -> u8 {
     unsafe { tarjimp_srl_finish(state.as_ptr(), out.as_mut_ptr(), out.len(), written) }
 }
 
+#[expect(clippy::too_many_arguments, reason = "as the C function has it")]
 pub fn decode_upgrade_pass(
     srl: &[u8],
     raw: &[u8],
@@ -180,9 +186,10 @@ pub fn decode_upgrade_pass(
     use_reduce_extrapolate: bool,
     coefficients: &mut [i16],
     sign: &mut [i8],
+    missing: &mut [u32; 2],
 ) -> u8 {
-    // SAFETY: the slices come with their lengths, `prev` and `curr` have ten numbers, and what is written
-    // through is borrowed by this call alone.
+    // SAFETY: the slices come with their lengths, `prev` and `curr` have ten numbers and `missing` two,
+    // and what is written through is borrowed by this call alone.
     unsafe {
         tarjimp_decode_upgrade_pass(
             srl.as_ptr(),
@@ -196,6 +203,7 @@ pub fn decode_upgrade_pass(
             coefficients.len(),
             sign.as_mut_ptr(),
             sign.len(),
+            missing.as_mut_ptr(),
         )
     }
 }
@@ -285,10 +293,11 @@ pub fn tile_decode_upgrade(
     quality: u8,
     [y_srl, cb_srl, cr_srl]: [&[u8]; 3],
     [y_raw, cb_raw, cr_raw]: [&[u8]; 3],
+    missing: &mut [u32; 2],
 ) -> u8 {
     // SAFETY: coefficients and signs are three times 4,096 that lie one after another, rows three times ten
-    // numbers, `pass` and `quality` one number each; the streams come with their lengths, and what is
-    // written through is borrowed by this call alone.
+    // numbers, `pass` and `quality` one number each, `missing` two; the streams come with their lengths, and
+    // what is written through is borrowed by this call alone.
     unsafe {
         tarjimp_tile_decode_upgrade(
             tile.coefficients.as_flattened_mut().as_mut_ptr(),
@@ -312,6 +321,7 @@ pub fn tile_decode_upgrade(
             cr_srl.len(),
             cr_raw.as_ptr(),
             cr_raw.len(),
+            missing.as_mut_ptr(),
         )
     }
 }

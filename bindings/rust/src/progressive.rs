@@ -35,8 +35,28 @@ const MOST_SRL_BYTES: usize = COEFFICIENTS_PER_COMPONENT * (12 + 32767) / 8 + 4;
 /// The room that an SRL stream gets at first. Few are longer.
 const USUAL_SRL_BYTES: usize = 8192;
 
+/// How many of the bits that a pass read came from past the end of its streams. Both are 0 where the streams
+/// had all of them.
+///
+/// What past the end is read as zeros need not be lost: a writer may leave out zeros at a stream's end.
+#[derive(Debug, Clone, Copy, Default, PartialEq, Eq)]
+pub struct MissingBits {
+    /// Of the SRL stream; for a tile, of all three.
+    pub srl: u32,
+    /// Of the raw stream; for a tile, of all three.
+    pub raw: u32,
+}
+
+impl MissingBits {
+    /// As the library has them.
+    fn of_numbers([srl, raw]: [u32; 2]) -> Self {
+        Self { srl, raw }
+    }
+}
+
 /// Reads an upgrade pass over one component, in place: the coefficients of each band go from its position
-/// in `prev_prog_quant` to that in `curr_prog_quant`.
+/// in `prev_prog_quant` to that in `curr_prog_quant`. [`decode_upgrade_pass_counted`] says also how many
+/// bits were missing.
 ///
 /// # Errors
 ///
@@ -51,6 +71,54 @@ pub fn decode_upgrade_pass(
     coefficients: &mut [i16],
     sign: &mut [i8],
 ) -> Result<(), SrlError> {
+    decode_upgrade_pass_counted(
+        srl_data,
+        raw_data,
+        prev_prog_quant,
+        curr_prog_quant,
+        use_reduce_extrapolate,
+        coefficients,
+        sign,
+    )
+    .map(|_| ())
+}
+
+/// As [`decode_upgrade_pass`], with the answer how many bits came from past the end of each stream.
+///
+/// # Errors
+///
+/// As [`decode_upgrade_pass`].
+///
+/// ```
+/// use tarjimp::ComponentCodecQuant;
+/// use tarjimp::progressive::{MissingBits, decode_upgrade_pass_counted, encode_upgrade_pass};
+///
+/// let prev = ComponentCodecQuant::of_bands([3; 10]);
+/// let curr = ComponentCodecQuant::of_bands([1; 10]);
+/// let (zeros, no_sign) = ([0; 4096], [0; 4096]);
+/// let mut target = zeros;
+/// target[100] = 6;
+/// let (srl, raw) = encode_upgrade_pass(&target, &zeros, &prev, &curr, &no_sign, true)?;
+///
+/// let read = |srl: &[u8], raw: &[u8]| {
+///     let (mut coefficients, mut sign) = (zeros, no_sign);
+///     decode_upgrade_pass_counted(srl, raw, &prev, &curr, true, &mut coefficients, &mut sign)
+/// };
+/// assert_eq!(read(&srl, &raw)?, MissingBits { srl: 0, raw: 0 });
+/// // Of the raw bits two bytes are lost, and the six bits that pad the last one were never read.
+/// assert_eq!(read(&srl, &raw[..raw.len() - 2])?, MissingBits { srl: 0, raw: 10 });
+/// # Ok::<(), tarjimp::Error>(())
+/// ```
+pub fn decode_upgrade_pass_counted(
+    srl_data: &[u8],
+    raw_data: &[u8],
+    prev_prog_quant: &ComponentCodecQuant,
+    curr_prog_quant: &ComponentCodecQuant,
+    use_reduce_extrapolate: bool,
+    coefficients: &mut [i16],
+    sign: &mut [i8],
+) -> Result<MissingBits, SrlError> {
+    let mut missing = [0; 2];
     let number = ffi::decode_upgrade_pass(
         srl_data,
         raw_data,
@@ -59,9 +127,10 @@ pub fn decode_upgrade_pass(
         use_reduce_extrapolate,
         coefficients,
         sign,
+        &mut missing,
     );
     match number {
-        0 => Ok(()),
+        0 => Ok(MissingBits::of_numbers(missing)),
         1 => Err(SrlError::SliceTooShort),
         2 => Err(SrlError::OutOfDomain),
         number => defect("tarjimp_decode_upgrade_pass", number),
@@ -295,6 +364,7 @@ impl TileState {
     }
 
     /// Reads an upgrade pass over the tile, from its positions to `prog_quants`.
+    /// [`decode_upgrade_counted`](Self::decode_upgrade_counted) says also how many bits were missing.
     ///
     /// # Errors
     ///
@@ -307,6 +377,37 @@ impl TileState {
         prog_quants: [ComponentCodecQuant; 3],
         quality: u8,
     ) -> Result<(), SrlError> {
+        self.decode_upgrade_counted(srl_data, raw_data, prog_quants, quality)
+            .map(|_| ())
+    }
+
+    /// As [`decode_upgrade`](Self::decode_upgrade), with the answer how many bits came from past the end of
+    /// the streams of all three components.
+    ///
+    /// # Errors
+    ///
+    /// As [`decode_upgrade`](Self::decode_upgrade).
+    ///
+    /// ```
+    /// use tarjimp::ComponentCodecQuant;
+    /// use tarjimp::progressive::{MissingBits, TileState};
+    ///
+    /// let rows = |number| [ComponentCodecQuant::of_bands([number; 10]); 3];
+    /// let mut tile = TileState::new();
+    /// tile.prog_quant = rows(15);
+    /// // No byte arrives: 20 bits of each SRL stream and 15 for each place of LL3 are read as zeros.
+    /// let missing = tile.decode_upgrade_counted([&[]; 3], [&[]; 3], rows(0), 100)?;
+    /// assert_eq!(missing, MissingBits { srl: 60, raw: 3 * 64 * 15 });
+    /// # Ok::<(), tarjimp::Error>(())
+    /// ```
+    pub fn decode_upgrade_counted(
+        &mut self,
+        srl_data: [&[u8]; 3],
+        raw_data: [&[u8]; 3],
+        prog_quants: [ComponentCodecQuant; 3],
+        quality: u8,
+    ) -> Result<MissingBits, SrlError> {
+        let mut missing = [0; 2];
         let mut prog_quant = self.prog_quant.map(|quant| quant.bands());
         let number = ffi::tile_decode_upgrade(
             ffi::Tile {
@@ -322,10 +423,11 @@ impl TileState {
             quality,
             srl_data,
             raw_data,
+            &mut missing,
         );
         self.prog_quant = prog_quant.map(ComponentCodecQuant::of_bands);
         match number {
-            0 => Ok(()),
+            0 => Ok(MissingBits::of_numbers(missing)),
             2 => Err(SrlError::OutOfDomain),
             number => defect("tarjimp_tile_decode_upgrade", number),
         }
@@ -505,6 +607,48 @@ mod tests {
                 refused,
                 Err(SrlError::MagnitudeOutOfRange { magnitude, max })
             );
+        }
+    }
+
+    #[test]
+    fn known_counts_of_missing_bits() {
+        for (use_reduce_extrapolate, raw) in [(false, 960), (true, 1215)] {
+            let read = |srl: &[u8], sign: i8| {
+                decode_upgrade_pass_counted(
+                    srl,
+                    &[],
+                    &all(15),
+                    &all(0),
+                    use_reduce_extrapolate,
+                    &mut [0; 4096],
+                    &mut [sign; 4096],
+                )
+            };
+            assert_eq!(read(&[], 0), Ok(MissingBits { srl: 20, raw }));
+            let most = MissingBits { srl: 32_790, raw };
+            assert_eq!(read(&[0x10, 0x33], 0), Ok(most));
+            let most = MissingBits {
+                srl: 0,
+                raw: 61_440,
+            };
+            assert_eq!(read(&[], 1), Ok(most));
+        }
+    }
+
+    /// Each component of a tile by itself, and all three.
+    #[test]
+    fn missing_bits_of_a_tile_are_sums() {
+        for moved in 0..8u32 {
+            let mut tile = TileState::new();
+            tile.prog_quant = [all(15); 3];
+            let rows = [0, 1, 2].map(|k| all(if moved >> k & 1 == 1 { 0 } else { 15 }));
+            let count = moved.count_ones();
+            let expected = MissingBits {
+                srl: 20 * count,
+                raw: 960 * count,
+            };
+            let missing = tile.decode_upgrade_counted([&[]; 3], [&[]; 3], rows, 1);
+            assert_eq!(missing, Ok(expected));
         }
     }
 

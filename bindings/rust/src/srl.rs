@@ -19,6 +19,7 @@ const ENCODER_START: [u64; 4] = [8, 0, 0, 0];
 pub struct SrlDecoder<'a> {
     data: &'a [u8],
     state: [u64; 5],
+    missing: u64,
 }
 
 impl<'a> SrlDecoder<'a> {
@@ -31,6 +32,7 @@ impl<'a> SrlDecoder<'a> {
         Ok(Self {
             data,
             state: DECODER_START,
+            missing: 0,
         })
     }
 
@@ -58,11 +60,35 @@ impl<'a> SrlDecoder<'a> {
             &mut values,
             num_values,
             num_bits,
+            &mut self.missing,
         ) {
             0 => Ok(values),
             4 => Err(SrlError::InvalidBitCount(num_bits)),
             number => defect("tarjimp_srl_decode", number),
         }
+    }
+
+    /// How many of the bits that the last call of [`decode`](Self::decode) read came from past the stream's
+    /// end. 0: the stream had all of them. It is 0 before the first call and after one that was refused.
+    ///
+    /// Zeros of a run that an earlier call has read take no bit.
+    ///
+    /// ```
+    /// use tarjimp::srl::{SrlDecoder, encode_srl};
+    ///
+    /// let stream = encode_srl(&[0, 0, 3, -1], 2)?;
+    /// let mut whole = SrlDecoder::new(&stream)?;
+    /// assert_eq!(whole.decode(4, 2)?, [0, 0, 3, -1]);
+    /// assert_eq!(whole.missing_bits(), 0);
+    ///
+    /// // Only the first byte arrives, which ends within the last value.
+    /// let mut cut = SrlDecoder::new(&stream[..1])?;
+    /// assert_eq!(cut.decode(4, 2)?, [0, 0, 3, -3]);
+    /// assert_eq!(cut.missing_bits(), 2);
+    /// # Ok::<(), tarjimp::Error>(())
+    /// ```
+    pub fn missing_bits(&self) -> u64 {
+        self.missing
     }
 }
 
@@ -157,7 +183,8 @@ impl Default for SrlEncoder {
     }
 }
 
-/// Reads one whole stream of values of one width.
+/// Reads one whole stream of values of one width. [`SrlDecoder::missing_bits`] says whether a stream is
+/// whole.
 ///
 /// # Errors
 ///
@@ -205,6 +232,51 @@ mod tests {
             assert_eq!(decoder.decode(3, num_bits), refused);
         }
         assert_eq!(decoder.decode(3, 3), Ok(vec![7, -1, 2]));
+    }
+
+    /// The count of a decoder's last call, for a call on a stream from its start.
+    fn missing(stream: &[u8], num_values: usize, num_bits: u8) -> u64 {
+        let mut decoder = SrlDecoder::new(stream).unwrap();
+        assert_eq!(decoder.missing_bits(), 0);
+        decoder.decode(num_values, num_bits).unwrap();
+        decoder.missing_bits()
+    }
+
+    #[test]
+    fn known_counts_of_missing_bits() {
+        assert_eq!(missing(&[0x80], 1, 15), 32_761);
+        assert_eq!(missing(&[], 5, 1), 3);
+        assert_eq!(missing(&[], 0, 1), 0);
+        assert_eq!(missing(&[], 3, 16), 2);
+        assert_eq!(missing(&[0xFF], 2, 1), 0);
+    }
+
+    /// Each call counts its own bits, a refusal none; zeros of a run that was read take no bit.
+    #[test]
+    fn missing_bits_of_calls_one_after_another() {
+        let mut decoder = SrlDecoder::new(&[0x01]).unwrap();
+        assert_eq!(decoder.decode(44, 2), Ok(vec![0; 44]));
+        assert_eq!(decoder.missing_bits(), 0);
+        let value_at_last_bit = decoder.clone();
+        assert_eq!(decoder.decode(1, 2), Ok(vec![3]));
+        assert_eq!(decoder.missing_bits(), 7);
+        for (num_values, missing) in [(1, 1), (7, 0), (1, 1), (0, 0)] {
+            assert_eq!(decoder.decode(num_values, 16), Ok(vec![0; num_values]));
+            assert_eq!(decoder.missing_bits(), missing);
+        }
+        let mut decoder = value_at_last_bit;
+        decoder.missing = 9;
+        let refused = Err(SrlError::InvalidBitCount(16));
+        assert_eq!(decoder.decode(1, 16), refused);
+        assert_eq!(decoder.missing_bits(), 0);
+    }
+
+    #[test]
+    fn missing_bits_of_cut_streams() {
+        let values = [5, 0, 0, -1, 7, 0, 0, 0, 1];
+        let stream = encode_srl(&values, 3).unwrap();
+        let counts = (0..=stream.len()).map(|length| missing(&stream[..length], values.len(), 3));
+        assert_eq!(counts.collect::<Vec<_>>(), [4, 5, 9, 1, 0, 0]);
     }
 
     #[test]

@@ -1,9 +1,10 @@
 //! The bench samples of the program `samples`, through the crate.
 
 use tarjimp::progressive::{
-    TileState, decode_upgrade_pass, dequantize_component_ccq, encode_upgrade_pass, ycbcr_to_rgb,
+    MissingBits, TileState, decode_upgrade_pass, decode_upgrade_pass_counted,
+    dequantize_component_ccq, encode_upgrade_pass, ycbcr_to_rgb,
 };
-use tarjimp::srl::{SrlEncoder, decode_srl, encode_srl};
+use tarjimp::srl::{SrlDecoder, SrlEncoder, decode_srl, encode_srl};
 use tarjimp::{ComponentCodecQuant, Error, dwt_extrapolate};
 
 fn all(number: u8) -> ComponentCodecQuant {
@@ -59,6 +60,34 @@ fn raw_bits() {
         )
         .expect("a stream causes no refusal");
         assert_eq!(coefficients[place], after);
+    }
+}
+
+#[test]
+fn missing_bits() {
+    for (stream, count, num_bits, missing) in [
+        (&[][..], 5, 1, 3),
+        (&[], 3, 16, 2),
+        (&[0x80], 1, 15, 32_761),
+        (&[0xFF], 2, 1, 0),
+    ] {
+        let mut decoder = SrlDecoder::new(stream).expect("every stream is one");
+        assert!(decoder.decode(count, num_bits).is_ok());
+        assert_eq!(decoder.missing_bits(), missing);
+    }
+    let mut bottom = [0; 10];
+    bottom[9] = 2;
+    for (widths, raw) in [([2; 10], 8184), (bottom, 120)] {
+        let missing = decode_upgrade_pass_counted(
+            &[],
+            &[0xC0],
+            &ComponentCodecQuant::of_bands(widths),
+            &all(0),
+            false,
+            &mut [-8; 4096],
+            &mut [-1; 4096],
+        );
+        assert_eq!(missing, Ok(MissingBits { srl: 0, raw }));
     }
 }
 

@@ -22,6 +22,7 @@ fn no_figures() -> report::Figures {
     report::Figures {
         bits: 0,
         all_bits: 0,
+        missing: 0,
         undecided: 0,
         stroke: 0,
         ground: 0,
@@ -48,6 +49,7 @@ fn figures(
     reference: &[u8],
     bits: u64,
     all_bits: u64,
+    missing: u64,
 ) -> report::Figures
     requires { ⌜ (length (now pixels) ≡ 16384) × (length (now reference) ≡ 16384) ⌝ }
 {
@@ -56,6 +58,7 @@ fn figures(
     report::Figures {
         bits,
         all_bits,
+        missing,
         undecided: measure::undecided_in_tile(&signs, rows),
         stroke: measure::grey(pixels, drawing::MINUS_LEFT, drawing::MINUS_TOP),
         ground: measure::grey(pixels, drawing::MINUS_LEFT, drawing::MINUS_TOP - 12),
@@ -81,12 +84,13 @@ fn measured(
     reference: &[u8],
     bits: u64,
     all_bits: u64,
+    missing: u64,
 ) -> report::Figures
     requires { ⌜ (picture < 8) × (length (now pictures) ≡ 131072) × (length (now reference) ≡ 16384) ⌝ }
 {
     let from = bands::PIXEL_BYTES * picture;
     let to = from + bands::PIXEL_BYTES;
-    figures(t, &pictures[from..to], reference, bits, all_bits)
+    figures(t, &pictures[from..to], reference, bits, all_bits, missing)
 }
 
 // Shows a stage: its pixels, its image and its line.
@@ -94,6 +98,7 @@ fn show(
     t: tile::TileState,
     bits: u64,
     all_bits: u64,
+    missing: u64,
     run: &[u8],
     name: &[u8],
     file: &[u8],
@@ -114,7 +119,7 @@ fn show(
     if !images::save_stage(folder, file, pictures, picture) {
         return ended(t);
     }
-    let f = measured(t, pictures, picture, reference, bits, all_bits);
+    let f = measured(t, pictures, picture, reference, bits, all_bits, missing);
     report::stage(run, name, f, file);
     Run {
         is_good: true,
@@ -148,6 +153,7 @@ fn first(
     }
     show(
         t,
+        0,
         0,
         0,
         run,
@@ -193,6 +199,7 @@ fn next(
         tile,
         made.bits,
         all_bits,
+        made.missing,
         run,
         name,
         file,

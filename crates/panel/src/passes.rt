@@ -58,10 +58,11 @@ fn decoded(
 
 // ---- a pass
 
-// What became of a pass: a refusal or 0, the bits that arrived, and the tile then.
+// What became of a pass: a refusal or 0, the bits that arrived and those that were missing, and the tile then.
 pub struct Made {
     pub refusal: u8,
     pub bits: u64,
+    pub missing: u64,
     pub tile: tile::TileState,
 }
 
@@ -81,6 +82,7 @@ pub fn pass(full: &[i16], t: tile::TileState, stage: usize, is_cut: bool) -> Mad
         return Made {
             refusal: written.refusal,
             bits: 0,
+            missing: 0,
             tile: t,
         };
     }
@@ -88,10 +90,12 @@ pub fn pass(full: &[i16], t: tile::TileState, stage: usize, is_cut: bool) -> Mad
     let lengths = panel_streams::half_if(all, is_cut);
     let done = decoded(t, &srl, &raw, lengths, row);
     let answer = done.answer;
+    let missing = done.missing;
     let tile = done.tile;
     Made {
         refusal: answer::number_of(answer),
         bits: panel_streams::total(lengths) as u64 * 8,
+        missing: missing.srl as u64 + missing.raw as u64,
         tile,
     }
 }

@@ -55,6 +55,8 @@ pub struct Figures {
     // Bits that arrived in this stage, and in all.
     pub bits: u64,
     pub all_bits: u64,
+    // Bits that the stage read past the end of its streams.
+    pub missing: u64,
     // Places outside the bottom bands with a zero sign and bits to come.
     pub undecided: u64,
     // The mean grey of the minus stroke, and of as much ground above it.
@@ -65,7 +67,7 @@ pub struct Figures {
 }
 
 fn heading() {
-    text(b"run    stage          bits   in all  undecided  minus  ground  off by  file\n");
+    text(b"run    stage          bits   in all  missing  undecided  minus  ground  off by  file\n");
 }
 
 // A stage's line.
@@ -74,6 +76,7 @@ pub fn stage(run: &[u8], stage: &[u8], f: Figures, file: &[u8]) {
     word(stage, 12);
     number(f.bits, 7);
     number(f.all_bits, 9);
+    number(f.missing, 9);
     number(f.undecided, 11);
     number(f.stroke, 7);
     number(f.ground, 8);
@@ -86,7 +89,7 @@ pub fn stage(run: &[u8], stage: &[u8], f: Figures, file: &[u8]) {
 // What the columns are.
 fn legend() {
     text(
-        b"\nbits: of upgrade passes, in this stage and in all; the first cut is loaded\nundecided: places outside LL3 with sign 0 and bits to come, of 12045\nminus, ground: mean grey of the minus stroke, and of as much ground above it\noff by: the largest difference of a colour byte from the uncut panel\n",
+        b"\nbits: of upgrade passes, in this stage and in all; the first cut is loaded\nmissing: bits that the stage read past the end of its SRL and raw streams, as zeros\nundecided: places outside LL3 with sign 0 and bits to come, of 12045\nminus, ground: mean grey of the minus stroke, and of as much ground above it\noff by: the largest difference of a colour byte from the uncut panel\n",
     );
 }
 

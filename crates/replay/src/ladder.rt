@@ -56,15 +56,27 @@ fn upgraded(c: &[u8], at: usize, i: usize, t: tile::TileState) -> tile::Upgraded
     upgrade(t, &srl, &raw, lengths, rows, steps::quality(c, i))
 }
 
+// Whether the answer of an upgrade, the tile and the bits that were missing are those at a place.
+fn same_upgrade(c: &[u8], at: usize, done: tile::Upgraded) -> bool
+    requires { ⌜ at ≤ 131072 ⌝ }
+{
+    let answer = done.answer;
+    let tile = done.tile;
+    let missing = done.missing;
+    if !tiles::same_answer(c, at, answer, tile) {
+        return false;
+    }
+    replay_passes::upgrade::same_missing(c, at + 9, missing)
+}
+
 // Makes the upgrade at a place, and compares.
 fn step(c: &[u8], at: usize, i: usize, t: tile::TileState) -> Stepped
     requires { ⌜ (at ≤ 65536) × (i ≤ 255) ⌝ }
 {
     let done = upgraded(c, at, i, t);
-    let answer = done.answer;
     let tile = done.tile;
     Stepped {
-        same: tiles::same_answer(c, at + 4, answer, tile),
+        same: same_upgrade(c, at + 4, done),
         tile,
     }
 }
@@ -72,7 +84,7 @@ fn step(c: &[u8], at: usize, i: usize, t: tile::TileState) -> Stepped
 // Whether the port agrees with a case.
 pub fn agrees(c: &[u8]) -> bool {
     let steps = number::u8_at(c, 81) as usize;
-    if c.len() != 91 + 13 * steps {
+    if c.len() != 91 + 21 * steps {
         return false;
     }
     let begun = tiles::start(c);
@@ -83,7 +95,7 @@ pub fn agrees(c: &[u8]) -> bool {
     }
     let mut i: usize = 0;
     while i < steps {
-        let done = step(c, 91 + 13 * i, i, t);
+        let done = step(c, 91 + 21 * i, i, t);
         if !done.same {
             return false;
         }

@@ -94,6 +94,7 @@ fn same_answer(
     refusal: u8,
     count: usize,
     state: srl_decoder::SrlState,
+    missing: u64,
     out: &[i16],
 ) -> bool
     requires { ⌜ at ≤ 1048592 ⌝ }
@@ -107,7 +108,10 @@ fn same_answer(
     if !same_state(state_at(c, at + 3), state) {
         return false;
     }
-    if !has_values(c, at + 22, out, count) {
+    if number::u64_at(c, at + 22) != missing {
+        return false;
+    }
+    if !has_values(c, at + 30, out, count) {
         return false;
     }
     is_untouched(out, count)
@@ -127,12 +131,12 @@ fn call_with(
     let num_bits = number::u8_at(c, at + 8);
     fill(out);
     match srl_decoder::decode(src, state, out, num_values, num_bits) {
-        srl_decoder::Decoded::Values(count, next) => Called {
-            same: same_answer(c, at + 11, 0, count, next, out),
+        srl_decoder::Decoded::Values(count, next, missing) => Called {
+            same: same_answer(c, at + 11, 0, count, next, missing, out),
             state: next,
         },
         srl_decoder::Decoded::Refused(refusal, next) => Called {
-            same: same_answer(c, at + 11, refusal, 0, next, out),
+            same: same_answer(c, at + 11, refusal, 0, next, 0, out),
             state: next,
         },
     }
@@ -155,7 +159,7 @@ fn behind(c: &[u8], at: usize) -> usize
     ensures { λ r. ⌜ r ≤ 1048576 ⌝ }
 {
     let count = number::u16_at(c, at + 12) as usize;
-    number::ahead(at, 33 + 2 * count)
+    number::ahead(at, 41 + 2 * count)
 }
 
 // Makes the calls from a place on, which end with the case.

@@ -25,9 +25,9 @@ fn with_stream(digest: u64, src: &[u8], width: u8, count: u8) -> u64 {
         count as usize,
         width,
     ) {
-        srl_decoder::Decoded::Values(n, state) => with_state(
-            digests::with_values(digest, &out, n),
-            state,
+        srl_decoder::Decoded::Values(n, state, missing) => digests::mixed(
+            with_state(digests::with_values(digest, &out, n), state),
+            missing,
         ),
         srl_decoder::Decoded::Refused(refusal, _) => digests::mixed(
             digest,

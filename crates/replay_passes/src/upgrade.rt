@@ -34,11 +34,27 @@ fn lent(c: &[u8], at: usize, most: usize) -> usize
     number::at_most(number::u16_at(c, at) as usize, most)
 }
 
-// Reads a pass into the elements that the case lends: the refusal.
-fn read(c: &[u8], srl_data: &[u8], raw_data: &[u8], befores: &mut [i16], signs: &mut [i8]) -> u8 {
+// Whether the bits that were missing are as many as the numbers at a place say.
+pub fn same_missing(c: &[u8], at: usize, missing: progressive_decoder::MissingBits) -> bool
+    requires { ⌜ at ≤ 1048576 ⌝ }
+{
+    if missing.srl != number::u32_at(c, at) {
+        return false;
+    }
+    missing.raw == number::u32_at(c, at + 4)
+}
+
+// Reads a pass into the elements that the case lends.
+fn read(
+    c: &[u8],
+    srl_data: &[u8],
+    raw_data: &[u8],
+    befores: &mut [i16],
+    signs: &mut [i8],
+) -> progressive_decoder::PassDecoded {
     let n = lent(c, 35, befores.len());
     let m = lent(c, 37, signs.len());
-    refusal(progressive_decoder::decode_upgrade_pass(
+    progressive_decoder::decode_upgrade_pass(
         srl_data,
         raw_data,
         number::row_at(c, 13),
@@ -46,12 +62,12 @@ fn read(c: &[u8], srl_data: &[u8], raw_data: &[u8], befores: &mut [i16], signs: 
         number::flag_at(c, 12),
         &mut befores[..n],
         &mut signs[..m],
-    ))
+    )
 }
 
 // Kind 36: whether the port agrees with a case.
 pub fn decode_agrees(c: &[u8]) -> bool {
-    let from: usize = 52;
+    let from: usize = 60;
     let middle = from + number::u16_at(c, 39) as usize;
     let to = middle + number::u16_at(c, 41) as usize;
     if to != c.len() {
@@ -61,14 +77,19 @@ pub fn decode_agrees(c: &[u8]) -> bool {
     let mut befores = [0i16; 4352];
     let mut signs = [0i8; 4352];
     component::fill(c, &mut targets, &mut befores, &mut signs);
-    let k = read(
+    let done = read(
         c,
         &c[from..middle],
         &c[middle..to],
         &mut befores,
         &mut signs,
     );
-    if k != number::u8_at(c, 43) {
+    let answer = done.answer;
+    let missing = done.missing;
+    if refusal(answer) != number::u8_at(c, 43) {
+        return false;
+    }
+    if !same_missing(c, 52, missing) {
         return false;
     }
     digest(&befores, &signs) == number::u64_at(c, 44)
@@ -116,7 +137,20 @@ fn write(
     ))
 }
 
-// Whether the coefficients and signs are the recorded ones after the streams, of some bytes, are read back.
+// Whether the coefficients and signs, and the bits that were missing, are the recorded ones after what was written is read back.
+fn same_read(
+    c: &[u8],
+    missing: progressive_decoder::MissingBits,
+    befores: &[i16],
+    signs: &[i8],
+) -> bool {
+    if !same_missing(c, 64, missing) {
+        return false;
+    }
+    digest(befores, signs) == number::u64_at(c, 56)
+}
+
+// Reads the streams, of some bytes, back, and compares.
 fn read_back_agrees(
     c: &[u8],
     srl: usize,
@@ -132,10 +166,13 @@ fn read_back_agrees(
     if raw > raw_out.len() {
         return false;
     }
-    if read(c, &srl_out[..srl], &raw_out[..raw], befores, signs) != 0 {
+    let done = read(c, &srl_out[..srl], &raw_out[..raw], befores, signs);
+    let answer = done.answer;
+    let missing = done.missing;
+    if refusal(answer) != 0 {
         return false;
     }
-    digest(befores, signs) == number::u64_at(c, 56)
+    same_read(c, missing, befores, signs)
 }
 
 // Whether an answer and both outputs are the recorded ones.
@@ -154,7 +191,7 @@ fn same_written(c: &[u8], counts: Counts, srl_out: &[u8], raw_out: &[u8]) -> boo
 
 // Kind 37: whether the port agrees with a case. A pass that is written is read back.
 pub fn encode_agrees(c: &[u8]) -> bool {
-    if c.len() != 64 {
+    if c.len() != 72 {
         return false;
     }
     let mut targets = [0i16; 4352];
@@ -170,7 +207,8 @@ pub fn encode_agrees(c: &[u8]) -> bool {
         return false;
     }
     if done.refusal != 0 {
-        return digest(&befores, &signs) == number::u64_at(c, 56);
+        let none = progressive_decoder::MissingBits { srl: 0, raw: 0 };
+        return same_read(c, none, &befores, &signs);
     }
     read_back_agrees(
         c,

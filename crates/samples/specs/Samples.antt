@@ -6,12 +6,15 @@ use Prim.Native.Nat.{ℕ, _≤_}
 use lib.IntN.{ℤ, pos, negsuc}
 use lib.ListN.{length, replicate, take, drop}
 use Rattle.answer.specs.Refusals.{numberOf}
-use Rattle.srl_decoder.specs.Decode.{startState, decodeAnswer, decodeOut, decodedCount}
+use Rattle.srl_decoder.specs.Decode.{startState, decodeAnswer, decodeOut, decodedNumber, decodedCount, decodedMissing}
+use Rattle.srl_decoder.specs.declared.SrlState.{SrlState}
+use Rattle.srl_decoder.specs.declared.Decoded.{Decoded}
 use Rattle.srl_encoder.specs.Encode.{freshWriter, encodeAnswer, encodeOut, encodedCount, encodedState}
 use Rattle.srl_encoder.specs.Finish.{finishAnswer, finishOut, finishedCount}
 use Rattle.srl_encoder.specs.declared.Encoded.{Encoded}
 use Rattle.srl_encoder.specs.declared.Finished.{Finished}
-use Rattle.progressive_decoder.specs.Upgrade.{decodePassAnswer, decodeCoefficients, decodeSigns}
+use Rattle.progressive_decoder.specs.Upgrade.{decodePassAnswer, decodeCoefficients, decodeSigns, missingBits, decodeMissing}
+use Rattle.progressive_decoder.specs.declared.MissingBits.{MissingBits}
 use Rattle.progressive_encoder.specs.Encode.{srlDifference, encodePassRefusal}
 use Rattle.color.specs.Color.{rgb}
 
@@ -53,29 +56,41 @@ writtenAs s =
     take (encodedCount (begun s)) (encodeOut freshWriter (s .given) two (s .width))
     ++ take (finishedCount (ended s)) (finishOut (encodedState (begun s)) two)
 
--- ════ SRL, read: one call of `decode` from the start ════
+-- ════ SRL, read: one call of `decode` from a bit of the first byte, as at the start of a stream ════
 
--- a sample: bytes, and the values read of them
+-- a sample: bytes, the bit, the values read, and how many bits were missing
 pub record SrlRead : Type 0 where
   pub bytes : List ℕ
+  pub bit : ℕ
   pub width : ℕ
   pub count : ℕ
   pub got : List ℤ
+  pub missing : ℕ
 
--- two values of the byte FF at width 1, and values of no bytes
+-- two values of the byte FF at width 1, values of no bytes, a value that begins at the last bit, and the largest one
 abbrev pub srlRead : List SrlRead
 srlRead =
-    record { bytes = 0xff ∷ []; width = 1; count = 2; got = pos 0 ∷ negsuc 0 ∷ [] }
-    ∷ record { bytes = []; width = 1; count = 5; got = pos 0 ∷ pos 0 ∷ pos 0 ∷ pos 0 ∷ pos 0 ∷ [] }
+    record { bytes = 0xff ∷ []; bit = 0; width = 1; count = 2; got = pos 0 ∷ negsuc 0 ∷ []; missing = 0 }
+    ∷ record { bytes = []; bit = 0; width = 1; count = 5; got = pos 0 ∷ pos 0 ∷ pos 0 ∷ pos 0 ∷ pos 0 ∷ []; missing = 3 }
+    ∷ record { bytes = 0x01 ∷ []; bit = 7; width = 2; count = 1; got = pos 3 ∷ []; missing = 4 }
+    ∷ record { bytes = 0x80 ∷ []; bit = 0; width = 15; count = 1; got = pos 32767 ∷ []; missing = 32761 }
     ∷ []
+
+-- the state of the decoder at a bit of the first byte
+abbrev pub atBit : ℕ → SrlState
+atBit n = record { reader = record { «byte_idx» = 0; «bit_idx» = n }; kp = 8; «zero_run_remaining» = 0; «nonzero_pending» = false }
 
 -- an output that held sevens, just as long as it must be, after the call
 abbrev pub readAs : SrlRead → List ℤ
-readAs s = decodeOut (s .bytes) startState (replicate (s .count) (pos 7)) (s .count) (s .width)
+readAs s = decodeOut (s .bytes) (atBit (s .bit)) (replicate (s .count) (pos 7)) (s .count) (s .width)
 
--- and how many values the call says that it has stored
-abbrev pub countedAs : SrlRead → ℕ
-countedAs s = decodedCount (decodeAnswer (s .bytes) startState (s .count) (s .count) (s .width))
+-- what the call answers
+abbrev pub decodedAs : SrlRead → Decoded
+decodedAs s = decodeAnswer (s .bytes) (atBit (s .bit)) (s .count) (s .count) (s .width)
+
+-- a value that begins at the last bit, at width 16
+abbrev pub atWidth16 : Decoded
+atWidth16 = decodeAnswer (0x01 ∷ []) (atBit 7) 1 1 16
 
 -- ════ a pass over a component in the standard layout, at the first place of its first band or of the bottom ════
 
@@ -96,13 +111,14 @@ pub record PassRead : Type 0 where
   pub coefficient : ℤ
   pub sign : ℤ
   pub got : ℤ
+  pub missing : MissingBits
 
 -- positions 3 to 1, raw bits 11: -8 outside the bottom and in it, and -32768
 abbrev pub passRead : List PassRead
 passRead =
-    record { bottom = false; from = 3; to = 1; raw = 0xc0 ∷ []; coefficient = negsuc 7; sign = negsuc 0; got = negsuc 13 }
-    ∷ record { bottom = true; from = 3; to = 1; raw = 0xc0 ∷ []; coefficient = negsuc 7; sign = negsuc 0; got = negsuc 1 }
-    ∷ record { bottom = false; from = 3; to = 1; raw = 0xc0 ∷ []; coefficient = negsuc 32767; sign = negsuc 0; got = negsuc 32767 }
+    record { bottom = false; from = 3; to = 1; raw = 0xc0 ∷ []; coefficient = negsuc 7; sign = negsuc 0; got = negsuc 13; missing = missingBits 17 0 }
+    ∷ record { bottom = true; from = 3; to = 1; raw = 0xc0 ∷ []; coefficient = negsuc 7; sign = negsuc 0; got = negsuc 1; missing = missingBits 0 120 }
+    ∷ record { bottom = false; from = 3; to = 1; raw = 0xc0 ∷ []; coefficient = negsuc 32767; sign = negsuc 0; got = negsuc 32767; missing = missingBits 17 0 }
     ∷ []
 
 -- the number of the call's answer
@@ -119,6 +135,16 @@ upgradedAs s =
 abbrev pub signedAs : PassRead → List ℤ
 signedAs s =
     decodeSigns [] (row (s .bottom) (s .from)) (row (s .bottom) (s .to)) false (inComponent (s .bottom) (s .coefficient)) (inComponent (s .bottom) (s .sign))
+
+-- and the bits that were missing
+abbrev pub missedAs : PassRead → MissingBits
+missedAs s =
+    decodeMissing [] (s .raw) (row (s .bottom) (s .from)) (row (s .bottom) (s .to)) false (inComponent (s .bottom) (s .coefficient)) (inComponent (s .bottom) (s .sign))
+
+-- those of a pass over zeros without any bytes, from positions 15 to 0, in either layout
+abbrev pub missedOfNone : Bool → MissingBits
+missedOfNone extrapolate =
+    decodeMissing [] [] (replicate 10 15) (replicate 10 0) extrapolate (replicate 4096 (pos 0)) (replicate 4096 (pos 0))
 
 -- written, at a zero sign outside the bottom: the value for the SRL stream, and the refusal or 0
 pub record PassWritten : Type 0 where
@@ -168,12 +194,17 @@ colouredAs s = rgb (s .y) (s .cb) (s .cr)
 pub record BenchSamples : Type 0 where
   pub srl-written : map writtenAs srlWritten ≡ map (λ s. s .bytes) srlWritten
   pub srl-read : map readAs srlRead ≡ map (λ s. s .got) srlRead
-  pub srl-counts : map countedAs srlRead ≡ map (λ s. s .count) srlRead
+  pub srl-counts : map (λ s. decodedCount (decodedAs s)) srlRead ≡ map (λ s. s .count) srlRead
+  pub srl-missing : map (λ s. decodedMissing (decodedAs s)) srlRead ≡ map (λ s. s .missing) srlRead
+  -- where a width is refused no bit counts
+  pub srl-refused : (decodedNumber atWidth16 ≡ 4) × (decodedMissing atWidth16 ≡ 0)
   -- an empty stream gives zeros, as many as are asked for and at every width
   pub srl-empty : (out : List ℤ) (n w : ℕ) → n ≤ length out → decodeOut [] startState out n w ≡ replicate n (pos 0) ++ drop n out
   pub pass-answers : map answeredAs passRead ≡ map (λ s. 0) passRead
   pub pass-read : map upgradedAs passRead ≡ map (λ s. inComponent (s .bottom) (s .got)) passRead
   pub pass-signs : map signedAs passRead ≡ map (λ s. inComponent (s .bottom) (s .sign)) passRead
+  pub pass-missing : map missedAs passRead ≡ map (λ s. s .missing) passRead
+  pub pass-of-none : map missedOfNone (false ∷ true ∷ []) ≡ missingBits 20 960 ∷ missingBits 20 1215 ∷ []
   pub pass-values : map valuedAs passWritten ≡ map (λ s. s .value) passWritten
   pub pass-refusals : map refusedAs passWritten ≡ map (λ s. s .refusal) passWritten
   pub colours : map colouredAs coloured ≡ map (λ s. s .bytes) coloured

@@ -118,21 +118,55 @@ fn show_zeros(values: &[i16]) {
     }
 }
 
-// One call of `decode` from the start.
-fn show_read(src: &[u8], count: usize, num_bits: u8) {
-    text(b"decode");
-    some_bytes(src, src.len());
+// How many bits were missing, where any were.
+fn missing_bits(count: u64) {
+    if count == 0 {
+        return;
+    }
+    text(b", bits missing ");
+    decimal(count);
+}
+
+// One call of `decode` from a state.
+fn show_decoded(src: &[u8], state: srl::SrlState, count: usize, num_bits: u8) {
     text(b", values ");
     decimal(count as u64);
     width(num_bits);
     let mut out = [7i16; 16];
-    match srl::decode(src, srl::SrlState::new(), &mut out, count, num_bits) {
-        srl::Decoded::Values(n, _) => {
+    match srl::decode(src, state, &mut out, count, num_bits) {
+        srl::Decoded::Values(n, _, missing) => {
             some_values(&out, n);
+            missing_bits(missing);
             text(b"\n");
         }
         srl::Decoded::Refused(number, _) => refused(number),
     }
+}
+
+// One call of `decode` from the start.
+fn show_read(src: &[u8], count: usize, num_bits: u8) {
+    text(b"decode");
+    some_bytes(src, src.len());
+    show_decoded(src, srl::SrlState::new(), count, num_bits);
+}
+
+// One call of `decode` from a later bit of the first byte.
+fn show_read_from(bit_idx: u8, src: &[u8], count: usize, num_bits: u8) {
+    text(b"decode");
+    some_bytes(src, src.len());
+    text(b" from bit ");
+    decimal(bit_idx as u64);
+    let start = srl::SrlState::new();
+    let state = srl::SrlState {
+        reader: bits::reader::BitReader {
+            byte_idx: 0,
+            bit_idx,
+        },
+        kp: start.kp,
+        zero_run_remaining: start.zero_run_remaining,
+        nonzero_pending: start.nonzero_pending,
+    };
+    show_decoded(src, state, count, num_bits);
 }
 
 // What a call that works in place made of the value at a place.
@@ -142,6 +176,30 @@ fn show_answer(answer: progressive::Answer, values: &[i16], place: usize)
     match answer {
         progressive::Answer::Accepted => {
             value(values[place]);
+            text(b"\n");
+        }
+        progressive::Answer::Refused(number) => refused(number),
+    }
+}
+
+// The bits that were missing of both streams of a pass.
+fn both_missing(missing: progressive::MissingBits) {
+    text(b", bits missing: SRL ");
+    decimal(missing.srl as u64);
+    text(b", raw ");
+    decimal(missing.raw as u64);
+}
+
+// What a pass made of the value at a place.
+fn show_decoded_pass(done: progressive::PassDecoded, values: &[i16], place: usize)
+    requires { ⌜ place < length (now values) ⌝ }
+{
+    let answer = done.answer;
+    let missing = done.missing;
+    match answer {
+        progressive::Answer::Accepted => {
+            value(values[place]);
+            both_missing(missing);
             text(b"\n");
         }
         progressive::Answer::Refused(number) => refused(number),
@@ -159,7 +217,7 @@ fn show_pass(prev: [u8; 10], curr: [u8; 10], place: usize, coefficient: i16)
     text(b" gives");
     let mut coefficients = [coefficient; bands::COEFFICIENTS_PER_COMPONENT];
     let mut sign = [-1i8; bands::COEFFICIENTS_PER_COMPONENT];
-    let answer = progressive::decode_upgrade_pass(
+    let done = progressive::decode_upgrade_pass(
         b"",
         b"\xc0",
         prev,
@@ -168,7 +226,29 @@ fn show_pass(prev: [u8; 10], curr: [u8; 10], place: usize, coefficient: i16)
         &mut coefficients,
         &mut sign,
     );
-    show_answer(answer, &coefficients, place);
+    show_decoded_pass(done, &coefficients, place);
+}
+
+// A pass over a zero component with both streams empty, and the first place after it.
+fn show_empty_pass(use_reduce_extrapolate: bool) {
+    text(b"positions 15 to 0, empty streams, ");
+    if use_reduce_extrapolate {
+        text(b"reduce-extrapolate:");
+    } else {
+        text(b"standard layout:");
+    }
+    let mut coefficients = [0i16; bands::COEFFICIENTS_PER_COMPONENT];
+    let mut sign = [0i8; bands::COEFFICIENTS_PER_COMPONENT];
+    let done = progressive::decode_upgrade_pass(
+        b"",
+        b"",
+        [15; 10],
+        [0; 10],
+        use_reduce_extrapolate,
+        &mut coefficients,
+        &mut sign,
+    );
+    show_decoded_pass(done, &coefficients, 0);
 }
 
 // A pass of the first band from positions 3 to 1, written over zeros.
@@ -289,8 +369,8 @@ fn show_zero_tile() {
     }
 }
 
-fn main() {
-    bench_samples();
+// SRL streams, written and read.
+fn show_srl() {
     show_written(&[1i16], 1);
     show_written(&[-1i16], 1);
     show_written(&[0i16], 1);
@@ -305,8 +385,15 @@ fn main() {
     show_written(&[], 16);
     show_read(b"", 3, 16);
     show_read(b"\xff", 2, 16);
+    show_read_from(7, b"\x01", 1, 2);
+    show_read_from(7, b"\x01", 1, 16);
+    show_read(b"\x80", 1, 15);
     show_zeros(&[0i16; bands::COEFFICIENTS_PER_COMPONENT]);
     show_zeros(&[0i16; 4097]);
+}
+
+// Passes over a component.
+fn show_passes() {
     show_pass([3; 10], [1; 10], 0, -8);
     show_pass(
         [0, 0, 0, 0, 0, 0, 0, 0, 0, 3],
@@ -315,8 +402,16 @@ fn main() {
         -8,
     );
     show_pass([3; 10], [1; 10], 0, -32768);
+    show_empty_pass(false);
+    show_empty_pass(true);
     show_upgrade(7);
     show_upgrade(-7);
+}
+
+fn main() {
+    bench_samples();
+    show_srl();
+    show_passes();
     show_dequantized(5, -1);
     show_dequantized(5, 1);
     show_dequantized(5, -3);

@@ -1,5 +1,5 @@
 //! A tile with a minus stroke is loaded coarse and sharpened by two upgrade passes, which the writer writes
-//! and the tile reads. `expected` has what the program prints.
+//! and the tile reads; and by one of which half arrives. `expected` has what the program prints.
 
 use tarjimp::dwt_extrapolate::band_layout;
 use tarjimp::progressive::{COEFFICIENTS_PER_COMPONENT, TileState, encode_upgrade_pass};
@@ -26,29 +26,61 @@ fn main() -> Result<(), Error> {
         USE_REDUCE_EXTRAPOLATE,
     )?;
     show(&tile)?;
+    let mut half = tile.clone();
 
     for (position, quality) in [(2, 60), (0, 100)] {
-        let (srl, raw) = encode_upgrade_pass(
-            &cut(&target, position),
-            &tile.coefficients[0],
-            &tile.prog_quant[0],
-            &all(position),
-            &tile.sign[0],
-            USE_REDUCE_EXTRAPOLATE,
-        )?;
-        println!("{} bytes SRL, {} bytes raw", srl.len(), raw.len());
-        // The chroma components are zero, and so are the bits behind the end of a stream.
-        let (srl, raw) = ([&srl[..], &[], &[]], [&raw[..], &[], &[]]);
-        tile.decode_upgrade(srl, raw, [all(position); 3], quality)?;
-        show(&tile)?;
+        let (srl, raw) = luma_pass(&tile, &target, position)?;
+        upgrade(&mut tile, &srl, &raw, position, quality)?;
     }
     assert_eq!(tile.coefficients[0], target, "all bits have arrived");
+
+    println!("half of the first pass:");
+    let (srl, raw) = luma_pass(&half, &target, 2)?;
+    let (srl, raw) = (&srl[..srl.len() / 2], &raw[..raw.len() / 2]);
+    upgrade(&mut half, srl, raw, 2, 60)?;
 
     let refused = tile.decode_upgrade([&[]; 3], [&[]; 3], [all(16); 3], 100);
     explain("positions 16", refused);
     explain("17 pixels", tile.reconstruct_to_rgba(&mut [0; 68]));
     explain("7 in 2 bits", tarjimp::srl::encode_srl(&[7], 2));
     Ok(())
+}
+
+/// The streams that bring the luma component of a tile to a position.
+fn luma_pass(
+    tile: &TileState,
+    target: &Component,
+    position: u8,
+) -> Result<(Vec<u8>, Vec<u8>), Error> {
+    encode_upgrade_pass(
+        &cut(target, position),
+        &tile.coefficients[0],
+        &tile.prog_quant[0],
+        &all(position),
+        &tile.sign[0],
+        USE_REDUCE_EXTRAPOLATE,
+    )
+}
+
+/// Upgrades the luma component of a tile; those of chroma stay at their positions. Bits behind the end of
+/// a stream are zeros, and counted.
+fn upgrade(
+    tile: &mut TileState,
+    srl: &[u8],
+    raw: &[u8],
+    position: u8,
+    quality: u8,
+) -> Result<(), Error> {
+    let rows = [all(position), tile.prog_quant[1], tile.prog_quant[2]];
+    let missing = tile.decode_upgrade_counted([srl, &[], &[]], [raw, &[], &[]], rows, quality)?;
+    println!(
+        "{} bytes SRL, {} bits missing; {} bytes raw, {} bits missing",
+        srl.len(),
+        missing.srl,
+        raw.len(),
+        missing.raw
+    );
+    show(tile)
 }
 
 /// The same number for every band.

@@ -259,6 +259,7 @@ fn rust_decode(input: &Input, work: &mut Work) {
 
 fn port_decode(input: &Input, work: &mut Work) {
     refresh(input, work);
+    let mut missing = [u32::MAX; 2];
     let number = port::decode_upgrade_pass(
         &input.srl,
         &input.raw,
@@ -267,8 +268,10 @@ fn port_decode(input: &Input, work: &mut Work) {
         USE_REDUCE_EXTRAPOLATE,
         &mut work.coefficients,
         &mut work.sign,
+        &mut missing,
     );
     assert_eq!(number, 0, "a stream causes no refusal");
+    assert_eq!(missing, [0; 2], "the streams are whole");
 }
 
 /// The text hands out new lists; the work keeps them.
@@ -380,6 +383,7 @@ fn port_upgrade(upgrade: &Upgrade, work: &mut Work) {
     refresh_tile(upgrade, work);
     let tile = &mut *work.tile;
     let mut prog_quant = [PREV; 3];
+    let mut missing = [u32::MAX; 2];
     let number = port::tile_decode_upgrade(
         port::Tile {
             coefficients: &mut tile.coefficients,
@@ -394,8 +398,10 @@ fn port_upgrade(upgrade: &Upgrade, work: &mut Work) {
         50,
         upgrade.srl.each_ref().map(Vec::as_slice),
         upgrade.raw.each_ref().map(Vec::as_slice),
+        &mut missing,
     );
     assert_eq!(number, 0, "a stream causes no refusal");
+    assert_eq!(missing, [0; 2], "the streams are whole");
     tile.prog_quant = prog_quant.map(ComponentCodecQuant::of_bands);
 }
 
@@ -411,17 +417,20 @@ fn port_srl_decode(stream: &Stream, work: &mut Work) {
     let count = stream.values.len();
     work.values.resize(count, 0);
     let mut state = [0, 0, 8, 0, 0];
+    let mut missing = u64::MAX;
     let number = port::srl_decode(
         &stream.bytes,
         &mut state,
         &mut work.values,
         count,
         SRL_WIDTH,
+        &mut missing,
     );
     assert_eq!(
         number, 0,
         "the width is one the decoder takes, and there is room"
     );
+    assert_eq!(missing, 0, "the stream is whole");
 }
 
 fn rust_srl_encode(stream: &Stream, work: &mut Work) {

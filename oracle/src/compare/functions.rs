@@ -57,12 +57,14 @@ fn not(agrees: Agrees) -> Agrees {
     }
 }
 
-/// Whether what the port and the text have is the same.
+/// Whether what the port has is what the text, or the second form of a count, gives.
 fn same<T: PartialEq + Debug>(what: &str, port: T, text: T) -> Agrees {
     if port == text {
         return Ok(());
     }
-    Err(format!("{what}: the port has {port:?}, the Rust {text:?}"))
+    Err(format!(
+        "{what}: the port has {port:?}, the oracle {text:?}"
+    ))
 }
 
 /// Whether two lists are the same, at every place.

@@ -3,6 +3,7 @@
 mod bands;
 pub mod color;
 mod fixed;
+pub mod missing;
 pub mod progressive;
 pub mod room;
 pub mod srl;

@@ -10,10 +10,12 @@ use lib.ListN.{length, replicate, drop, length-replicate}
 use Rattle.fixed.specs.Fixed.{clampI16, clampU8, addScaled, subScaled, isZero, isOne}
 use Rattle.bands.specs.Bands.{spread}
 use Rattle.bits.specs.Bits.{num, numbers, zeros}
+use Rattle.bits.specs.Missing.{readNum, readNumbers, readZeros, missingIn}
 use Rattle.bits.specs.Written.{bitsOfAll}
 use Rattle.answer.specs.Refusals.{invalidBitCount, outputTooShort, unless, firstOf, noRoom, stored}
 use Rattle.srl_rules.specs.Rules.{widthOk}
 use Rattle.srl_decoder.specs.Srl.{values, readerAfter}
+use Rattle.srl_decoder.specs.Missing.{readValues}
 use Rattle.srl_decoder.specs.Decode.{startState, opened, decodeRefusal, decodeOut}
 use Rattle.srl_decoder.proofs.Due.{due-past, values-past}
 use Rattle.srl_encoder.specs.Finish.{streamBits}
@@ -44,15 +46,19 @@ empty out n w h =
     ∙ ap (λ (k : ℕ). replicate n (pos 0) ++ drop k out) (length-replicate n (pos 0))
 
 samples : BenchSamples
-unfolding values readerAfter num zeros numbers clampI16 clampU8 addScaled subScaled isZero isOne spread srlWidths rawWidths signsAfter coefficientsAfter srlDifferences rawDifferences anyTooLarge streamBits bitsOfAll red green blue
+unfolding readNum readNumbers readZeros missingIn readValues values readerAfter num zeros numbers clampI16 clampU8 addScaled subScaled isZero isOne spread srlWidths rawWidths signsAfter coefficientsAfter srlDifferences rawDifferences anyTooLarge streamBits bitsOfAll red green blue
 samples = record {
   srl-written = refl;
   srl-read = refl;
   srl-counts = refl;
+  srl-missing = refl;
+  srl-refused = (refl, refl);
   srl-empty = empty;
   pass-answers = refl;
   pass-read = refl;
   pass-signs = refl;
+  pass-missing = refl;
+  pass-of-none = refl;
   pass-values = refl;
   pass-refusals = refl;
   colours = refl;

@@ -1,6 +1,7 @@
 //! `tarjimp_decode_upgrade_pass`, `tarjimp_encode_upgrade_pass` and `tarjimp_dequantize_component`.
 
 use oracle::digest::with_values;
+use oracle::kinds::missing::{self, Missing};
 use oracle::kinds::progressive::component::{Given, Made};
 use oracle::kinds::progressive::{decode, dequantize, encode};
 use oracle::kinds::room::Room;
@@ -9,10 +10,12 @@ use oracle::record::Fields;
 
 use super::{Agrees, same, same_answer, same_places};
 
-/// What the port makes of the coefficients before the pass, and of the signs.
-fn read(given: &Given, srl: &[u8], raw: &[u8], made: &mut Made) -> u8 {
+/// What the port makes of the coefficients before the pass, and of the signs; the refusal, or 0, and the
+/// bits that were missing.
+fn read(given: &Given, srl: &[u8], raw: &[u8], made: &mut Made) -> (u8, Missing) {
     let [_, before, sign] = given.lengths;
-    port::decode_upgrade_pass(
+    let mut missing = [u32::MAX; 2];
+    let number = port::decode_upgrade_pass(
         srl,
         raw,
         &given.prev,
@@ -20,7 +23,9 @@ fn read(given: &Given, srl: &[u8], raw: &[u8], made: &mut Made) -> u8 {
         given.use_reduce_extrapolate,
         &mut made.before[..before],
         &mut made.sign[..sign],
-    )
+        &mut missing,
+    );
+    (number, missing)
 }
 
 /// Whether the places are the same, also those behind the slices.
@@ -34,17 +39,19 @@ fn same_made(port: &Made, text: &Made) -> Agrees {
 pub fn decode_upgrade(fields: &mut Fields<'_>) -> Agrees {
     let given = Given::read(fields);
     let [srl, raw] = fields.shorts();
-    let mut answers = Fields::of(fields.bytes(9));
+    let mut answers = Fields::of(fields.bytes(17));
     let srl = fields.bytes(srl);
     let raw = fields.bytes(raw);
     let mut text = given.make();
-    let text_number = decode::read(&given, srl, raw, &mut text);
+    let (text_number, text_missing) = decode::read(&given, srl, raw, &mut text);
     let mut made = given.make();
-    let number = read(&given, srl, raw, &mut made);
+    let (number, missing) = read(&given, srl, raw, &mut made);
     same("refusal", number, text_number)?;
+    same("missing bits", missing, text_missing)?;
     same_made(&made, &text)?;
     same_answer(&mut answers, &[number])?;
-    same_answer(&mut answers, &decode::digest(&made).to_le_bytes())
+    same_answer(&mut answers, &decode::digest(&made).to_le_bytes())?;
+    same_answer(&mut answers, &missing::fields(missing))
 }
 
 /// A pass that is written, and read back if it is accepted.
@@ -72,14 +79,14 @@ pub fn encode_upgrade(fields: &mut Fields<'_>) -> Agrees {
     same("counts of bytes", written, text.written)?;
     same_places("SRL output", &outputs[0], &text.outputs[0])?;
     same_places("raw output", &outputs[1], &text.outputs[1])?;
+    let mut missing = [0; 2];
     if number == 0 {
         let [srl, raw] = [0, 1].map(|k| &outputs[k][..written[k]]);
-        same(
-            "refusal of what is written",
-            read(&given, srl, raw, &mut made),
-            0,
-        )?;
+        let (read, bits) = read(&given, srl, raw, &mut made);
+        same("refusal of what is written", read, 0)?;
+        missing = bits;
     }
+    same("missing bits", missing, text.missing)?;
     same_made(&made, &text.made)?;
     let answer = encode::Answer {
         rooms,
@@ -87,6 +94,7 @@ pub fn encode_upgrade(fields: &mut Fields<'_>) -> Agrees {
         written,
         outputs,
         made,
+        missing,
     };
     same_answer(fields, &answer.fields())
 }

@@ -60,20 +60,24 @@ pub fn decode(fields: &mut Fields<'_>) -> Agrees {
         let text = decode::answer(stream, state, call);
         let mut numbers = reader_numbers(state);
         let mut out = values_before();
+        let mut missing = u64::MAX;
         let number = port::srl_decode(
             stream,
             &mut numbers,
             &mut out[..call.room],
             call.num_values as usize,
             call.num_bits,
+            &mut missing,
         );
         same("refusal", number, text.number)?;
         same("state", numbers, reader_numbers(text.state))?;
+        same("missing bits", missing, text.missing)?;
         same_places("values", &out, &overwritten(values_before(), &text.values))?;
         let answer = decode::Answer {
             number,
             values: out[..text.values.len()].to_vec(),
             state: reader(numbers).ok_or("the state is none")?,
+            missing,
         };
         same_answer(fields, &answer.fields())?;
         state = text.state;
@@ -130,17 +134,26 @@ pub fn exhaustive(fields: &mut Fields<'_>) -> Agrees {
     let mut digest = 0;
     for last in 0..=255 {
         let stream = &[first, last][2 - usize::from(bytes)..];
-        let (values, state) = exhaustive::decoded(stream, width, count);
-        let mut numbers = [0, 0, 8, 0, 0];
+        let (values, state, text_missing) = exhaustive::decoded(stream, width, count);
+        let mut numbers = reader_numbers(decode::START);
         let mut out = [i16::MAX; 48];
+        let mut missing = u64::MAX;
         let room = usize::from(count);
-        let number = port::srl_decode(stream, &mut numbers, &mut out[..room], room, width);
+        let number = port::srl_decode(
+            stream,
+            &mut numbers,
+            &mut out[..room],
+            room,
+            width,
+            &mut missing,
+        );
         same("refusal", number, 0)?;
         same("state", numbers, reader_numbers(state))?;
+        same("missing bits", missing, text_missing)?;
         let text = overwritten(vec![i16::MAX; out.len()], &values);
         same_places("values", &out, &text)?;
         let state = reader(numbers).ok_or("the state is none")?;
-        digest = exhaustive::with_answer(digest, &out[..room], state);
+        digest = exhaustive::with_answer(digest, &out[..room], state, missing);
     }
     same_answer(fields, &digest.to_le_bytes())
 }

@@ -2,6 +2,7 @@
 
 use oracle::codecs::rfx::progressive::ComponentCodecQuant;
 use oracle::digest::with_bytes;
+use oracle::kinds::missing::{self, Missing};
 use oracle::kinds::progressive::ladder::{From, Step, Upgrade, answer_fields};
 use oracle::kinds::progressive::pixels;
 use oracle::kinds::progressive::tile::{self, Start};
@@ -11,14 +12,15 @@ use oracle::record::Fields;
 
 use super::{Agrees, same, same_answer, same_places};
 
-/// Has the port upgrade a tile: the refusal, or 0.
-fn upgrade(tile: &mut TileState, given: &Upgrade) -> u8 {
+/// Has the port upgrade a tile: the refusal, or 0, and the bits that were missing.
+fn upgrade(tile: &mut TileState, given: &Upgrade) -> (u8, Missing) {
     let tile::Fields {
         mut prog_quant,
         base_quant,
         use_reduce_extrapolate,
         ..
     } = tile::Fields::of(tile);
+    let mut missing = [u32::MAX; 2];
     let number = port::tile_decode_upgrade(
         port::Tile {
             coefficients: &mut tile.coefficients,
@@ -33,9 +35,10 @@ fn upgrade(tile: &mut TileState, given: &Upgrade) -> u8 {
         given.quality,
         given.srl.each_ref().map(Vec::as_slice),
         given.raw.each_ref().map(Vec::as_slice),
+        &mut missing,
     );
     tile.prog_quant = prog_quant.map(ComponentCodecQuant::of_bands);
-    number
+    (number, missing)
 }
 
 fn same_tile(port: &TileState, text: &TileState) -> Agrees {
@@ -59,11 +62,14 @@ pub fn upgrade_ladder(fields: &mut Fields<'_>) -> Agrees {
     same_answer(fields, &answer_fields(number, &tile))?;
     for index in 0..usize::from(steps) {
         let given = Step::read(fields).upgrade(&start, index, &text);
-        let text_number = given.apply(&mut text);
-        let number = upgrade(&mut tile, &given);
+        let (text_number, text_missing) = given.apply(&mut text);
+        let (number, missing) = upgrade(&mut tile, &given);
         same(&format!("upgrade {index}, refusal"), number, text_number)?;
+        let what = format!("upgrade {index}, missing bits");
+        same(&what, missing, text_missing)?;
         same_tile(&tile, &text).map_err(|what| format!("upgrade {index}, {what}"))?;
         same_answer(fields, &answer_fields(number, &tile))?;
+        same_answer(fields, &missing::fields(missing))?;
     }
     Ok(())
 }

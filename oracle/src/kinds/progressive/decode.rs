@@ -10,6 +10,7 @@ use super::{
     random_given, record_kind, refusal, short, typical,
 };
 use crate::digest::with_values;
+use crate::kinds::missing::{self, Missing};
 use crate::record::{Case, Recording};
 use oracle::random::Random;
 
@@ -17,7 +18,7 @@ pub const DECODE_UPGRADE: u8 = 36;
 
 /// Records all cases; the answer is the cases whose answers kind 35 makes wrong.
 pub fn record_all(recording: &mut Recording<'_>) -> io::Result<Vec<(u8, Case)>> {
-    let directed = [pairs(), shapes(), refusals(), streams()];
+    let directed = [pairs(), shapes(), refusals(), streams(), empty(), cuts()];
     record_kind(
         recording,
         DECODE_UPGRADE,
@@ -34,31 +35,42 @@ fn case(given: Given, srl: &[u8], raw: &[u8]) -> Case {
     case.given(&short(srl.len()));
     case.given(&short(raw.len()));
     let mut made = given.make();
-    let number = read(&given, srl, raw, &mut made);
+    let (number, missing) = read(&given, srl, raw, &mut made);
     case.answer(&[number]);
     case.answer(&digest(&made).to_le_bytes());
+    case.answer(&missing::fields(missing));
     case.given(srl);
     case.given(raw);
     case
 }
 
-/// What the text makes of the coefficients before the pass, and of the signs: the refusal, or 0.
-pub fn read(given: &Given, srl: &[u8], raw: &[u8], made: &mut Made) -> u8 {
+/// What the text makes of the coefficients before the pass, and of the signs: the refusal, or 0, and the
+/// bits that were missing.
+pub fn read(given: &Given, srl: &[u8], raw: &[u8], made: &mut Made) -> (u8, Missing) {
     let [_, before, sign] = given.lengths;
     let number = refusal(&[before, sign], &[given.prev, given.curr]);
-    if number == 0 {
-        progressive::decode_upgrade_pass(
-            srl,
-            raw,
-            &given.prev_quant(),
-            &given.curr_quant(),
-            given.use_reduce_extrapolate,
-            &mut made.before[..before],
-            &mut made.sign[..sign],
-        )
-        .expect("a stream causes no refusal");
+    if number != 0 {
+        return (number, [0; 2]);
     }
-    number
+    let missing = missing::of_pass(
+        srl,
+        raw,
+        &given.prev,
+        &given.curr,
+        given.use_reduce_extrapolate,
+        &made.sign,
+    );
+    progressive::decode_upgrade_pass(
+        srl,
+        raw,
+        &given.prev_quant(),
+        &given.curr_quant(),
+        given.use_reduce_extrapolate,
+        &mut made.before[..before],
+        &mut made.sign[..sign],
+    )
+    .expect("a stream causes no refusal");
+    (number, missing)
 }
 
 /// The coefficients and the signs, also those behind the slices, as one number.
@@ -194,6 +206,61 @@ fn streams() -> Vec<Case> {
         for cut in [1, 2, 3, 10] {
             cases.push(case(given, &srl[..srl.len() - cut], &raw));
             cases.push(case(given, &srl, &raw[..raw.len() - cut]));
+        }
+    }
+    cases
+}
+
+/// Streams of few bytes, at every width in both layouts: over zeros, where all places outside the bottom
+/// have an SRL value, and over known places, where all bits are raw ones. At positions 15 to 0 the counts
+/// of missing bits are known: of empty streams, and the most that there can be.
+fn empty() -> Vec<Case> {
+    let mut cases = Vec::new();
+    for use_reduce_extrapolate in LAYOUTS {
+        for width in 1..=15 {
+            let mut zeros = Given {
+                use_reduce_extrapolate,
+                prev: [width; 10],
+                curr: [0; 10],
+                ..typical(12)
+            };
+            zeros.shape.drop = 16;
+            let mut known = zeros;
+            known.shape.before = Before::Extreme;
+            for srl in [&[][..], &[0x01], &[0x10, 0x33]] {
+                cases.push(case(zeros, srl, &[]));
+            }
+            cases.push(case(zeros, &[], &[0x01]));
+            cases.push(case(known, &[], &[]));
+        }
+        let missing = |srl: &[u8], sign| {
+            let sign = [sign; COMPONENT];
+            missing::of_pass(srl, &[], &[15; 10], &[0; 10], use_reduce_extrapolate, &sign)
+        };
+        let raw = if use_reduce_extrapolate { 1215 } else { 960 };
+        assert_eq!(missing(&[], 0), [20, raw]);
+        assert_eq!(missing(&[0x10, 0x33], 0), [32_790, raw]);
+        assert_eq!(missing(&[], 1), [0, 61_440]);
+    }
+    cases
+}
+
+/// The writer's streams of a few passes, each cut at every length.
+fn cuts() -> Vec<Case> {
+    let mut cases = Vec::new();
+    for (seed, width) in (13..).zip([1, 2, 4, 3]) {
+        let mut given = typical(seed);
+        given.shape.density = 40;
+        given.curr = given.prev;
+        for band in 6..10 {
+            given.curr[band] -= width;
+        }
+        let (srl, raw) = written(&given);
+        for length in 0..=srl.len() {
+            cases.push(case(given, &srl[..length], &raw));
+        }
+        for length in 0..raw.len() {
+            cases.push(case(given, &srl, &raw[..length]));
         }
     }
     cases

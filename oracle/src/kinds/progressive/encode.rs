@@ -11,6 +11,7 @@ use super::{
     every_pair, lengths, random_given, record_kind, refusal, short, typical,
 };
 use crate::digest::with_bytes;
+use crate::kinds::missing::{self, Missing};
 use crate::kinds::room::Room;
 use crate::record::{Case, Recording};
 use oracle::random::Random;
@@ -63,6 +64,8 @@ pub struct Answer {
     pub outputs: [Vec<u8>; 2],
     /// The component after the pass was read.
     pub made: Made,
+    /// The bits that were missing then.
+    pub missing: Missing,
 }
 
 impl Answer {
@@ -73,6 +76,7 @@ impl Answer {
         fields.extend(self.written.map(short).concat());
         fields.extend(with_bytes(with_bytes(0, srl), raw).to_le_bytes());
         fields.extend(decode::digest(&self.made).to_le_bytes());
+        fields.extend(missing::fields(self.missing));
         fields
     }
 }
@@ -96,9 +100,12 @@ pub fn answer(given: &Given, rooms: [Room; 2]) -> Answer {
     } else {
         Default::default()
     };
+    let mut missing = [0; 2];
     if number == 0 {
         let [srl, raw] = &streams;
-        assert_eq!(decode::read(given, srl, raw, &mut made), 0);
+        let (read, bits) = decode::read(given, srl, raw, &mut made);
+        assert_eq!(read, 0);
+        missing = bits;
     }
     Answer {
         rooms,
@@ -106,6 +113,7 @@ pub fn answer(given: &Given, rooms: [Room; 2]) -> Answer {
         written: [streams[0].len(), streams[1].len()],
         outputs: streams.map(|stream| held(&stream)),
         made,
+        missing,
     }
 }
 

@@ -11,6 +11,7 @@ use super::tile::{Fields, Start, bad_fields, digest, random_start, typical};
 use super::{
     Before, COMPONENT, GREATEST, LAYOUTS, Shape, Signs, encode, load, record_kind, refusal,
 };
+use crate::kinds::missing::{self, Missing};
 use crate::record::{self, Case, Recording};
 
 pub const UPGRADE_LADDER: u8 = 40;
@@ -75,6 +76,8 @@ pub fn record_all(recording: &mut Recording<'_>) -> io::Result<Vec<(u8, Case)>> 
         refusals(),
         pass_numbers(),
         short_streams(),
+        empty(),
+        cuts(),
     ];
     record_kind(
         recording,
@@ -95,8 +98,9 @@ fn case(start: Start, from: From, steps: &[Step]) -> Case {
     for (index, step) in steps.iter().enumerate() {
         case.given(&step.bytes());
         let upgrade = step.upgrade(&start, index, &tile);
-        let number = upgrade.apply(&mut tile);
+        let (number, missing) = upgrade.apply(&mut tile);
         add_answer(&mut case, number, &tile);
+        case.answer(&missing::fields(missing));
     }
     case
 }
@@ -137,25 +141,45 @@ pub struct Upgrade {
 }
 
 impl Upgrade {
-    /// Upgrades a tile: the refusal, or 0. The text gives no refusal, and takes no number above 15
-    /// from the wire: it is asked only where there is none.
-    pub fn apply(&self, tile: &mut TileState) -> u8 {
+    /// Upgrades a tile: the refusal, or 0, and the bits that were missing. The text gives no refusal, and
+    /// takes no number above 15 from the wire: it is asked only where there is none.
+    pub fn apply(&self, tile: &mut TileState) -> (u8, Missing) {
         let Fields {
             prog_quant,
             base_quant,
             ..
         } = Fields::of(tile);
         let number = refusal(&[], &[self.rows, prog_quant, base_quant].concat());
-        if number == 0 {
-            tile.decode_upgrade(
-                self.srl.each_ref().map(Vec::as_slice),
-                self.raw.each_ref().map(Vec::as_slice),
-                self.rows.map(ComponentCodecQuant::of_bands),
-                self.quality,
-            )
-            .expect("a stream causes no refusal");
+        if number != 0 {
+            return (number, [0; 2]);
         }
-        number
+        let missing = self.missing(tile);
+        tile.decode_upgrade(
+            self.srl.each_ref().map(Vec::as_slice),
+            self.raw.each_ref().map(Vec::as_slice),
+            self.rows.map(ComponentCodecQuant::of_bands),
+            self.quality,
+        )
+        .expect("a stream causes no refusal");
+        (number, missing)
+    }
+
+    /// The bits that are missing in all three components.
+    fn missing(&self, tile: &TileState) -> Missing {
+        let mut sums = [0; 2];
+        for (k, prev) in Fields::of(tile).prog_quant.iter().enumerate() {
+            let [srl, raw] = missing::of_pass(
+                &self.srl[k],
+                &self.raw[k],
+                prev,
+                &self.rows[k],
+                tile.use_reduce_extrapolate,
+                &tile.sign[k],
+            );
+            sums[0] += srl;
+            sums[1] += raw;
+        }
+        sums
     }
 }
 
@@ -439,6 +463,49 @@ fn short_streams() -> Vec<Case> {
                 &[short; 3],
             ));
         }
+    }
+    cases
+}
+
+/// Zero tiles with positions 15, upgraded to the last bit at once, or by as few bits at a time as there
+/// are, by empty streams; in both layouts, and with the positions of one component alone moving.
+fn empty() -> Vec<Case> {
+    let mut cases = Vec::new();
+    for use_reduce_extrapolate in LAYOUTS {
+        let mut start = typical(90);
+        start.shape.drop = 16;
+        start.fields.use_reduce_extrapolate = use_reduce_extrapolate;
+        start.fields.prog_quant = [[15; 10]; 3];
+        let last = step(Rows::All(0), Streams::None);
+        cases.push(case(start, From::Loaded, &[last]));
+        let down = step(Rows::Down(1), Streams::None);
+        cases.push(case(start, From::Loaded, &[down, down, last]));
+        for k in 0..3 {
+            let mut alone = start;
+            alone.fields.prog_quant = [[0; 10]; 3];
+            alone.fields.prog_quant[k] = [15; 10];
+            cases.push(case(alone, From::Loaded, &[last]));
+        }
+    }
+    cases
+}
+
+/// The writer's streams, all cut, or those of one component alone.
+fn cuts() -> Vec<Case> {
+    let mut cases = Vec::new();
+    for lengths in [6, 7, 8, 9, 10, 11] {
+        let all = Step {
+            lengths,
+            ..step(Rows::Down(3), Streams::Cut)
+        };
+        let one = |k: usize| {
+            let mut streams = [Streams::Written; 3];
+            streams[k] = Streams::Cut;
+            Step { streams, ..all }
+        };
+        let steps = [one(0), one(1), one(2), all];
+        let seed = 100 + u64::from(lengths);
+        cases.push(case(typical(seed), From::Loaded, &steps));
     }
     cases
 }

@@ -9,6 +9,7 @@ use super::{
     BAD_WIDTHS, IMPOSSIBLE_STATE, MAX_KP, MOST_ROOM, NO_ROOM, long, random_width, record_kind,
     short,
 };
+use crate::kinds::missing;
 use crate::record::{Case, Fields, Recording};
 use oracle::random::Random;
 
@@ -18,7 +19,7 @@ pub const SRL_DECODE: u8 = 32;
 const LONGEST_RUN: usize = 1024;
 
 /// The decoder at the start of a stream.
-const START: DecoderState = DecoderState {
+pub const START: DecoderState = DecoderState {
     byte_idx: 0,
     bit_idx: 0,
     kp: 8,
@@ -44,6 +45,8 @@ pub struct Answer {
     pub number: u8,
     pub values: Vec<i16>,
     pub state: DecoderState,
+    /// How many of the bits that the call read came from past the stream's end.
+    pub missing: u64,
 }
 
 impl Call {
@@ -63,6 +66,7 @@ impl Answer {
         let mut fields = vec![self.number];
         fields.extend(short(self.values.len()));
         fields.extend(state_fields(self.state));
+        fields.extend(self.missing.to_le_bytes());
         for value in &self.values {
             fields.extend(value.to_le_bytes());
         }
@@ -92,6 +96,9 @@ pub fn record_all(recording: &mut Recording<'_>) -> io::Result<Vec<(u8, Case)>> 
         states(),
         refusals(),
         places(),
+        known_missing(),
+        past_the_end(),
+        cuts(),
     ];
     record_kind(
         recording,
@@ -151,6 +158,7 @@ pub fn answer(stream: &[u8], state: DecoderState, call: Call) -> Answer {
         number,
         values: Vec::new(),
         state,
+        missing: 0,
     };
     if !possible(state) {
         return refused(IMPOSSIBLE_STATE);
@@ -190,6 +198,7 @@ fn decoded(stream: &[u8], state: DecoderState, call: Call) -> Result<Option<Answ
         number: 0,
         values,
         state: reach::decoder_state(&decoder),
+        missing: missing::of_values(stream, state, left as usize, call.num_bits),
     }))
 }
 
@@ -432,6 +441,74 @@ fn places() -> Vec<Case> {
                 cases.push(case(&[0xD2, 0x9F], state, &[exact(3, 3), exact(2, 4)]));
             }
         }
+    }
+    cases
+}
+
+/// Counts of missing bits that are known: 4 at width 2 from the last bit of `01`, which is refused at
+/// width 16, and 32,761 of `80` at width 15; and the same at every width.
+fn known_missing() -> Vec<Case> {
+    let last_bit = DecoderState {
+        bit_idx: 7,
+        ..START
+    };
+    assert_eq!(missing::of_values(&[0x01], last_bit, 1, 2), 4);
+    assert_eq!(missing::of_values(&[0x80], START, 1, 15), 32_761);
+    let mut cases = vec![case(&[0x01], last_bit, &[exact(1, 16), exact(1, 2)])];
+    for width in 1..=15 {
+        cases.push(case(&[0x80], START, &[exact(1, width), exact(1, width)]));
+        cases.push(case(&[0x01], last_bit, &[exact(1, width), exact(9, width)]));
+    }
+    cases
+}
+
+/// A place past the end, byte 9, bit 3 of two bytes, with each kp, with and without a run and a value
+/// that waits: every bit that is read is missing.
+fn past_the_end() -> Vec<Case> {
+    let mut cases = Vec::new();
+    for kp in (0..=MAX_KP).step_by(8) {
+        for zero_run_remaining in [0, 2] {
+            for nonzero_pending in [false, true] {
+                let state = DecoderState {
+                    byte_idx: 9,
+                    bit_idx: 3,
+                    kp,
+                    zero_run_remaining,
+                    nonzero_pending,
+                };
+                let calls = [exact(2, 5), exact(1, 5), exact(40, 3), exact(0, 3)];
+                cases.push(case(&[0xD2, 0x9F], state, &calls));
+            }
+        }
+    }
+    cases
+}
+
+/// Streams of the text cut at every length: of each width, in one call and in several, and one of several
+/// widths.
+fn cuts() -> Vec<Case> {
+    let mut cases = Vec::new();
+    for width in 1..=15 {
+        let most = ((1i32 << width) - 1).min(9) as i16;
+        let values = vec![0, most, 0, 0, 0, -1, 0, -most, 0];
+        let stream = written(&[(values, width)]);
+        for length in 0..=stream.len() {
+            let cut = &stream[..length];
+            cases.push(case(cut, START, &[exact(9, width)]));
+            let calls = [exact(2, width), exact(3, width), exact(4, width)];
+            cases.push(case(cut, START, &calls));
+        }
+    }
+    let widths = [
+        (vec![0, 3, -1, 0, 0], 2),
+        (vec![0; 30], 1),
+        (vec![-20, 0, 0, 7], 5),
+        (vec![0, 0, 0, -1], 1),
+    ];
+    let stream = written(&widths);
+    let calls = widths.map(|(values, width)| exact(values.len(), width));
+    for length in 0..=stream.len() {
+        cases.push(case(&stream[..length], START, &calls));
     }
     cases
 }

@@ -2,10 +2,11 @@
 
 use std::io;
 
-use oracle::srl::SrlDecoder;
 use oracle::srl::reach::{self, DecoderState};
 
+use super::decode::START;
 use crate::digest::{mixed, with_values};
+use crate::kinds::missing;
 use crate::record::{Kind, Recording};
 
 pub const SRL_EXHAUSTIVE: Kind = Kind {
@@ -38,27 +39,30 @@ fn digest(begin: &[u8], width: u8, count: u8) -> u64 {
     let mut digest = 0;
     for last in 0..=255 {
         let stream = [begin, &[last]].concat();
-        let (values, state) = decoded(&stream, width, count);
-        digest = with_answer(digest, &values, state);
+        let (values, state, missing) = decoded(&stream, width, count);
+        digest = with_answer(digest, &values, state, missing);
     }
     digest
 }
 
-/// What the text decodes from a stream, and the state then.
-pub fn decoded(stream: &[u8], width: u8, count: u8) -> (Vec<i16>, DecoderState) {
-    let mut decoder = SrlDecoder::new(stream).expect("every stream is one");
+/// What the text decodes from a stream, the state then, and how many bits were missing.
+pub fn decoded(stream: &[u8], width: u8, count: u8) -> (Vec<i16>, DecoderState, u64) {
+    let count = usize::from(count);
+    let mut decoder = reach::decoder(stream, START);
     let values = decoder
-        .decode(usize::from(count), width)
+        .decode(count, width)
         .expect("the width is one the decoder takes");
-    (values, reach::decoder_state(&decoder))
+    let missing = missing::of_values(stream, START, count, width);
+    (values, reach::decoder_state(&decoder), missing)
 }
 
-/// A digest with the values of a stream more, and the state.
-pub fn with_answer(digest: u64, values: &[i16], state: DecoderState) -> u64 {
+/// A digest with the values of a stream more, the state, and the count of missing bits.
+pub fn with_answer(digest: u64, values: &[i16], state: DecoderState, missing: u64) -> u64 {
     let mut digest = with_values(digest, values.iter().copied());
     digest = mixed(digest, state.byte_idx as u64);
     digest = mixed(digest, u64::from(state.bit_idx));
     digest = mixed(digest, u64::from(state.kp));
     digest = mixed(digest, state.zero_run_remaining as u64);
-    mixed(digest, u64::from(state.nonzero_pending))
+    digest = mixed(digest, u64::from(state.nonzero_pending));
+    mixed(digest, missing)
 }

@@ -6,4 +6,4 @@ use Rattle.replay_passes.proofs.upgrade.read_back_agrees.Statement.{sta
 use Rattle.replay_passes.proofs.upgrade.read_back_agrees.Tie as tie
 
 pub read-back-agrees-spec : {M : Type 1} → statement M
-read-back-agrees-spec = tie.close (tie.spec (λ c. search needs) (λ c. search needs) (λ c. simp length-take (omega arith)) (λ c. simp length-take (omega arith)) (λ c κs. search needs) (λ c. search needs) (λ c. search needs) (λ c. search needs) (λ c κs. search needs) (λ c κs. search needs) (λ c. search needs) (λ c. search needs) (λ c. search needs))
+read-back-agrees-spec = tie.close (tie.spec (λ c. search needs) (λ c. search needs) (λ c. simp length-take (omega arith)) (λ c. simp length-take (omega arith)) (λ c κs. search needs) (λ c κs. search needs) (λ c. search needs) (λ c. search needs) (λ c. search needs) (λ c κs. search needs) (λ c. search needs) (λ c. search needs) (λ c. search needs))
