@@ -6,18 +6,14 @@ use Prim.Native.Nat.{ℕ, zero, suc, _+_, _-_, _*_, _≤_}
 use native.Mathlib.Omega.{arith}
 use lib.IntN.{ℤ}
 use lib.ListN.{length, replicate, length-append}
-use Rattle.fixed.specs.Fixed.{isZero}
-use Rattle.bands.specs.Bands.{spread}
 use Rattle.bands.specs.Positions.{rowInDomain}
 use Rattle.bands.proofs.Every.{both-true}
 use Rattle.bits.specs.Written.{bitsOf, bitsOfAll}
-use Rattle.bits.specs.Missing.{readNum, readNumbers, readZeros, missingIn}
 use Rattle.bits.proofs.Longer.{longer-bits, length-longer, numbers-same}
 use Rattle.bits.proofs.Missing.{missing-num, none-missing}
 use Rattle.bits.proofs.Packed.{length-pack}
 use Rattle.bits.proofs.Puts.{length-bitsOf}
 use Rattle.srl_decoder.specs.Srl.{Reader, start}
-use Rattle.srl_decoder.specs.Missing.{readValues}
 use Rattle.srl_decoder.proofs.Missing.{values-ended}
 use Rattle.srl_decoder.proofs.Longer.{values-same}
 use Rattle.upgrade_steps.specs.Steps.{Step, Source, skipped, srl, raw, source, steps, srlWidths, rawWidth, rawWidths}
@@ -117,9 +113,8 @@ raw-longer ts rawData ss k = omega (arith, raw-past ts (rawData ++ replicate k 0
 
 -- ════ the statement ════
 
--- in its parts; the figures compute
+-- in its parts
 pub missing : PassMissingBits
-unfolding spread srlWidths rawWidths isZero readValues readNumbers readNum readZeros missingIn
 missing = record {
   whole = λ cs ps ss prev curr e srlOut rawOut n.
       let t = taken cs ps ss prev curr e srlOut rawOut n in
@@ -134,8 +129,6 @@ missing = record {
       let n : ℕ = rawBits ts ss in
       none-missing rawData 0 n (omega arith) (omega (arith, raw-past ts rawData ss, missing-num rawData 0 (n - 0)));
   most = most;
-  empty-standard = refl;
-  empty-extrapolated = refl;
   longer = longer;
   longer-call = λ srlData rawData prev curr e cs ss j k.
       let l = longer (steps e prev curr) srlData rawData cs ss j k in

@@ -1,10 +1,10 @@
 -- How much of the two streams of a pass was missing, as a statement: what both counts say, and what they can be.
 -- Where it speaks of steps, it holds for every list of them.
 use mathlib.Core.Path.{_≡_}
-use mathlib.Core.Bool.{Bool, true, false}
+use mathlib.Core.Bool.{Bool}
 use mathlib.Core.List.{List, [], _∷_, _++_}
 use Prim.Native.Nat.{ℕ, _+_, _-_, _*_, _≤_}
-use lib.IntN.{ℤ, pos}
+use lib.IntN.{ℤ}
 use lib.ListN.{length, replicate}
 use Rattle.bits.specs.Missing.{InStream}
 use Rattle.srl_decoder.specs.Srl.{start, readerAfter}
@@ -43,9 +43,6 @@ pub record PassMissingBits : Type 0 where
   -- a call misses at most 32,790 bits of the SRL stream and 61,440 of the raw stream, whatever it is given
   pub most : (srlData rawData prev curr : List ℕ) (e : Bool) (cs ss : List ℤ)
       → (decodeMissing srlData rawData prev curr e cs ss .srl ≤ 32790) × (decodeMissing srlData rawData prev curr e cs ss .raw ≤ 61440)
-  -- with both streams empty and every sign 0, from positions 15 to 0, it misses 20 and 960 bits in the standard layout, 20 and 1,215 in the other
-  pub empty-standard : passMissing (steps false (replicate 10 15) (replicate 10 0)) [] [] (replicate 4096 (pos 0)) ≡ missingBits 20 960
-  pub empty-extrapolated : passMissing (steps true (replicate 10 15) (replicate 10 0)) [] [] (replicate 4096 (pos 0)) ≡ missingBits 20 1215
   -- j and k zero bytes behind the streams change no coefficient and no sign
   pub longer : (ts : List Step) (srlData rawData : List ℕ) (cs ss : List ℤ) (j k : ℕ)
       → (upgradedCoefficients ts (srlData ++ replicate j 0) (rawData ++ replicate k 0) cs ss ≡ upgradedCoefficients ts srlData rawData cs ss)
