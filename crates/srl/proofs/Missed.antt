@@ -2,7 +2,7 @@
 use mathlib.Core.Path.{_≡_, refl, sym, ap, ap₂, _∙_}
 use mathlib.Core.Bool.{Bool, true, false, not, _||_, true≢false}
 use mathlib.Core.List.{List, _++_}
-use Prim.Native.Nat.{ℕ, zero, suc, _+_, _*_, _≤_}
+use Prim.Native.Nat.{ℕ, zero, suc, _+_, _≤_}
 use native.Mathlib.Omega.{arith}
 use lib.IntN.{ℤ}
 use lib.ListN.{length, replicate, length-replicate}
@@ -14,7 +14,6 @@ use Rattle.answer.proofs.Numbers.{first-none, unless-none, has-room}
 use Rattle.srl_rules.specs.Rules.{widthOk}
 use Rattle.srl_rules.proofs.Widths.{widthOk-width}
 use Rattle.srl_decoder.specs.Srl.{Reader, readerAfter}
-use Rattle.srl_decoder.specs.Missing.{valuesMissing}
 use Rattle.srl_decoder.specs.Decode.{opened, stateAfter, missingFrom, stateOk, dueAmong, widthFine, decodeRefusal, decodeAnswer, decodeOut, decoded, decodedMissing}
 use Rattle.srl_decoder.specs.declared.SrlState.{SrlState}
 use Rattle.srl_decoder.proofs.States.{stateOk-sound}

@@ -1,17 +1,17 @@
 -- The bits that the decoder reads for some values are those between its two places, each once: how many of them are missing, in closed form.
 use mathlib.Core.Path.{_≡_, refl, sym, ap, ap₂, _∙_}
 use mathlib.Core.Bool.{Bool, true, false, cond}
-use mathlib.Core.List.{List, [], _∷_, _++_, append-nil}
+use mathlib.Core.List.{List, [], _∷_, _++_}
 use Prim.Native.Nat.{ℕ, zero, suc, _+_, _-_, _*_, _/_, _^_, _≤_, min}
 use native.Mathlib.Numerals.{add-one}
 use native.Mathlib.Omega.{arith}
 use lib.ListN.{length, replicate}
-use Rattle.bits.specs.Bits.{bitAt, num, zeros, zerosLength}
-use Rattle.bits.specs.Missing.{BitRead, readBit, readNum, readZeros, missingIn, InStream}
-use Rattle.bits.proofs.Past.{Alike, alike-on, bit-alike, zeros-alike}
+use Rattle.bits.specs.Bits.{bitAt, num, zerosLength}
+use Rattle.bits.specs.Missing.{BitRead, readBit, readNum, missingIn, InStream}
+use Rattle.bits.proofs.Past.{alike-on}
 use Rattle.bits.proofs.Missing.{missing-append, missing-num, none-missing, num-join, zeros-read, read-alike, num-read-alike, zeros-read-alike}
 use Rattle.srl_decoder.specs.Srl.{Reader, reader, mostZeros, behind, codeWord, ready, past, readied, nextReader, readerAfter}
-use Rattle.srl_decoder.specs.Missing.{readNonzero, readCodeWord, readReady, readValue, readNext, readValues, valuesMissing}
+use Rattle.srl_decoder.specs.Missing.{readCodeWord, readReady, readValue, readNext, readValues, valuesMissing}
 use Rattle.srl_decoder.specs.Decode.{dueAmong}
 use Rattle.srl_decoder.proofs.Codes.{ready-mono}
 use Rattle.srl_decoder.proofs.States.{past-mono, after-mono}
