@@ -12,9 +12,6 @@ use lib.IntN.{ℤ, pos}
 use lib.ListN.{length, getD, set, take, drop, replicate, length-set, length-replicate, take-append-drop}
 use lib.Seq.{take-suc-set, drop-set-lt, append-snoc, set-getD, getD-set-same, getD-set-other}
 use Rattle.srl_decoder.specs.Srl.{Reader, reader, nonzero, behind, nextValue, nextReader, values, readerAfter}
-use Rattle.bits.specs.Bits.{bitsRead, placeOf}
-use Rattle.bits.specs.declared.reader.BitReader.{BitReader}
-use Rattle.bits.proofs.Places.{read-place}
 use Rattle.srl_decoder.specs.Inner.{Same, Brought, Clear}
 use Rattle.srl_decoder.specs.declared.decoder.CodesRead.{CodesRead}
 use Rattle.srl_decoder.proofs.Chains.{zeros-brought}
@@ -128,40 +125,35 @@ module _ (s : List ℕ) (w : ℕ) where
       ∙ fill-value (n - j) j at kp out (omega arith)
       ∙ (λ i. fill s w (f i) (j + 1) (reader (behind s at w) kp (g i) false) (set out j (nonzero s at w)))
 
-  -- what a turn does that reads on from place j and stops at place j′
-  pub record Turned (n j at kp : ℕ) (p : Bool) (out : List ℤ) (j′ kp′ : ℕ) (next : BitReader) (p′ : Bool) (out′ : List ℤ) : Type 0 where
-    pub low : next .«bit_idx» ≤ 7
+  -- what a turn does that reads on from place j and stops at place j′, behind at′ bits
+  pub record Turned (n j at kp : ℕ) (p : Bool) (out : List ℤ) (j′ kp′ at′ : ℕ) (p′ : Bool) (out′ : List ℤ) : Type 0 where
     pub nearer : n - j′ < n - j
     pub long : length out′ ≡ length out
     pub clear : Clear out′ j′ n
-    pub left : rest n j at kp p out ≡ rest n j′ (bitsRead next) kp′ p′ out′
+    pub left : rest n j at kp p out ≡ rest n j′ at′ kp′ p′ out′
 
   -- code words, with no value due behind them: they bring zeros, or go past the last place
-  pub turn-codes : (n j at kp : ℕ) (p : Bool) (out : List ℤ) (r : CodesRead) (next : BitReader) → j < n → Clear out j n → Brought s at kp p (n - j) r
-      → (r .pending ≡ true → n ≤ j + r .run) → next ≡ placeOf (at + r .taken) → Turned n j at kp p out (j + r .run) (r .kp) next (r .pending) out
-  turn-codes n j at kp p out r next h c b d e =
-      let read : at + r .taken ≡ bitsRead next = sym (ap bitsRead e ∙ read-place (at + r .taken)) in
+  pub turn-codes : (n j at kp : ℕ) (p : Bool) (out : List ℤ) (r : CodesRead) → j < n → Clear out j n → Brought s at kp p (n - j) r
+      → (r .pending ≡ true → n ≤ j + r .run) → Turned n j at kp p out (j + r .run) (r .kp) (at + r .taken) (r .pending) out
+  turn-codes n j at kp p out r h c b d =
       record {
-        low = omega (arith, ap (λ (q : BitReader). q .«bit_idx») e);
         nearer = omega (arith, zeros-brought s at kp p (n - j) n j r b h d);
         long = refl;
         clear = λ i x y. c i (omega arith) y;
-        left = rest-codes n j at kp (r .run) (at + r .taken) (r .kp) p (r .pending) out h c (b .same) ∙ ap (λ (m : ℕ). rest n (j + r .run) m (r .kp) (r .pending) out) read;
+        left = rest-codes n j at kp (r .run) (at + r .taken) (r .kp) p (r .pending) out h c (b .same);
       }
 
   -- code words, and the value behind them
-  pub turn-value : (n j at kp : ℕ) (p : Bool) (out : List ℤ) (r : CodesRead) (next : BitReader) (v : ℤ) → Clear out j n → Brought s at kp p (n - j) r
-      → (r .pending ≡ true) × (j + r .run < n) → v ≡ nonzero s (at + r .taken) w → next ≡ placeOf (behind s (at + r .taken) w)
-      → Turned n j at kp p out (j + r .run + 1) (r .kp) next false (set out (j + r .run) v)
-  turn-value n j at kp p out r next v c b d f e =
-      let read : behind s (at + r .taken) w ≡ bitsRead next = sym (ap bitsRead e ∙ read-place (behind s (at + r .taken) w)) in
+  pub turn-value : (n j at kp : ℕ) (p : Bool) (out : List ℤ) (r : CodesRead) (at′ : ℕ) (v : ℤ) → Clear out j n → Brought s at kp p (n - j) r
+      → (r .pending ≡ true) × (j + r .run < n) → v ≡ nonzero s (at + r .taken) w → at′ ≡ behind s (at + r .taken) w
+      → Turned n j at kp p out (j + r .run + 1) (r .kp) at′ false (set out (j + r .run) v)
+  turn-value n j at kp p out r at′ v c b d f e =
       record {
-        low = omega (arith, ap (λ (q : BitReader). q .«bit_idx») e);
         nearer = omega (arith, d .1);
         long = length-set out (j + r .run) v;
         clear = clear-behind out (j + r .run) n v (λ i x y. c i (omega arith) y);
         left = rest-codes n j at kp (r .run) (at + r .taken) (r .kp) p (r .pending) out (omega (arith, d .1)) c (b .same)
-            ∙ rest-value n (j + r .run) (at + r .taken) (r .kp) (r .pending) out (d .1) (d .0) ∙ (λ i. rest n (j + r .run + 1) (read i) (r .kp) false (set out (j + r .run) (sym f i)));
+            ∙ rest-value n (j + r .run) (at + r .taken) (r .kp) (r .pending) out (d .1) (d .0) ∙ (λ i. rest n (j + r .run + 1) (sym e i) (r .kp) false (set out (j + r .run) (sym f i)));
       }
 
   -- the reader has not come further than it will

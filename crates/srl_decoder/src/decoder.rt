@@ -266,19 +266,21 @@ fn store_values(src: &[u8], st: SrlState, out: &mut [i16], n: usize, num_bits: u
         let place = bits::reader::BitReader { byte_idx, bit_idx };
         let a = bits::reader::ahead(src, place);
         let c = up_to_value(a, kp, pending, n - j);
-        let mut next = bits::reader::skip(place, c.taken);
+        let mut taken = c.taken;
         kp = c.kp;
         pending = c.pending;
         j += c.run;
         if due(c.pending, j, n) {
-            let taken = c.taken as u32;
-            let have = 64 - bit_idx as u32 - taken;
-            let v = decode_nonzero(src, next, bits::reader::behind(a, taken), have, num_bits);
+            let codes = c.taken as u32;
+            let have = 64 - bit_idx as u32 - codes;
+            let at = bits::reader::skip(place, c.taken);
+            let v = decode_nonzero(src, at, bits::reader::behind(a, codes), have, num_bits);
             out[j] = fixed::with_sign(v.magnitude, v.negative);
-            next = bits::reader::skip(next, v.taken);
+            taken += v.taken;
             pending = false;
             j += 1;
         }
+        let next = bits::reader::skip(place, taken);
         byte_idx = next.byte_idx;
         bit_idx = next.bit_idx;
     }

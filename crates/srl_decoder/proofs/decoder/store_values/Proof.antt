@@ -1,17 +1,17 @@
 -- `srl_decoder::decoder::store_values` meets its contract: a turn reads code words and a nonzero value behind them, and what is left to store stays the same. Assumes nothing.
 use mathlib.Core.Path.{_≡_, refl, sym, ap, ap₂, _∙_}
 use mathlib.Core.List.{List, _++_}
-use mathlib.Core.Bool.{false}
+use mathlib.Core.Logic.{⊎-elim}
 use Prim.Native.Nat.{ℕ, _+_, _-_, _*_, _≤_}
 use native.Mathlib.Nat.{zero-add}
 use native.Mathlib.Omega.{arith}
 use lib.IntN.{ℤ}
-use lib.ListN.{length, set, drop, replicate}
+use lib.ListN.{length, drop, replicate}
 use mir.Syntax.{w16}
 use mir.Val.{toZ, ofZ}
 use Rattle.fixed.specs.Fixed.{clampI16, withSign}
 use Rattle.fixed.proofs.Machine.{got}
-use Rattle.bits.specs.Bits.{bitAt, zeros, bitsRead, placeOf}
+use Rattle.bits.specs.Bits.{bitAt, zeros, bitsRead}
 use Rattle.bits.specs.declared.reader.BitReader.{BitReader}
 use Rattle.bits.proofs.Places.{read-place}
 use Rattle.bits.proofs.Tops.{front-skip}
@@ -57,24 +57,24 @@ brings c =
     let l = c .before .before .before .loop in
     c .up-to-value .ensures (c .before .before .before .before .before .before .before .before .before .args .src .now) (8 * l .byte-idx + l .bit-idx) (64 - l .bit-idx) (c .before .ahead .ensures) (omega (arith, l .inv .0))
 
-skip-requires : tie.Need-skip-requires Inv-loop μ-loop
-skip-requires c κs = let l = c .before .before .before .loop in (l .inv .0, omega (arith, l .inv .2, brings c .near, c .before .before .before .before .before .before .before .before .before .pre .4, c .before .before .before .before .before .before .before .before .before .good))
-
--- the place behind them
-next : (c : tie.After-skip Inv-loop μ-loop) → bitsRead (c .skip .result) ≡ 8 * c .before .before .before .before .loop .byte-idx + c .before .before .before .before .loop .bit-idx + c .before .up-to-value .result .taken
-next c = ap bitsRead (c .skip .ensures) ∙ read-place _
-
 add-j : tie.Need-add-j Inv-loop μ-loop
-add-j c = record { fits = omega (arith, brings (c .before .before) .run-low, c .before .before .before .before .loop-test .taken, c .before .before .before .before .before .before .before .before .before .before .before .pre .4, c .before .before .before .before .before .before .before .before .before .before .before .good) }
+add-j c = record { fits = omega (arith, brings (c .before) .run-low, c .before .before .before .loop-test .taken, c .before .before .before .before .before .before .before .before .before .before .pre .4, c .before .before .before .before .before .before .before .before .before .before .good) }
 
-cast-taken : tie.Need-cast-taken Inv-loop μ-loop
-cast-taken c = record { fits = omega (arith, brings (c .before .before .before .before .before) .near) }
+cast-codes : tie.Need-cast-codes Inv-loop μ-loop
+cast-codes c = record { fits = omega (arith, brings (c .before .before .before .before) .near) }
 
 sub-have : tie.Need-sub-have Inv-loop μ-loop
-sub-have c = omega (arith, c .before .before .before .before .before .before .before .before .loop .inv .0)
+sub-have c = omega (arith, c .before .before .before .before .before .before .before .loop .inv .0)
 
 sub-have-2 : tie.Need-sub-have-2 Inv-loop μ-loop
-sub-have-2 c = omega (arith, c .before .before .before .before .before .before .before .before .loop .inv .0, brings (c .before .before .before .before .before) .near)
+sub-have-2 c = omega (arith, c .before .before .before .before .before .before .before .loop .inv .0, brings (c .before .before .before .before) .near)
+
+skip-requires : tie.Need-skip-requires Inv-loop μ-loop
+skip-requires c κs = let l = c .before .before .before .before .before .before .before .loop in (l .inv .0, omega (arith, l .inv .2, brings (c .before .before .before .before) .near, c .before .before .before .before .before .before .before .before .before .before .before .before .before .pre .4, c .before .before .before .before .before .before .before .before .before .before .before .before .before .good))
+
+-- the place behind the code words
+value-at : (c : tie.After-skip Inv-loop μ-loop) → bitsRead (c .skip .result) ≡ 8 * c .before .before .before .before .before .before .before .before .loop .byte-idx + c .before .before .before .before .before .before .before .before .loop .bit-idx + c .before .before .before .before .before .up-to-value .result .taken
+value-at c = ap bitsRead (c .skip .ensures) ∙ read-place _
 
 behind-requires : tie.Need-behind-requires Inv-loop μ-loop
 behind-requires c κs = omega (arith, brings (c .before .before .before .before .before) .near)
@@ -84,81 +84,78 @@ decode-nonzero-requires c κs =
     let k = c .before .before .before .before .before .before .before .before .before .before .before .before .before .before .before in
     let l = c .before .before .before .before .before .before .before .before .before .loop in
     let near = brings (c .before .before .before .before .before .before) .near in
-    let e = next (c .before .before .before .before .before) in
+    let e = value-at (c .before) in
     let v = 64 - l .bit-idx in
     let m = c .before .before .before .before .before .before .up-to-value .result .taken in (
-      omega (arith, ap (λ (r : BitReader). r .«bit_idx») (c .before .before .before .before .before .skip .ensures)),
+      omega (arith, ap (λ (r : BitReader). r .«bit_idx») (c .before .skip .ensures)),
       omega (arith, e, near, l .inv .2, k .pre .4, k .good),
       k .pre .3,
       omega (arith, near, l .inv .0),
       rw (e, c .behind .ensures) (front-skip v m _ (c .before .before .before .before .before .before .before .ahead .result) (k .args .src .now) (8 * l .byte-idx + l .bit-idx) (c .before .before .before .before .before .before .before .ahead .ensures) (omega (arith, near, l .inv .0))),
     )
 
-mul-t29 : tie.Need-mul-t29 Inv-loop μ-loop
-mul-t29 c = record { fits = omega (arith, c .before .before .before .before .before .due .ensures .0 (c .before .before .before .before .if1 .taken) .1, c .before .before .before .before .before .before .before .before .before .before .before .before .before .before .before .before .before .pre .4, c .before .before .before .before .before .before .before .before .before .before .before .before .before .before .before .before .before .good) }
+mul-t31 : tie.Need-mul-t31 Inv-loop μ-loop
+mul-t31 c = record { fits = omega (arith, c .before .before .before .before .before .before .due .ensures .0 (c .before .before .before .before .before .if1 .taken) .1, c .before .before .before .before .before .before .before .before .before .before .before .before .before .before .before .before .before .pre .4, c .before .before .before .before .before .before .before .before .before .before .before .before .before .before .before .before .before .good) }
 
 slice-set-from-out : tie.Need-slice-set-from-out Inv-loop μ-loop
-slice-set-from-out c = omega (arith, c .before .before .before .before .before .due .ensures .0 (c .before .before .before .before .if1 .taken) .1, c .before .before .before .before .before .before .before .before .before .before .before .loop .inv .3, c .before .before .before .before .before .before .before .before .before .before .before .before .before .before .clear .kept .0, c .before .before .before .before .before .before .before .before .before .before .before .before .before .before .before .before .before .pre .4)
+slice-set-from-out c = omega (arith, c .before .before .before .before .before .before .due .ensures .0 (c .before .before .before .before .before .if1 .taken) .1, c .before .before .before .before .before .before .before .before .before .before .before .loop .inv .3, c .before .before .before .before .before .before .before .before .before .before .before .before .before .before .clear .kept .0, c .before .before .before .before .before .before .before .before .before .before .before .before .before .before .before .before .before .pre .4)
 
-skip-requires-2 : tie.Need-skip-requires-2 Inv-loop μ-loop
-skip-requires-2 c κs =
-    let e = next (c .before .before .before .before .before .before .before) in (
-      omega (arith, ap (λ (r : BitReader). r .«bit_idx») (c .before .before .before .before .before .before .before .skip .ensures)),
-      omega (arith, e, brings (c .before .before .before .before .before .before .before .before) .near, c .before .before .before .before .before .before .before .before .before .before .before .loop .inv .2, c .before .decode-nonzero .ensures .3, c .before .before .before .before .before .before .before .before .before .before .before .before .before .before .before .before .before .pre .4, c .before .before .before .before .before .before .before .before .before .before .before .before .before .before .before .before .before .good),
-    )
+add-taken : tie.Need-add-taken Inv-loop μ-loop
+add-taken c = record { fits = omega (arith, brings (c .before .before .before .before .before .before .before .before .before) .near, c .before .before .decode-nonzero .ensures .3) }
 
 add-j-2 : tie.Need-add-j-2 Inv-loop μ-loop
-add-j-2 c = record { fits = omega (arith, c .before .before .before .before .before .before .due .ensures .0 (c .before .before .before .before .before .if1 .taken) .1, c .before .before .before .before .before .before .before .before .before .before .before .before .before .before .before .before .before .before .good) }
+add-j-2 c = record { fits = omega (arith, c .before .before .before .before .before .before .before .due .ensures .0 (c .before .before .before .before .before .before .if1 .taken) .1, c .before .before .before .before .before .before .before .before .before .before .before .before .before .before .before .before .before .before .good) }
 
--- what a turn does with a value behind its code words, and without one
-turned : (c : tie.After-skip2 Inv-loop μ-loop)
-    → Turned (c .before .before .before .before .before .before .before .before .before .before .before .before .before .before .before .before .before .before .args .src .now) (c .before .before .before .before .before .before .before .before .before .before .before .before .before .before .before .before .before .before .args .num-bits) (c .before .before .before .before .before .before .before .before .before .before .before .before .before .before .before .before .before .before .args .n) (c .before .before .before .before .before .before .before .before .before .before .before .before .loop .j) (8 * c .before .before .before .before .before .before .before .before .before .before .before .before .loop .byte-idx + c .before .before .before .before .before .before .before .before .before .before .before .before .loop .bit-idx) (c .before .before .before .before .before .before .before .before .before .before .before .before .loop .kp) (c .before .before .before .before .before .before .before .before .before .before .before .before .loop .pending) (c .before .before .before .before .before .before .before .before .before .before .before .before .loop .out)
-    (c .before .before .before .before .before .before .before .before .before .before .before .before .loop .j + c .before .before .before .before .before .before .before .before .before .up-to-value .result .run + 1) (c .before .before .before .before .before .before .before .before .before .up-to-value .result .kp) (c .skip2 .result) false
-    (set (c .before .before .before .before .before .before .before .before .before .before .before .before .loop .out) (c .before .before .before .before .before .before .before .before .before .before .before .before .loop .j + c .before .before .before .before .before .before .before .before .before .up-to-value .result .run) (toZ w16 (ofZ w16 (c .before .with-sign .result))))
+-- a turn takes few bits
+few : (c : tie.Joined1 Inv-loop μ-loop) → c .if1 .taken ≤ 32809
+few c = ⊎-elim
+    (λ p. omega (arith, p .10, brings (c .before .before .before) .near, p .4 .ensures .3))
+    (λ p. omega (arith, p .4, brings (c .before .before .before) .near))
+    (c .if1 .came)
+
+-- what the turn does
+turned : (c : tie.Joined1 Inv-loop μ-loop)
+    → Turned (c .before .before .before .before .before .before .before .before .before .before .before .before .args .src .now) (c .before .before .before .before .before .before .before .before .before .before .before .before .args .num-bits) (c .before .before .before .before .before .before .before .before .before .before .before .before .args .n) (c .before .before .before .before .before .before .loop .j) (8 * c .before .before .before .before .before .before .loop .byte-idx + c .before .before .before .before .before .before .loop .bit-idx) (c .before .before .before .before .before .before .loop .kp) (c .before .before .before .before .before .before .loop .pending) (c .before .before .before .before .before .before .loop .out)
+    (c .if1 .j) (c .before .before .before .up-to-value .result .kp) (8 * c .before .before .before .before .before .before .loop .byte-idx + c .before .before .before .before .before .before .loop .bit-idx + c .if1 .taken) (c .if1 .pending) (c .if1 .out)
 turned c =
-    let k = c .before .before .before .before .before .before .before .before .before .before .before .before .before .before .before .before .before .before in
+    let k = c .before .before .before .before .before .before .before .before .before .before .before .before in
     let s = k .args .src .now in
+    let n = k .args .n in
     let w = k .args .num-bits in
-    let l = c .before .before .before .before .before .before .before .before .before .before .before .before .loop in
+    let l = c .before .before .before .before .before .before .loop in
     let at = 8 * l .byte-idx + l .bit-idx in
-    let r = c .before .before .before .before .before .before .before .before .before .up-to-value .result in
-    let here = bitsRead (c .before .before .before .before .before .before .before .before .skip .result) in
-    let e = next (c .before .before .before .before .before .before .before .before) in
-    let v = c .before .before .decode-nonzero in
-    let made = c .before .with-sign in
+    let r = c .before .before .before .up-to-value .result in
+    let due = c .before .due .ensures in
+    ⊎-elim
+    (λ p.
+    let here = bitsRead (p .2 .result) in
+    let e : here ≡ at + r .taken = ap bitsRead (p .2 .ensures) ∙ read-place _ in
+    let v = p .4 in
+    let made = p .5 in
     let value : toZ w16 (ofZ w16 (made .result)) ≡ nonzero s (at + r .taken) w =
     got w16 (made .ok) (made .ensures ∙ (λ i. clampI16 (withSign (v .ensures .0 i) (v .ensures .1 i))) ∙ nonzero-is s here w (zeros s (here + 1) (mostZeros w)) (bitAt s here) (k .pre .3) refl refl ∙ ap (λ (m : ℕ). nonzero s m w) e) in
-    turn-value s w (k .args .n) (l .j) at (l .kp) (l .pending) (l .out) r (c .skip2 .result) (toZ w16 (ofZ w16 (made .result))) (l .inv .4) (brings (c .before .before .before .before .before .before .before .before .before)) (c .before .before .before .before .before .before .due .ensures .0 (c .before .before .before .before .before .if1 .taken)) value (c .skip2 .ensures ∙ ap placeOf (v .ensures .2 ∙ ap (λ (m : ℕ). behind s m w) e))
+    let ends : at + (r .taken + v .result .taken) ≡ behind s (at + r .taken) w = omega (arith, e, v .ensures .2) ∙ ap (λ (m : ℕ). behind s m w) e in
+    rw (p .7, p .8, p .9, p .10) (turn-value s w n (l .j) at (l .kp) (l .pending) (l .out) r (at + (r .taken + v .result .taken)) (toZ w16 (ofZ w16 (made .result))) (l .inv .4) (brings (c .before .before .before)) (due .0 (p .0 .taken)) value ends))
+    (λ p. rw (p .1, p .2, p .3, p .4) (turn-codes s w n (l .j) at (l .kp) (l .pending) (l .out) r (c .before .before .before .before .before .loop-test .taken) (l .inv .4) (brings (c .before .before .before)) (due .1 (p .0 .left))))
+    (c .if1 .came)
 
-turned-2 : (c : tie.Else1 Inv-loop μ-loop)
-    → Turned (c .before .before .before .before .before .before .before .before .before .before .before .before .before .args .src .now) (c .before .before .before .before .before .before .before .before .before .before .before .before .before .args .num-bits) (c .before .before .before .before .before .before .before .before .before .before .before .before .before .args .n) (c .before .before .before .before .before .before .before .loop .j) (8 * c .before .before .before .before .before .before .before .loop .byte-idx + c .before .before .before .before .before .before .before .loop .bit-idx) (c .before .before .before .before .before .before .before .loop .kp) (c .before .before .before .before .before .before .before .loop .pending) (c .before .before .before .before .before .before .before .loop .out)
-    (c .before .before .before .before .before .before .before .loop .j + c .before .before .before .before .up-to-value .result .run) (c .before .before .before .before .up-to-value .result .kp) (c .before .before .before .skip .result) (c .before .before .before .before .up-to-value .result .pending) (c .before .before .before .before .before .before .before .loop .out)
-turned-2 c =
-    let k = c .before .before .before .before .before .before .before .before .before .before .before .before .before in
-    let l = c .before .before .before .before .before .before .before .loop in
-    turn-codes (k .args .src .now) (k .args .num-bits) (k .args .n) (l .j) (8 * l .byte-idx + l .bit-idx) (l .kp) (l .pending) (l .out) (c .before .before .before .before .up-to-value .result) (c .before .before .before .skip .result) (c .before .before .before .before .before .before .loop-test .taken) (l .inv .4) (brings (c .before .before .before .before)) (c .before .due .ensures .1 (c .if1 .left)) (c .before .before .before .skip .ensures)
+skip-requires-2 : tie.Need-skip-requires-2 Inv-loop μ-loop
+skip-requires-2 c κs = let l = c .before .before .before .before .before .before .loop in (l .inv .0, omega (arith, l .inv .2, few c, c .before .before .before .before .before .before .before .before .before .before .before .before .pre .4, c .before .before .before .before .before .before .before .before .before .before .before .before .good))
 
 loop-less : tie.Need-loop-less Inv-loop μ-loop
-loop-less c = turned c .nearer
+loop-less c = turned (c .before) .nearer
 
 loop-again : tie.Need-loop-again Inv-loop μ-loop
 loop-again c =
-    let k = c .before .before .before .before .before .before .before .before .before .before .before .before .before .before .before .before .before .before in
-    let l = c .before .before .before .before .before .before .before .before .before .before .before .before .loop in
-    let t = turned c in
-    let left = l .inv .5 ∙ t .left in
-    (t .low, brings (c .before .before .before .before .before .before .before .before .before) .kp-low, rest-bound (k .args .src .now) (k .args .num-bits) (k .args .n) _ _ _ _ _ _ _ _ _ _ (k .pre .3 .1) (k .pre .1) (k .pre .2) left, t .long ∙ l .inv .3, t .clear, left)
-
-loop-less-2 : tie.Need-loop-less-2 Inv-loop μ-loop
-loop-less-2 c = turned-2 c .nearer
-
-loop-again-2 : tie.Need-loop-again-2 Inv-loop μ-loop
-loop-again-2 c =
     let k = c .before .before .before .before .before .before .before .before .before .before .before .before .before in
+    let a = k .args in
     let l = c .before .before .before .before .before .before .before .loop in
-    let t = turned-2 c in
-    let left = l .inv .5 ∙ t .left in
-    (t .low, brings (c .before .before .before .before) .kp-low, rest-bound (k .args .src .now) (k .args .num-bits) (k .args .n) _ _ _ _ _ _ _ _ _ _ (k .pre .3 .1) (k .pre .1) (k .pre .2) left, t .long ∙ l .inv .3, t .clear, left)
+    let q = c .before .if1 in
+    let kp = c .before .before .before .before .up-to-value .result .kp in
+    let t = turned (c .before) in
+    let read : 8 * l .byte-idx + l .bit-idx + q .taken ≡ bitsRead (c .skip2 .result) = sym (ap bitsRead (c .skip2 .ensures) ∙ read-place _) in
+    let left = l .inv .5 ∙ t .left ∙ ap (λ (m : ℕ). rest (a .src .now) (a .num-bits) (a .n) (q .j) m kp (q .pending) (q .out)) read in
+    (omega (arith, ap (λ (r : BitReader). r .«bit_idx») (c .skip2 .ensures)), brings (c .before .before .before .before) .kp-low, rest-bound (a .src .now) (a .num-bits) (a .n) _ _ _ _ _ _ _ _ _ _ (k .pre .3 .1) (k .pre .1) (k .pre .2) left, t .long ∙ l .inv .3, t .clear, left)
 
 -- the state at the end
 ends : (c : tie.After-state-of Inv-loop μ-loop) → bitsRead (c .state-of .result .reader) ≡ 8 * c .before .before .loop .byte-idx + c .before .before .loop .bit-idx
@@ -194,4 +191,4 @@ returns c =
 pub store-values-spec : {M : Type 1} → statement M
 store-values-spec =
     tie.close
-    (tie.spec Inv-loop μ-loop (λ c κs. search needs) loop-holds (λ c κs. search needs) (λ c. search needs) up-to-value-requires skip-requires add-j (λ c κs. search needs) cast-taken (λ c. search needs) sub-have sub-have-2 behind-requires decode-nonzero-requires (λ c κs. search needs) mul-t29 slice-set-from-out skip-requires-2 add-j-2 loop-less loop-again loop-less-2 loop-again-2 (λ c κs. search needs) ended-requires same-length returns)
+    (tie.spec Inv-loop μ-loop (λ c κs. search needs) loop-holds (λ c κs. search needs) (λ c. search needs) up-to-value-requires add-j (λ c κs. search needs) cast-codes (λ c. search needs) sub-have sub-have-2 skip-requires behind-requires decode-nonzero-requires (λ c κs. search needs) mul-t31 slice-set-from-out add-taken add-j-2 skip-requires-2 loop-less loop-again (λ c κs. search needs) ended-requires same-length returns)
