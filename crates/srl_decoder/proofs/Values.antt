@@ -2,26 +2,19 @@
 use mathlib.Core.Path.{_≡_, refl, ap, ap₂}
 use mathlib.Core.Bool.{Bool, true, false, cond}
 use mathlib.Core.List.{List, [], _∷_, _++_}
-use Prim.Native.Nat.{ℕ, zero, suc, _+_, _-_, _/_, _^_, _≤_, min}
+use Prim.Native.Nat.{ℕ, zero, suc, _+_, _-_, _/_, _^_, min}
 use lib.Dec.{ltb}
 use lib.IntN.{ℤ}
 use lib.ListN.{length}
 use Rattle.fixed.specs.Fixed.{withSign}
-use Rattle.bits.specs.Bits.{bitAt, num, zeros, bitsRead}
-use Rattle.bits.proofs.Places.{place-is, read-place}
+use Rattle.bits.specs.Bits.{bitAt, num, zeros}
+use Rattle.bits.proofs.Places.{read-place}
 use Rattle.bits.proofs.Past.{Alike, alike-held, alike-trans, alike-on, held-alike, bit-alike, num-alike, zeros-alike}
 use Rattle.srl_decoder.specs.Srl.{Reader, reader, mostZeros, codeWord, value, past, readied, nextValue, nextReader, values, readerAfter}
 use Rattle.srl_decoder.specs.Decode.{opened}
 use Rattle.srl_decoder.specs.Inner.{shut, heldReader}
-use Rattle.srl_decoder.specs.declared.SrlState.{SrlState}
 
 -- ════ readers and states ════
-
--- a state is the one that its reader is
-pub shut-opened : (st : SrlState) → st .reader .«bit_idx» ≤ 7 → st ≡ shut (opened st)
-shut-opened st h =
-    let e = place-is (st .reader .«byte_idx») (st .reader .«bit_idx») (bitsRead (st .reader)) h refl in
-    λ i. record { reader = e i; kp = st .kp; «zero_run_remaining» = st .«zero_run_remaining»; «nonzero_pending» = st .«nonzero_pending» }
 
 -- a reader is the one of the state that it is
 pub opened-shut : (r : Reader) → opened (shut r) ≡ r
