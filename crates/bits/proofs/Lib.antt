@@ -5,6 +5,7 @@ pub mod Tops
 pub mod Places
 pub mod Past
 pub mod Missing
+pub mod Turns
 pub mod Powers
 pub mod Puts
 pub mod Packed

@@ -7,12 +7,12 @@ use native.Mathlib.Nat.{add-zero, zero-add, suc-add}
 use native.Mathlib.Numerals.{add-one}
 use native.Mathlib.Decide.{decLt}
 use native.Mathlib.Omega.{arith}
-use borrow.Author.Tests.{leb-true, leb-false, lt-ltb, le-ltb, le-leb}
-use lib.Dec.{leb, ltb}
+use borrow.Author.Tests.{leb-true, leb-false, le-leb}
+use lib.Dec.{leb}
 use lib.ListN.{length}
 use Rattle.bits.specs.Bits.{bitOf, bitAt, zeros, zerosLength}
 use Rattle.bits.specs.Missing.{BitRead, readBit, readNum, readNumbers, readZeros, missingIn, InStream}
-use Rattle.bits.proofs.Ones.{zeros-le}
+use Rattle.bits.proofs.Ones.{length-one, length-go}
 use Rattle.bits.proofs.Past.{Alike, same, past, alike-on, bit-alike}
 
 -- ════ known streams, by `refl` ════
@@ -101,20 +101,16 @@ num-join s n m k h g =
 pub zeros-read : (s : List ℕ) (n l : ℕ) → readZeros s n l ≡ readNum s n (zerosLength s n l)
 unfolding readZeros readNum zeros
 zeros-read s n zero = refl
-zeros-read s n (suc l) = by (bitAt s n) (zeros-read s (suc n) l)
+zeros-read s n (suc l) = by (bitAt s n) refl (zeros-read s (suc n) l)
   where
-    one : (z : ℕ) → z ≤ l → cond (ltb (suc z) (suc l)) (suc z + 1) (suc l) ≡ suc (cond (ltb z l) (z + 1) l)
-    one z h = by′ (decLt z l)
-      where
-        by′ : Dec (z < l) → cond (ltb (suc z) (suc l)) (suc z + 1) (suc l) ≡ suc (cond (ltb z l) (z + 1) l)
-        by′ (yes p) = simp (lt-ltb (suc z) (suc l) (omega arith), lt-ltb z l p) (omega arith)
-        by′ (no p) = simp (le-ltb (suc z) (suc l) (omega arith), le-ltb z l (omega arith))
+    by : (b : Bool) → bitAt s n ≡ b → readZeros s (suc n) l ≡ readNum s (suc n) (zerosLength s (suc n) l)
+        → (readBit s n ∷ cond b [] (readZeros s (suc n) l)) ≡ readNum s n (zerosLength s n (suc l))
+    by true e ih = ap (readNum s n) (sym (length-one s n l e))
+    by false e ih = ap (λ (r : List BitRead). readBit s n ∷ r) ih ∙ ap (readNum s n) (sym (length-go s n l e))
 
-    by : (b : Bool) → readZeros s (suc n) l ≡ readNum s (suc n) (zerosLength s (suc n) l)
-        → (readBit s n ∷ cond b [] (readZeros s (suc n) l))
-        ≡ readNum s n (cond (ltb (cond b 0 (suc (zeros s (suc n) l))) (suc l)) (cond b 0 (suc (zeros s (suc n) l)) + 1) (suc l))
-    by true ih = ap (λ (t : Bool). readNum s n (cond t 1 (suc l))) (sym (lt-ltb 0 (suc l) (omega arith)))
-    by false ih = ap (λ (r : List BitRead). readBit s n ∷ r) ih ∙ ap (readNum s n) (sym (one (zeros s (suc n) l) (zeros-le s (suc n) l)))
+-- how many of them are missing
+pub missing-zeros : (s : List ℕ) (n l : ℕ) → missingIn (readZeros s n l) ≡ zerosLength s n l - (8 * length s - n)
+missing-zeros s n l = ap missingIn (zeros-read s n l) ∙ missing-num s n (zerosLength s n l)
 
 -- ════ past the end ════
 

@@ -4,9 +4,11 @@ use mathlib.Core.Bool.{Bool, true, false, cond}
 use mathlib.Core.List.{List}
 use Prim.Native.Nat.{ℕ, zero, suc, _+_, _-_, _*_, _≤_, _<_, min}
 use native.Mathlib.Nat.{zero-add, add-zero, suc-add}
+use native.Mathlib.Decide.{decLt}
 use native.Mathlib.Omega.{arith}
 use lib.ListN.{length}
-use Rattle.bits.specs.Bits.{bitAt, zeros}
+use borrow.Author.Tests.{lt-ltb, le-ltb}
+use Rattle.bits.specs.Bits.{bitAt, zeros, zerosLength}
 use Rattle.bits.proofs.Numbers.{bit-past}
 
 -- there are at most as many zeros as are looked at
@@ -18,6 +20,16 @@ zeros-le s n (suc l) = by (bitAt s n) (zeros-le s (suc n) l)
     by : (b : Bool) {z : ℕ} → z ≤ l → cond b 0 (suc z) ≤ suc l
     by true h = omega arith
     by false h = omega arith
+
+-- a 1 at once
+pub zeros-one : (s : List ℕ) (n l : ℕ) → bitAt s n ≡ true → zeros s n (suc l) ≡ 0
+unfolding zeros
+zeros-one s n l e = ap (λ (b : Bool). cond b 0 (suc (zeros s (suc n) l))) e
+
+-- a zero, and those behind it
+pub zeros-zero : (s : List ℕ) (n l : ℕ) → bitAt s n ≡ false → zeros s n (suc l) ≡ suc (zeros s (suc n) l)
+unfolding zeros
+zeros-zero s n l e = ap (λ (b : Bool). cond b 0 (suc (zeros s (suc n) l))) e
 
 -- past the end all that is asked for are zeros
 pub zeros-past : (s : List ℕ) (n l : ℕ) → 8 * length s ≤ n → zeros s n l ≡ l
@@ -71,3 +83,30 @@ zeros-stop s n z part limit e h l =
 -- next bits without a 1 are zeros more
 pub zeros-go : (s : List ℕ) (n z part : ℕ) → zeros s n z ≡ z → part ≤ zeros s (n + z) part → zeros s n (z + part) ≡ z + part
 zeros-go s n z part e l = zeros-on s n z part e ∙ omega (arith, zeros-le s (n + z) part)
+
+-- ---- how many bits they take
+
+-- zeros that the limit ends: as many
+pub length-all : (s : List ℕ) (n l : ℕ) → zeros s n l ≡ l → zerosLength s n l ≡ l
+length-all s n l e = simp (le-ltb (zeros s n l) l (omega (arith, e)))
+
+-- zeros that a 1 ends: with it
+pub length-some : (s : List ℕ) (n l : ℕ) → zeros s n l < l → zerosLength s n l ≡ zeros s n l + 1
+length-some s n l h = simp (lt-ltb (zeros s n l) l h)
+
+-- a 1 at once
+pub length-one : (s : List ℕ) (n l : ℕ) → bitAt s n ≡ true → zerosLength s n (suc l) ≡ 1
+length-one s n l e = let z = zeros-one s n l e in omega (arith, length-some s n (suc l) (omega (arith, z)), z)
+
+-- a zero, and those behind it
+pub length-go : (s : List ℕ) (n l : ℕ) → bitAt s n ≡ false → zerosLength s n (suc l) ≡ suc (zerosLength s (suc n) l)
+length-go s n l e = by (decLt (zeros s (suc n) l) l)
+  where
+    z : zeros s n (suc l) ≡ suc (zeros s (suc n) l)
+    z = zeros-zero s n l e
+
+    by : Dec (zeros s (suc n) l < l) → zerosLength s n (suc l) ≡ suc (zerosLength s (suc n) l)
+    by (yes p) = omega (arith, z, length-some s n (suc l) (omega (arith, z)), length-some s (suc n) l p)
+    by (no p) =
+        let all : zeros s (suc n) l ≡ l = omega (arith, zeros-le s (suc n) l) in
+        omega (arith, length-all s n (suc l) (omega (arith, z, all)), length-all s (suc n) l all)

@@ -6,12 +6,19 @@ ghost use lib.Count.{leadingZeros};
 ghost use lib.Dec.{ltb};
 ghost use lib.ListN.{length, getD};
 ghost use Rattle.bits.specs.Bits.{num, zeros, bitsRead, placeOf, held};
+ghost use Rattle.bits.specs.Turns.{CountsZeros};
 ghost use Rattle.bits.specs.Inner.{Top, Front};
 
 // A place in a stream: a byte, and a bit of it, 0 to 7, counted from the highest.
 pub struct BitReader {
     pub byte_idx: usize,
     pub bit_idx: u8,
+}
+
+// Zeros that were counted, and how often the loop turned for them.
+pub struct ZerosCounted {
+    pub zeros: u32,
+    pub turns: u32,
 }
 
 // ---- places
@@ -203,25 +210,31 @@ fn zeros_ahead(src: &[u8], r: BitReader, limit: u32) -> u32
     lead(ahead(src, r), limit)
 }
 
-// How many zeros stand before a 1, of at most `limit` bits. Past the end of the stream the answer is known.
-pub fn count_zeros(src: &[u8], r: BitReader, limit: u32) -> u32
+// How many zeros stand before a 1, of at most `limit` bits. Past the end of the stream the answer is known, so the loop gives up there: it turns
+// at most once for each bit that the stream still holds, and once more.
+pub fn count_zeros(src: &[u8], r: BitReader, limit: u32) -> ZerosCounted
     requires { ⌜ (r .«bit_idx» ≤ 7) × (r .«byte_idx» ≤ 2 ^ 63 + 2 ^ 61) ⌝ }
-    ensures { λ z. ⌜ z ≡ zeros (now (src .entry)) (bitsRead r) limit ⌝ }
+    ensures { λ c. ⌜ CountsZeros (now (src .entry)) (bitsRead r) limit c ⌝ }
 {
     let mut z: u32 = 0;
+    let mut turns: u32 = 0;
     while z < limit {
+        turns += 1;
         let at = skip(r, z as usize);
         if src.len() <= at.byte_idx {
-            return limit;
+            return ZerosCounted { zeros: limit, turns };
         }
         let part = at_most(limit - z, 56);
         let found = zeros_ahead(src, at, part);
         if found < part {
-            return z + found;
+            return ZerosCounted {
+                zeros: z + found,
+                turns,
+            };
         }
         z += part;
     }
-    limit
+    ZerosCounted { zeros: limit, turns }
 }
 
 // How many zeros stand before a 1 behind the first bit, where `a` begins with `have` bits from that one on. Most often they end in it.
@@ -241,7 +254,7 @@ pub fn zeros_behind_first(src: &[u8], r: BitReader, a: u64, have: u32, limit: u3
     if limit <= part {
         return z;
     }
-    count_zeros(src, skip(r, 1), limit)
+    count_zeros(src, skip(r, 1), limit).zeros
 }
 
 // How many bits `z` zeros take: with the 1 behind them, unless `limit` ended them.

@@ -44,7 +44,7 @@ count-zeros-requires c κs =
 returns-3 : tie.Need-returns-3
 returns-3 c =
     let a = c .before .before .before .before .before .before .before .before .args in
-    c .count-zeros .ensures ∙ ap (λ (n : ℕ). zeros (a .src .now) n (a .limit)) (ap bitsRead (c .before .skip .ensures) ∙ read-place _)
+    c .count-zeros .ensures .count ∙ ap (λ (n : ℕ). zeros (a .src .now) n (a .limit)) (ap bitsRead (c .before .skip .ensures) ∙ read-place _)
 
 pub zeros-behind-first-spec : {M : Type 1} → statement M
 zeros-behind-first-spec = tie.close (tie.spec (λ c. search needs) (λ c κs. search needs) (λ c κs. search needs) (λ c κs. search needs) returns returns-2 (λ c κs. search needs) count-zeros-requires returns-3)
