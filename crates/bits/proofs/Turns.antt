@@ -15,16 +15,16 @@ use Rattle.bits.proofs.Missing.{missing-zeros}
 
 -- ════ known streams, by `refl` ════
 
--- at width 15, behind the sign bit of the value in the byte 80 (hexadecimal): 5 bits are left, so 6 turns
-spent-hold : countZeros (128 ∷ []) 3 32766 ≡ record { zeros = 32766; taken = 32766; missing = 32761; turns = 6 }
-unfolding countZeros
-spent-hold = refl
-
 -- no bit asked for, as at width 1; a 1 at once; a 1 in the last bit; a limit in the last bit; one behind it; no bytes; a place past the end
 turns-hold : map (λ c. c .turns) (countZeros (1 ∷ []) 7 0 ∷ countZeros (1 ∷ []) 7 9 ∷ countZeros (1 ∷ []) 4 9 ∷ countZeros (0 ∷ []) 4 4 ∷ countZeros (0 ∷ []) 4 5 ∷ countZeros [] 0 2 ∷ countZeros (255 ∷ []) 75 9 ∷ [])
     ≡ 0 ∷ 1 ∷ 4 ∷ 4 ∷ 5 ∷ 1 ∷ 1 ∷ []
 unfolding countZeros
 turns-hold = refl
+
+-- at width 15, behind the sign bit of the value in the byte 80 (hexadecimal): 5 bits are left, so 6 turns
+spent-hold : countZeros (128 ∷ []) 3 32766 ≡ record { zeros = 32766; taken = 32766; missing = 32761; turns = 6 }
+unfolding countZeros
+spent-hold = refl
 
 -- ════ in closed form ════
 

@@ -222,7 +222,10 @@ pub fn count_zeros(src: &[u8], r: BitReader, limit: u32) -> ZerosCounted
         turns += 1;
         let at = skip(r, z as usize);
         if src.len() <= at.byte_idx {
-            return ZerosCounted { zeros: limit, turns };
+            return ZerosCounted {
+                zeros: limit,
+                turns,
+            };
         }
         let part = at_most(limit - z, 56);
         let found = zeros_ahead(src, at, part);
@@ -234,7 +237,10 @@ pub fn count_zeros(src: &[u8], r: BitReader, limit: u32) -> ZerosCounted
         }
         z += part;
     }
-    ZerosCounted { zeros: limit, turns }
+    ZerosCounted {
+        zeros: limit,
+        turns,
+    }
 }
 
 // How many zeros stand before a 1 behind the first bit, where `a` begins with `have` bits from that one on. Most often they end in it.

@@ -10,7 +10,7 @@ use Rattle.bits.specs.Bits.{bitAt, num, zeros}
 use Rattle.srl_decoder.specs.Srl.{Reader, reader, codeWord, value, past, readied, nextReader}
 use Rattle.srl_decoder.specs.Inner.{Same, below, readBehind, Brought}
 use Rattle.srl_decoder.specs.declared.decoder.CodesRead.{CodesRead}
-use Rattle.srl_decoder.proofs.Codes.{code-zero, code-one, code-near, code-run, ready-run, ready-pending}
+use Rattle.srl_decoder.proofs.Codes.{code-ready, code-zero, code-one, code-near, code-run, ready-run, ready-pending}
 
 -- ════ how many zeros code words 0 bring ════
 
@@ -70,18 +70,10 @@ module _ (s : List ℕ) where
   same-ready k r q e =
       λ w. (ap (λ (p : Reader). value s w (p .read) (p .run)) e, subst (Same s k (nextReader s w r)) (ap (λ (p : Reader). past s w (p .read) (p .kp) (p .run) (p .pending)) e) (same-refl k (nextReader s w r)))
 
-  -- a code word leaves a reader that is ready
-  code-ready : (n kp : ℕ) → readied s (codeWord s n kp) ≡ codeWord s n kp
-  code-ready n kp = by (bitAt s n) refl
-    where
-      by : (b : Bool) → bitAt s n ≡ b → readied s (codeWord s n kp) ≡ codeWord s n kp
-      by true e = rw (code-one s n kp e) (ready-pending s (n + 1 + kp / 8) (kp - 6) (num s (n + 1) (kp / 8)))
-      by false e = rw (code-zero s n kp e) (ready-run s (n + 1) (min (kp + 4) 80) (2 ^ (kp / 8)) false (λ z. omega (arith, pow-pos (kp / 8))))
-
   -- a reader with nothing at hand gives what it gives behind its code word
   pub same-code : (left n kp : ℕ) → 1 ≤ left → Same s left (reader n kp 0 false) (codeWord s n kp)
   same-code zero n kp h = absurd (omega arith)
-  same-code (suc k) n kp h = same-ready k (reader n kp 0 false) (codeWord s n kp) (sym (code-ready n kp))
+  same-code (suc k) n kp h = same-ready k (reader n kp 0 false) (codeWord s n kp) (sym (code-ready s n kp))
 
   -- a run, and what follows it
   same-run : (left m k z y a b c d : ℕ) → left ≡ m + k → y ≡ m + z → Same s k (reader a b 0 false) (reader c d z true) → Same s left (reader a b m false) (reader c d y true)

@@ -6,7 +6,7 @@ use Prim.Native.Nat.{ℕ, zero, suc, _+_, _-_, _/_, _^_, _≤_, _<_, min}
 use native.Mathlib.Omega.{arith}
 use borrow.Author.Tests.{ltb-true}
 use lib.Dec.{ltb}
-use lib.Pow.{pow-mono}
+use lib.Pow.{pow-mono, pow-pos}
 use lib.Signed.{mag}
 use Rattle.fixed.specs.Fixed.{clampI16, withSign}
 use Rattle.fixed.proofs.Clamp.{clamp-same}
@@ -44,6 +44,14 @@ ready-run s n kp (suc run) pending h = refl
 pub ready-pending : (s : List ℕ) (n kp run : ℕ) → ready s n kp run true ≡ reader n kp run true
 ready-pending s n kp zero = refl
 ready-pending s n kp (suc run) = refl
+
+-- a code word leaves a reader that is ready
+pub code-ready : (s : List ℕ) (n kp : ℕ) → readied s (codeWord s n kp) ≡ codeWord s n kp
+code-ready s n kp = by (bitAt s n) refl
+  where
+    by : (b : Bool) → bitAt s n ≡ b → readied s (codeWord s n kp) ≡ codeWord s n kp
+    by true e = rw (code-one s n kp e) (ready-pending s (n + 1 + kp / 8) (kp - 6) (num s (n + 1) (kp / 8)))
+    by false e = rw (code-zero s n kp e) (ready-run s (n + 1) (min (kp + 4) 80) (2 ^ (kp / 8)) false (λ z. omega (arith, pow-pos (kp / 8))))
 
 -- ---- how far a code word goes, and what it leaves
 

@@ -1,4 +1,4 @@
--- Whether one of the next values is nonzero: by whole runs, and past the end.
+-- Where no nonzero value is due the width does not matter; and past the end every value is 0.
 use mathlib.Core.Path.{_≡_, refl, sym, ap, _∙_}
 use mathlib.Core.Bool.{Bool, true, false, cond, true≢false}
 use mathlib.Core.List.{List, [], _∷_}
@@ -13,28 +13,6 @@ use Rattle.srl_decoder.specs.Srl.{Reader, reader, codeWord, value, past,
 use Rattle.srl_decoder.specs.Decode.{due, dueAmong}
 use Rattle.srl_decoder.proofs.Codes.{ready-pending, code-zero}
 
--- the run holds them all
-pub due-none : (s : List ℕ) (p kp run : ℕ) (b : Bool) (n : ℕ) → n ≤ run → dueAmong s (reader p kp run b) n ≡ false
-due-none s p kp run b zero h = refl
-due-none s p kp zero b (suc n) h = absurd (omega arith)
-due-none s p kp (suc run) b (suc n) h = due-none s p kp run b n (omega arith)
-
--- the nonzero value behind the run is among them
-pub due-now : (s : List ℕ) (p kp run n : ℕ) → run < n → dueAmong s (reader p kp run true) n ≡ true
-due-now s p kp run zero h = absurd (omega arith)
-due-now s p kp zero (suc n) h = refl
-due-now s p kp (suc run) (suc n) h = due-now s p kp run n (omega arith)
-
--- a run and nothing behind it
-pub due-run : (s : List ℕ) (p kp run n : ℕ) → run ≤ n → dueAmong s (reader p kp run false) n ≡ dueAmong s (reader p kp 0 false) (n - run)
-due-run s p kp zero n h = ap (dueAmong s (reader p kp 0 false)) {x = n} {y = n - 0} (omega arith)
-due-run s p kp (suc run) zero h = absurd (omega arith)
-due-run s p kp (suc run) (suc n) h = due-run s p kp run n (omega arith) ∙ ap (dueAmong s (reader p kp 0 false)) {x = n - run} {y = suc n - suc run} (omega arith)
-
--- what is due from a ready reader
-abbrev dueFrom : List ℕ → ℕ → Reader → Bool
-dueFrom s n r = cond (due (r .run)) true (dueAmong s (past s 0 (r .read) (r .kp) (r .run) (r .pending)) n)
-
 -- the values from a ready reader
 abbrev pub from : List ℕ → ℕ → List ℕ → Reader → List ℤ
 from s w ws r = value s w (r .read) (r .run) ∷ values s ws (past s w (r .read) (r .kp) (r .run) (r .pending))
@@ -42,33 +20,6 @@ from s w ws r = value s w (r .read) (r .run) ∷ values s ws (past s w (r .read)
 -- the reader after them
 abbrev pub afterFrom : List ℕ → ℕ → List ℕ → Reader → Reader
 afterFrom s w ws r = readerAfter s ws (past s w (r .read) (r .kp) (r .run) (r .pending))
-
--- a code word leaves a run or a nonzero value
-pub code-ready : (s : List ℕ) (p kp : ℕ) → readied s (codeWord s p kp) ≡ codeWord s p kp
-code-ready s p kp = by (bitAt s p)
-  where
-    run : (z : ℕ) (m : ℕ) → suc m ≡ z → readied s (reader (p + 1) (min (kp + 4) 80) z false) ≡ reader (p + 1) (min (kp + 4) 80) z false
-    run z m e = rw (sym e) refl
-
-    by : (b : Bool)
-        → readied s (cond b (reader (p + 1 + kp / 8) (kp - 6) (num s (p + 1) (kp / 8)) true) (reader (p + 1) (min (kp + 4) 80) (2 ^ (kp / 8)) false))
-        ≡ cond b (reader (p + 1 + kp / 8) (kp - 6) (num s (p + 1) (kp / 8)) true) (reader (p + 1) (min (kp + 4) 80) (2 ^ (kp / 8)) false)
-    by true = ready-pending s (p + 1 + kp / 8) (kp - 6) (num s (p + 1) (kp / 8))
-    by false = run (2 ^ (kp / 8)) (2 ^ (kp / 8) - 1) (suc-ones (kp / 8))
-
--- it is read when a value is asked for
-pub due-code : (s : List ℕ) (p kp n : ℕ) → dueAmong s (reader p kp 0 false) n ≡ dueAmong s (codeWord s p kp) n
-due-code s p kp zero = refl
-due-code s p kp (suc n) = sym (ap (dueFrom s n) (code-ready s p kp))
-
--- past the end no nonzero value comes
-pub due-past : (s : List ℕ) (p kp run n : ℕ) → 8 * length s ≤ p → dueAmong s (reader p kp run false) n ≡ false
-due-past s p kp run zero h = refl
-due-past s p kp (suc run) (suc n) h = due-past s p kp run n h
-due-past s p kp zero (suc n) h =
-    ap (dueFrom s n) (code-zero s p kp (bit-past s p h))
-    ∙ ap (λ (z : ℕ). dueFrom s n (reader (p + 1) (min (kp + 4) 80) z false)) (sym (suc-ones (kp / 8)))
-    ∙ due-past s (p + 1) (min (kp + 4) 80) (2 ^ (kp / 8) - 1) n (omega arith)
 
 -- ---- where no nonzero value is due the width does not matter
 

@@ -2,6 +2,7 @@
 pub mod Codes
 pub mod Values
 pub mod Due
+pub mod Turns
 pub mod States
 pub mod Chains
 pub mod Missing

@@ -1,13 +1,14 @@
 -- For inner functions only: what those of the decoder ask and promise.
 use mathlib.Core.Path.{_≡_}
-use mathlib.Core.Bool.{Bool, false, cond}
+use mathlib.Core.Bool.{Bool, false, cond, not, _&&_}
 use mathlib.Core.List.{List}
 use Prim.Native.Nat.{ℕ, zero, suc, _+_, _*_, _/_, _%_, _^_, _≤_, _<_}
 use lib.Dec.{ltb}
 use lib.IntN.{ℤ, pos}
-use lib.ListN.{length, getD}
+use lib.ListN.{length, getD, replicate}
 use Rattle.bits.specs.Bits.{placeOf, held}
-use Rattle.srl_decoder.specs.Srl.{Reader, reader, nextValue, nextReader}
+use Rattle.srl_decoder.specs.Srl.{Reader, reader, nextValue, nextReader, readerAfter}
+use Rattle.srl_decoder.specs.Decode.{opened, missingFrom}
 use Rattle.srl_decoder.specs.declared.SrlState.{SrlState}
 use Rattle.srl_decoder.specs.declared.decoder.CodesRead.{CodesRead}
 use Rattle.srl_decoder.specs.declared.decoder.Stored.{Stored}
@@ -25,9 +26,16 @@ stateBy byte bit kp run pending =
 abbrev pub heldReader : List ℕ → Reader → Reader
 heldReader s r = reader (held s (r .read)) (r .kp) (r .run) (r .pending)
 
--- what storing values leaves, once the reader stands at r and m bits were missing
-abbrev pub storedBy : List ℕ → Reader → ℕ → Stored
-storedBy s r m = record { state = shut (heldReader s r); missing = m }
+-- what storing values leaves, once the reader stands at r, m bits were missing and the loop turned t times
+abbrev pub storedBy : List ℕ → Reader → ℕ → ℕ → Stored
+storedBy s r m t = record { state = shut (heldReader s r); missing = m; turns = t }
+
+-- what `store_values` hands back
+pub record StoresValues (s : List ℕ) (st : SrlState) (n w : ℕ) (r : Stored) : Type 0 where
+  pub state : r .state ≡ shut (heldReader s (readerAfter s (replicate n w) (opened st)))
+  pub missing : r .missing ≡ missingFrom s st n w
+  -- "it gives a value at least in each turn", in the stream and past its end
+  pub turns : r .turns ≤ n
 
 -- the state that goes back to the caller, who handed in st
 abbrev pub handed : List ℕ → SrlState → SrlState → SrlState
@@ -46,6 +54,10 @@ SoundState st = (st .reader .«bit_idx» ≤ 7) × (st .reader .«byte_idx» ≤
 -- the reader after code words that begin behind n bits
 abbrev pub readBehind : ℕ → CodesRead → Reader
 readBehind n r = reader (n + r .taken) (r .kp) (r .run) (r .pending)
+
+-- whether the dry run reads a code word: values are left behind the run, no nonzero value is at hand, and the stream holds bits still
+abbrev pub readsOn : List ℕ → SrlState → ℕ → Bool
+readsOn s st left = ltb (st .«zero_run_remaining») left && (not (st .«nonzero_pending») && ltb (st .reader .«byte_idx») (length s))
 
 -- two readers give the same k values, of whatever widths, and are one reader after them
 abbrev pub Same : List ℕ → ℕ → Reader → Reader → Type 0

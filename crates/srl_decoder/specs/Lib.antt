@@ -2,4 +2,5 @@
 pub mod Srl
 pub mod Missing
 pub mod Decode
+pub mod Turns
 pub mod Inner

@@ -3,14 +3,15 @@ ghost use mathlib.Core.Path.{_≡_};
 ghost use mathlib.Core.Bool.{true, false};
 ghost use mathlib.Core.List.{List, _++_};
 ghost use Prim.Native.Nat.{ℕ, _*_, _^_, _+_, _-_, _≤_, _<_};
-ghost use lib.ListN.{length, drop, replicate};
+ghost use lib.ListN.{length, drop};
 ghost use Rattle.bits.specs.Bits.{bitAt, zeros, bitsRead};
 ghost use Rattle.bits.specs.Inner.{Top, Front};
-ghost use Rattle.srl_decoder.specs.Srl.{mostZeros, behind, codeWord, readerAfter};
-ghost use Rattle.srl_decoder.specs.Decode.{opened, valuesFrom, stateAfter, missingFrom, stateOk, dueAmong, decoded};
+ghost use Rattle.srl_decoder.specs.Srl.{mostZeros, behind, codeWord};
+ghost use Rattle.srl_decoder.specs.Decode.{opened, valuesFrom, stateAfter, missingFrom, stateOk, decoded};
+ghost use Rattle.srl_decoder.specs.Turns.{FindsDue};
 ghost use Rattle.answer.specs.Refusals.{noRoom, stored};
 ghost use Rattle.srl_rules.specs.Inner.{Width};
-ghost use Rattle.srl_decoder.specs.Inner.{SoundState, shut, stateBy, heldReader, storedBy, handed, readBehind, below, Brought, Clear};
+ghost use Rattle.srl_decoder.specs.Inner.{SoundState, shut, stateBy, heldReader, storedBy, StoresValues, readsOn, handed, readBehind, below, Brought, Clear};
 use crate::Decoded;
 use crate::SrlState;
 
@@ -29,10 +30,17 @@ pub struct CodesRead {
     pub pending: bool,
 }
 
-// What storing values leaves: the state, and how many of the bits read were missing.
+// What storing values leaves: the state, how many of the bits read were missing, and how often the loop turned.
 pub struct Stored {
     pub state: SrlState,
     pub missing: u64,
+    pub turns: usize,
+}
+
+// What a dry run finds: whether a nonzero value is due, and how often the loop turned.
+pub struct DryRun {
+    pub due: bool,
+    pub turns: usize,
 }
 
 // Whether a decoder can have the state.
@@ -202,16 +210,17 @@ fn hold(src: &[u8], st: SrlState) -> SrlState
     }
 }
 
-// A call's end: the state, whose place has run on, held at the stream's end, and how many bits were missing.
-fn ended(src: &[u8], st: SrlState) -> Stored
+// A call's end: the state, whose place has run on, held at the stream's end, how many bits were missing, and the turns.
+fn ended(src: &[u8], st: SrlState, turns: usize) -> Stored
     requires { ⌜ (st .reader .«bit_idx» ≤ 7) × (bitsRead (st .reader) < 8 * length (now src) + 2 ^ 63) ⌝ }
-    ensures { λ r. ⌜ r ≡ storedBy (now (src .entry)) (opened st) (bitsRead (st .reader) - 8 * length (now (src .entry))) ⌝ }
+    ensures { λ r. ⌜ r ≡ storedBy (now (src .entry)) (opened st) (bitsRead (st .reader) - 8 * length (now (src .entry))) turns ⌝ }
 {
     let reader = st.reader;
     let missing = bits::reader::past_end(src, reader);
     Stored {
         state: hold(src, st),
         missing,
+        turns,
     }
 }
 
@@ -243,7 +252,8 @@ fn clear(out: &mut [i16], n: usize)
 
 // Stores the next `n` values at the front of `out`. It is cleared first, so that a run of zeros need not be stored: `j` is the place of the next nonzero
 // value, or of the next code word. A turn reads code words and the value behind them from one word. The place runs on past the stream's end, so that at the
-// end of the call it tells how many bits were missing. The loop keeps the state's parts: a struct would take its padding round.
+// end of the call it tells how many bits were missing. Each turn gives a value at least, past the end too, so there are no more turns than values. The loop
+// keeps the state's parts: a struct would take its padding round.
 fn store_values(src: &[u8], st: SrlState, out: &mut [i16], n: usize, num_bits: u8) -> Stored
     requires { ⌜
         (st .reader .«bit_idx» ≤ 7)
@@ -252,7 +262,7 @@ fn store_values(src: &[u8], st: SrlState, out: &mut [i16], n: usize, num_bits: u
         × Width «num_bits»
         × (n ≤ length (now out)) ⌝ }
     ensures { λ r. ⌜
-        (r ≡ storedBy (now (src .entry)) (readerAfter (now (src .entry)) (replicate n «num_bits») (opened st)) (missingFrom (now (src .entry)) st n «num_bits»))
+        StoresValues (now (src .entry)) st n «num_bits» r
         × (now (out .exit) ≡ valuesFrom (now (src .entry)) st n «num_bits» ++ drop n (now (out .entry))) ⌝ }
 {
     clear(out, n);
@@ -262,7 +272,9 @@ fn store_values(src: &[u8], st: SrlState, out: &mut [i16], n: usize, num_bits: u
     let mut kp = st.kp;
     let mut pending = st.nonzero_pending;
     let mut j = st.zero_run_remaining;
+    let mut turns: usize = 0;
     while j < n {
+        turns += 1;
         let place = bits::reader::BitReader { byte_idx, bit_idx };
         let a = bits::reader::ahead(src, place);
         let c = up_to_value(a, kp, pending, n - j);
@@ -284,7 +296,7 @@ fn store_values(src: &[u8], st: SrlState, out: &mut [i16], n: usize, num_bits: u
         byte_idx = next.byte_idx;
         bit_idx = next.bit_idx;
     }
-    ended(src, state_of(byte_idx, bit_idx, kp, j - n, pending))
+    ended(src, state_of(byte_idx, bit_idx, kp, j - n, pending), turns)
 }
 
 // The state that goes back to the caller: a place that was handed in at or past the end stays as it is.
@@ -303,26 +315,38 @@ fn hand_back(src: &[u8], st: SrlState, done: SrlState) -> SrlState
     }
 }
 
+// Whether the dry run reads a code word.
+fn reads_on(src: &[u8], st: SrlState, left: usize) -> bool
+    ensures { λ r. ⌜ r ≡ readsOn (now (src .entry)) st left ⌝ }
+{
+    if left <= st.zero_run_remaining {
+        return false;
+    }
+    if st.nonzero_pending {
+        return false;
+    }
+    let reader = st.reader;
+    reader.byte_idx < src.len()
+}
+
 // Whether one of the next `num_values` values is nonzero. Each turn reads a code word, and past the stream's end no nonzero value comes,
-// so the turns are no more than the stream's bits.
-pub fn any_due(src: &[u8], st: SrlState, num_values: usize) -> bool
+// so the turns are no more than the bits that the stream still holds.
+pub fn any_due(src: &[u8], st: SrlState, num_values: usize) -> DryRun
     requires { ⌜ (st .reader .«bit_idx» ≤ 7) × (st .kp ≤ 80) ⌝ }
-    ensures { λ r. ⌜ r ≡ dueAmong (now (src .entry)) (opened st) «num_values» ⌝ }
+    ensures { λ r. ⌜ FindsDue (now (src .entry)) (opened st) «num_values» r ⌝ }
 {
     let mut cur = st;
     let mut left = num_values;
-    while cur.zero_run_remaining < left {
-        if cur.nonzero_pending {
-            return true;
-        }
-        let reader = cur.reader;
-        if src.len() <= reader.byte_idx {
-            return false;
-        }
+    let mut turns: usize = 0;
+    while reads_on(src, cur, left) {
+        turns += 1;
         left -= cur.zero_run_remaining;
         cur = code_word(src, cur);
     }
-    false
+    DryRun {
+        due: due(cur.nonzero_pending, cur.zero_run_remaining, left),
+        turns,
+    }
 }
 
 // Stores the next `num_values` values if there is room for them, and refuses with 7 if not.

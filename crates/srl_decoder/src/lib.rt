@@ -56,7 +56,7 @@ pub fn decode(
     if srl_rules::width_ok(num_bits) {
         return decoder::store_if_room(src, state, out, num_values, num_bits);
     }
-    if decoder::any_due(src, state, num_values) {
+    if decoder::any_due(src, state, num_values).due {
         return Decoded::Refused(answer::INVALID_BIT_COUNT, state);
     }
     decoder::store_if_room(src, state, out, num_values, 1)

@@ -44,7 +44,7 @@ returns-3 : tie.Need-returns-3
 returns-3 c =
     let k = c .before .before .before .before .before .before .before in
     let narrow : widthOk (k .args .num-bits) ≡ false = sym (c .before .before .before .width-ok .ensures) ∙ c .before .before .if2 .left in
-    let due : dueAmong (k .args .src .now) (opened (k .args .state)) (k .args .num-values) ≡ true = sym (c .before .any-due .ensures) ∙ c .if3 .taken in
+    let due : dueAmong (k .args .src .now) (opened (k .args .state)) (k .args .num-values) ≡ true = sym (c .before .any-due .ensures .found) ∙ c .if3 .taken in
     let ok = good (c .before .before .before .before) in
     record { answer = simp (ok, narrow, due); out = simp (ok, narrow, due) }
 
@@ -57,7 +57,7 @@ returns-4 : tie.Need-returns-4
 returns-4 c =
     let k = c .before .before .before .before .before .before .before .before .before .before in
     let narrow : widthOk (k .args .num-bits) ≡ false = sym (c .before .before .before .before .before .before .width-ok .ensures) ∙ c .before .before .before .before .before .if2 .left in
-    let none : dueAmong (k .args .src .now) (opened (k .args .state)) (k .args .num-values) ≡ false = sym (c .before .before .before .before .any-due .ensures) ∙ c .before .before .before .if3 .left in
+    let none : dueAmong (k .args .src .now) (opened (k .args .state)) (k .args .num-values) ≡ false = sym (c .before .before .before .before .any-due .ensures .found) ∙ c .before .before .before .if3 .left in
     let same = width-free (k .args .src .now) (k .args .num-bits) 1 (opened (k .args .state)) (k .args .num-values) none in
     let bits = width-free-read (k .args .src .now) (k .args .num-bits) 1 (opened (k .args .state)) (k .args .num-values) none in
     let e = c .before .store-if-room2 .ensures in

@@ -72,7 +72,8 @@ loop-again c =
     let l = k .before .before .loop in
     let e = found (c .before) in
     let part = c .before .before .at-most in
-    let in-stream : n + l .z < 8 * length s = omega (arith, on k, c .before .before .before .if1 .left, ap (λ (q : BitReader). q .«bit_idx») (k .skip .ensures)) in (
+    let inside : k .skip .result .«byte_idx» < length s = c .before .before .before .if1 .left in
+    let in-stream : n + l .z < 8 * length s = omega (arith, on k, inside, ap (λ (q : BitReader). q .«bit_idx») (k .skip .ensures)) in (
       zeros-go s n (l .z) (part .result) (l .inv .0) (omega (arith, e, c .if2 .left)),
       omega (arith, l .inv, part .ensures, k .before .loop-test .taken),
       omega (arith, l .inv, part .ensures, k .before .loop-test .taken),

@@ -10,10 +10,9 @@ use Rattle.bits.specs.Missing.{missingIn}
 use Rattle.srl_decoder.specs.Srl.{Reader, values, readerAfter}
 use Rattle.srl_decoder.specs.Decode.{opened}
 use Rattle.srl_decoder.specs.Missing.{valuesMissing}
-use Rattle.srl_decoder.specs.Inner.{shut, heldReader, storedBy, handed}
+use Rattle.srl_decoder.specs.Inner.{shut, heldReader, handed}
 use Rattle.srl_decoder.specs.declared.SrlState.{SrlState}
 use Rattle.srl_decoder.specs.declared.Decoded.the-variants.{Values}
-use Rattle.srl_decoder.specs.declared.decoder.Stored.{Stored}
 use Rattle.srl_decoder.proofs.Missing.{values-read-alike}
 use Rattle.srl_decoder.proofs.Values.{opened-shut, reader-held, held-readers, values-alike, length-values}
 use borrow.Author.Needs.{needs}
@@ -50,9 +49,8 @@ returns-2 c =
     let o = held-read (c .before .before .before .before .before) in
     let held = reader-held s (opened st) in
     let v = values-alike s ws held in
-    let done = e .0 ∙ ap (λ (r : Reader). storedBy s (readerAfter s ws r) (valuesMissing s ws r)) o in
-    let state = ap (λ (d : Stored). d .state) done ∙ ap shut (held-readers s (v .1)) in
-    let missing = ap (λ (d : Stored). d .missing) done ∙ ap missingIn (values-read-alike s ws held) in
+    let state = e .0 .state ∙ ap (λ (r : Reader). shut (heldReader s (readerAfter s ws r))) o ∙ ap shut (held-readers s (v .1)) in
+    let missing = e .0 .missing ∙ ap (valuesMissing s ws) o ∙ ap missingIn (values-read-alike s ws held) in
     let stored = e .1 ∙ ap (λ (r : Reader). values s ws r ++ drop n (k .args .out .now)) o
     ∙ ap₂ (λ (vs : List ℤ) (m : ℕ). vs ++ drop m (k .args .out .now)) (v .0) (sym (length-values s ws (opened st) ∙ length-replicate n (k .args .num-bits))) in (
       simp room (ap₂ (Values n) (c .hand-back .ensures ∙ ap (handed s st) state) missing),

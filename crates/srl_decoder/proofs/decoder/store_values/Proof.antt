@@ -1,8 +1,8 @@
 -- `srl_decoder::decoder::store_values` meets its contract: a turn reads code words and a nonzero value behind them, and what is left to store stays the same. Assumes nothing.
-use mathlib.Core.Path.{_≡_, refl, sym, ap, ap₂, _∙_}
+use mathlib.Core.Path.{_≡_, refl, sym, ap, _∙_}
 use mathlib.Core.List.{List, _++_}
 use mathlib.Core.Logic.{⊎-elim}
-use Prim.Native.Nat.{ℕ, _+_, _-_, _*_, _≤_}
+use Prim.Native.Nat.{ℕ, _+_, _-_, _*_, _≤_, _<_}
 use native.Mathlib.Nat.{zero-add}
 use native.Mathlib.Omega.{arith}
 use lib.IntN.{ℤ}
@@ -17,8 +17,9 @@ use Rattle.bits.proofs.Places.{read-place}
 use Rattle.bits.proofs.Tops.{front-skip}
 use Rattle.srl_decoder.specs.Srl.{Reader, reader, mostZeros, nonzero, behind, values, readerAfter}
 use Rattle.srl_decoder.specs.Decode.{opened}
-use Rattle.srl_decoder.specs.Inner.{storedBy, Clear, Brought}
+use Rattle.srl_decoder.specs.Inner.{shut, heldReader, Clear, Brought}
 use Rattle.srl_decoder.specs.declared.SrlState.{SrlState}
+use Rattle.srl_decoder.specs.declared.decoder.Stored.{Stored}
 use Rattle.srl_decoder.proofs.Codes.{nonzero-is}
 use Rattle.srl_decoder.proofs.Missing.{missing-past}
 use Rattle.srl_decoder.proofs.Filled.{Filled, filled, fill, fill-is, rest, rest-start, Turned, turn-codes, turn-value, rest-bound, rest-end}
@@ -27,12 +28,13 @@ use Rattle.srl_decoder.proofs.decoder.store_values.Statement.{statement
 use Rattle.srl_decoder.proofs.decoder.store_values.Tie as tie
 
 abbrev Inv-loop : tie.InvT-loop
-Inv-loop src out₀ n w byte₀ bit₀ kp₀ pending₀ j₀ out byte bit kp pending j =
+Inv-loop src out₀ n w byte₀ bit₀ kp₀ pending₀ j₀ turns₀ out byte bit kp pending j turns =
     (bit ≤ 7) × (kp ≤ 80) × (8 * byte + bit ≤ 8 * length src + n + 32777) × (length out ≡ length out₀) × Clear out j n
     × (fill src w n 0 (reader (8 * byte₀ + bit₀) kp₀ j₀ pending₀) out₀ ≡ rest src w n j (8 * byte + bit) kp pending out)
+    × (turns ≤ j) × (turns ≤ n)
 
 abbrev μ-loop : tie.MeasureT-loop
-μ-loop src out₀ n w byte₀ bit₀ kp₀ pending₀ j₀ out byte bit kp pending j = n - j
+μ-loop src out₀ n w byte₀ bit₀ kp₀ pending₀ j₀ turns₀ out byte bit kp pending j turns = n - j
 
 loop-holds : tie.Need-loop-holds Inv-loop μ-loop
 loop-holds c =
@@ -45,6 +47,8 @@ loop-holds c =
       refl,
       λ i a b. u .ensures .0 i (omega arith) b,
       rest-start (k .args .src .now) (k .args .num-bits) (k .args .n) (bitsRead (st .reader)) (st .kp) (st .«zero_run_remaining») (st .«nonzero_pending») (u .last .0) (u .ensures .0),
+      omega arith,
+      omega arith,
     )
 
 up-to-value-requires : tie.Need-up-to-value-requires Inv-loop μ-loop
@@ -56,6 +60,9 @@ brings : (c : tie.After-up-to-value Inv-loop μ-loop)
 brings c =
     let l = c .before .before .before .loop in
     c .up-to-value .ensures (c .before .before .before .before .before .before .before .before .before .args .src .now) (8 * l .byte-idx + l .bit-idx) (64 - l .bit-idx) (c .before .ahead .ensures) (omega (arith, l .inv .0))
+
+add-turns : tie.Need-add-turns Inv-loop μ-loop
+add-turns c = record { fits = omega (arith, c .before .loop .inv .6, c .loop-test .taken) }
 
 add-j : tie.Need-add-j Inv-loop μ-loop
 add-j c = record { fits = omega (arith, brings (c .before) .run-low, c .before .before .before .loop-test .taken, c .before .before .before .before .before .before .before .before .before .before .pre .4, c .before .before .before .before .before .before .before .before .before .before .good) }
@@ -94,8 +101,8 @@ decode-nonzero-requires c κs =
       rw (e, c .behind .ensures) (front-skip v m _ (c .before .before .before .before .before .before .before .ahead .result) (k .args .src .now) (8 * l .byte-idx + l .bit-idx) (c .before .before .before .before .before .before .before .ahead .ensures) (omega (arith, near, l .inv .0))),
     )
 
-mul-t31 : tie.Need-mul-t31 Inv-loop μ-loop
-mul-t31 c = record { fits = omega (arith, c .before .before .before .before .before .before .due .ensures .0 (c .before .before .before .before .before .if1 .taken) .1, c .before .before .before .before .before .before .before .before .before .before .before .before .before .before .before .before .before .pre .4, c .before .before .before .before .before .before .before .before .before .before .before .before .before .before .before .before .before .good) }
+mul-t32 : tie.Need-mul-t32 Inv-loop μ-loop
+mul-t32 c = record { fits = omega (arith, c .before .before .before .before .before .before .due .ensures .0 (c .before .before .before .before .before .if1 .taken) .1, c .before .before .before .before .before .before .before .before .before .before .before .before .before .before .before .before .before .pre .4, c .before .before .before .before .before .before .before .before .before .before .before .before .before .before .before .before .before .good) }
 
 slice-set-from-out : tie.Need-slice-set-from-out Inv-loop μ-loop
 slice-set-from-out c = omega (arith, c .before .before .before .before .before .before .due .ensures .0 (c .before .before .before .before .before .if1 .taken) .1, c .before .before .before .before .before .before .before .before .before .before .before .loop .inv .3, c .before .before .before .before .before .before .before .before .before .before .before .before .before .before .clear .kept .0, c .before .before .before .before .before .before .before .before .before .before .before .before .before .before .before .before .before .pre .4)
@@ -153,9 +160,11 @@ loop-again c =
     let q = c .before .if1 in
     let kp = c .before .before .before .before .up-to-value .result .kp in
     let t = turned (c .before) in
+    let step : l .j < q .j = omega (arith, t .nearer) in
+    let test = c .before .before .before .before .before .before .loop-test .taken in
     let read : 8 * l .byte-idx + l .bit-idx + q .taken ≡ bitsRead (c .skip2 .result) = sym (ap bitsRead (c .skip2 .ensures) ∙ read-place _) in
     let left = l .inv .5 ∙ t .left ∙ ap (λ (m : ℕ). rest (a .src .now) (a .num-bits) (a .n) (q .j) m kp (q .pending) (q .out)) read in
-    (omega (arith, ap (λ (r : BitReader). r .«bit_idx») (c .skip2 .ensures)), brings (c .before .before .before .before) .kp-low, rest-bound (a .src .now) (a .num-bits) (a .n) _ _ _ _ _ _ _ _ _ _ (k .pre .3 .1) (k .pre .1) (k .pre .2) left, t .long ∙ l .inv .3, t .clear, left)
+    (omega (arith, ap (λ (r : BitReader). r .«bit_idx») (c .skip2 .ensures)), brings (c .before .before .before .before) .kp-low, rest-bound (a .src .now) (a .num-bits) (a .n) _ _ _ _ _ _ _ _ _ _ (k .pre .3 .1) (k .pre .1) (k .pre .2) left, t .long ∙ l .inv .3, t .clear, left, omega (arith, l .inv .6, step, test), omega (arith, l .inv .6, test))
 
 -- the state at the end
 ends : (c : tie.After-state-of Inv-loop μ-loop) → bitsRead (c .state-of .result .reader) ≡ 8 * c .before .before .loop .byte-idx + c .before .before .loop .bit-idx
@@ -184,11 +193,18 @@ returns c =
     let done : filled (values s (replicate n w) (opened (a .st)) ++ drop (0 + n) (u .last .0)) after ≡ filled (l .out) (reader at (l .kp) (l .j - n) (l .pending)) =
     sym (fill-is s w n 0 (opened (a .st)) (u .last .0) (omega (arith, u .kept .0, k .pre .4))) ∙ l .inv .5 ∙ rest-end s w n (l .j) at (l .kp) (l .pending) (l .out) (omega (arith, c .before .before .loop-test .left)) in
     let stands : opened (c .before .state-of .result) ≡ after = ap opened (c .before .state-of .ensures) ∙ sym (ap (λ (f : Filled). f .after) done) in (
-      c .ended .ensures ∙ ap₂ (storedBy s) stands (ap (λ (r : Reader). r .read - 8 * length s) stands ∙ sym (missing-past s (replicate n w) (opened (a .st)) (k .pre .2))),
+      record {
+        state = ap (λ (d : Stored). d .state) (c .ended .ensures) ∙ ap (λ (r : Reader). shut (heldReader s r)) stands;
+        missing =
+            ap (λ (d : Stored). d .missing) (c .ended .ensures)
+            ∙ ap (λ (r : Reader). r .read - 8 * length s) stands
+            ∙ sym (missing-past s (replicate n w) (opened (a .st)) (k .pre .2));
+        turns = omega (arith, ap (λ (d : Stored). d .turns) (c .ended .ensures), l .inv .7);
+      },
       sym (ap (λ (f : Filled). f .out) done) ∙ ap (λ (o : List ℤ). values s (replicate n w) (opened (a .st)) ++ o) (ap (λ (m : ℕ). drop m (u .last .0)) (zero-add n) ∙ u .ensures .1),
     )
 
 pub store-values-spec : {M : Type 1} → statement M
 store-values-spec =
     tie.close
-    (tie.spec Inv-loop μ-loop (λ c κs. search needs) loop-holds (λ c κs. search needs) (λ c. search needs) up-to-value-requires add-j (λ c κs. search needs) cast-codes (λ c. search needs) sub-have sub-have-2 skip-requires behind-requires decode-nonzero-requires (λ c κs. search needs) mul-t31 slice-set-from-out add-taken add-j-2 skip-requires-2 loop-less loop-again (λ c κs. search needs) ended-requires same-length returns)
+    (tie.spec Inv-loop μ-loop (λ c κs. search needs) loop-holds add-turns (λ c κs. search needs) (λ c. search needs) up-to-value-requires add-j (λ c κs. search needs) cast-codes (λ c. search needs) sub-have sub-have-2 skip-requires behind-requires decode-nonzero-requires (λ c κs. search needs) mul-t32 slice-set-from-out add-taken add-j-2 skip-requires-2 loop-less loop-again (λ c κs. search needs) ended-requires same-length returns)
