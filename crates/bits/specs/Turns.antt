@@ -19,7 +19,7 @@ pub record Counted : Type 0 where
   pub missing : ℕ
   pub turns : ℕ
 
--- a turn at a bit that is missing ends the loop: "past the end [..] the count is known", every bit up to the limit is a zero, and missing
+-- a turn at a bit that is missing ends the loop, which "gives up where the bytes are spent": "all zeros up to the limit are read", and missing
 abbrev pub givenUp : ℕ → Counted
 givenUp limit = record { zeros = limit; taken = limit; missing = limit; turns = 1 }
 
@@ -48,5 +48,5 @@ pub record CountsZeros (s : List ℕ) (n limit : ℕ) (r : ZerosCounted) : Type 
   pub count : r .zeros ≡ zeros s n limit
   -- it turns for the zeros and the 1 behind them; or, where the bytes are spent before, for the bits still held and once more
   pub turns : r .turns ≡ min (wordsOf (zerosLength s n limit)) (wordsOf (stillHeld s n) + 1)
-  -- "at most once for each bit that the stream still holds from where it begins, and once more"
+  -- "at most once for each bit that the stream still holds from where it begins [..], and once more"
   pub spent : r .turns ≤ stillHeld s n + 1

@@ -6,7 +6,8 @@ use Prim.Native.Nat.{ℕ, _≤_}
 use lib.IntN.{ℤ, pos, negsuc}
 use lib.ListN.{length, replicate, take, drop}
 use Rattle.answer.specs.Refusals.{numberOf}
-use Rattle.srl_decoder.specs.Decode.{startState, decodeAnswer, decodeOut, decodedNumber, decodedCount, decodedMissing}
+use Rattle.srl_decoder.specs.Turns.{valuesTurns}
+use Rattle.srl_decoder.specs.Decode.{startState, opened, decodeAnswer, decodeOut, decodedNumber, decodedCount, decodedMissing}
 use Rattle.srl_decoder.specs.declared.SrlState.{SrlState}
 use Rattle.srl_decoder.specs.declared.Decoded.{Decoded}
 use Rattle.srl_encoder.specs.Encode.{freshWriter, encodeAnswer, encodeOut, encodedCount, encodedState}
@@ -58,7 +59,7 @@ writtenAs s =
 
 -- ════ SRL, read: one call of `decode` from a bit of the first byte, as at the start of a stream ════
 
--- a sample: bytes, the bit, the values read, and how many bits were missing
+-- a sample: bytes, the bit, the values read, how many bits were missing, and how often the loop turned that counts the zeros of nonzero values
 pub record SrlRead : Type 0 where
   pub bytes : List ℕ
   pub bit : ℕ
@@ -66,14 +67,15 @@ pub record SrlRead : Type 0 where
   pub count : ℕ
   pub got : List ℤ
   pub missing : ℕ
+  pub turns : ℕ
 
 -- two values of the byte FF at width 1, values of no bytes, a value that begins at the last bit, and the largest one
 abbrev pub srlRead : List SrlRead
 srlRead =
-    record { bytes = 0xff ∷ []; bit = 0; width = 1; count = 2; got = pos 0 ∷ negsuc 0 ∷ []; missing = 0 }
-    ∷ record { bytes = []; bit = 0; width = 1; count = 5; got = pos 0 ∷ pos 0 ∷ pos 0 ∷ pos 0 ∷ pos 0 ∷ []; missing = 3 }
-    ∷ record { bytes = 0x01 ∷ []; bit = 7; width = 2; count = 1; got = pos 3 ∷ []; missing = 4 }
-    ∷ record { bytes = 0x80 ∷ []; bit = 0; width = 15; count = 1; got = pos 32767 ∷ []; missing = 32761 }
+    record { bytes = 0xff ∷ []; bit = 0; width = 1; count = 2; got = pos 0 ∷ negsuc 0 ∷ []; missing = 0; turns = 0 }
+    ∷ record { bytes = []; bit = 0; width = 1; count = 5; got = pos 0 ∷ pos 0 ∷ pos 0 ∷ pos 0 ∷ pos 0 ∷ []; missing = 3; turns = 0 }
+    ∷ record { bytes = 0x01 ∷ []; bit = 7; width = 2; count = 1; got = pos 3 ∷ []; missing = 4; turns = 1 }
+    ∷ record { bytes = 0x80 ∷ []; bit = 0; width = 15; count = 1; got = pos 32767 ∷ []; missing = 32761; turns = 6 }
     ∷ []
 
 -- the state of the decoder at a bit of the first byte
@@ -87,6 +89,10 @@ readAs s = decodeOut (s .bytes) (atBit (s .bit)) (replicate (s .count) (pos 7)) 
 -- what the call answers
 abbrev pub decodedAs : SrlRead → Decoded
 decodedAs s = decodeAnswer (s .bytes) (atBit (s .bit)) (s .count) (s .count) (s .width)
+
+-- the turns of the loop that counts zeros
+abbrev pub turnedAs : SrlRead → ℕ
+turnedAs s = valuesTurns (s .bytes) (replicate (s .count) (s .width)) (opened (atBit (s .bit)))
 
 -- a value that begins at the last bit, at width 16
 abbrev pub atWidth16 : Decoded
@@ -196,6 +202,7 @@ pub record BenchSamples : Type 0 where
   pub srl-read : map readAs srlRead ≡ map (λ s. s .got) srlRead
   pub srl-counts : map (λ s. decodedCount (decodedAs s)) srlRead ≡ map (λ s. s .count) srlRead
   pub srl-missing : map (λ s. decodedMissing (decodedAs s)) srlRead ≡ map (λ s. s .missing) srlRead
+  pub srl-turns : map turnedAs srlRead ≡ map (λ s. s .turns) srlRead
   -- where a width is refused no bit counts
   pub srl-refused : (decodedNumber atWidth16 ≡ 4) × (decodedMissing atWidth16 ≡ 0)
   -- an empty stream gives zeros, as many as are asked for and at every width

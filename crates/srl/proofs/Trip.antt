@@ -21,8 +21,8 @@ use Rattle.srl_decoder.specs.Srl.{Reader, reader, start, mostZeros, nonzero, be
 use Rattle.srl_encoder.specs.Encode.{stop, nonzeroBits, runBits, runKp}
 use Rattle.srl_encoder.specs.Finish.{flush, streamBits}
 use Rattle.srl.specs.Laws.{Legal, legal}
-use Rattle.srl_decoder.proofs.Codes.{code-zero, code-one, code-moves}
-use Rattle.srl_decoder.proofs.Due.{from, afterFrom, code-ready}
+use Rattle.srl_decoder.proofs.Codes.{code-zero, code-one, code-moves, code-ready}
+use Rattle.srl_decoder.proofs.Due.{from, afterFrom}
 
 -- the values that are read for the widths ws from a reader on, and no bit from bit m on is read
 pub record ReadBack (s ws : List ℕ) (r : Reader) (vs : List ℤ) (m : ℕ) : Type 0 where

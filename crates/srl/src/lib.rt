@@ -3,6 +3,7 @@
 
 ghost use Rattle.srl.specs.Laws.{Refusals, HeldRefusals, DecodedMagnitudes, RoundTrip, DecoderResumes, EncoderResumes};
 ghost use Rattle.srl.specs.Missing.{SrlMissingBits};
+ghost use Rattle.srl.specs.Turns.{SrlBoundedTurns};
 pub use srl_decoder::Decoded;
 pub use srl_decoder::SrlState;
 pub use srl_decoder::decode;
@@ -57,4 +58,11 @@ pub fn encoder_resumes()
 // `encode` and `finish` wrote misses nothing; zero bytes behind a stream change no value, and once it is long enough nothing is missing.
 pub fn missing_bits()
     ensures { λ _. ⌜ SrlMissingBits ⌝ }
+{}
+
+// Where the bytes are spent the count of a nonzero value's zeros is given up: the loop turns at most once for each bit that the stream still
+// holds behind the sign bit, and once more. Value, place and missing bits are those of the count bit by bit. The dry run over code words
+// turns at most once for each bit that the stream still holds.
+pub fn bounded_turns()
+    ensures { λ _. ⌜ SrlBoundedTurns ⌝ }
 {}

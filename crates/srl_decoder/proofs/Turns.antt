@@ -130,6 +130,9 @@ module _ (s : List ℕ) where
       ∙ ap (λ (z : ℕ). dryFrom s n (reader (p + 1) (min (kp + 4) 80) z false)) (sym (suc-ones (kp / 8)))
       ∙ dry-past (p + 1) (min (kp + 4) 80) (2 ^ (kp / 8) - 1) n (omega arith)
 
+  pub due-past : (p kp run n : ℕ) → 8 * length s ≤ p → dueAmong s (reader p kp run false) n ≡ false
+  due-past p kp run n h = sym (dry-due (reader p kp run false) n) ∙ ap (λ (d : DryRun). d .due) (dry-past p kp run n h)
+
   -- ---- by the decoder's state
 
   -- where it reads on: a turn, and the rest from behind the code word

@@ -34,7 +34,7 @@ storedBy s r m t = record { state = shut (heldReader s r); missing = m; turns = 
 pub record StoresValues (s : List ℕ) (st : SrlState) (n w : ℕ) (r : Stored) : Type 0 where
   pub state : r .state ≡ shut (heldReader s (readerAfter s (replicate n w) (opened st)))
   pub missing : r .missing ≡ missingFrom s st n w
-  -- "it gives a value at least in each turn", in the stream and past its end
+  -- "at most once for each value that is asked for, in the stream and past its end"
   pub turns : r .turns ≤ n
 
 -- the state that goes back to the caller, who handed in st

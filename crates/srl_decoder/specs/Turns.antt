@@ -49,5 +49,5 @@ dryRun s r (suc n) =
 pub record FindsDue (s : List ℕ) (r : Reader) (n : ℕ) (d : DryRun) : Type 0 where
   pub found : d .due ≡ dueAmong s r n
   pub turns : d .turns ≡ dryRun s r n .turns
-  -- no more than "the bits that the stream still holds"
+  -- "no more often than the stream still holds bits"
   pub spent : d .turns ≤ stillHeld s (r .read)

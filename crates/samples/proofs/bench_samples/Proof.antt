@@ -11,13 +11,16 @@ use Rattle.fixed.specs.Fixed.{clampI16, clampU8, addScaled, subScaled, isZero, 
 use Rattle.bands.specs.Bands.{spread}
 use Rattle.bits.specs.Bits.{num, numbers, zeros}
 use Rattle.bits.specs.Missing.{readNum, readNumbers, readZeros, missingIn}
+use Rattle.bits.specs.Turns.{countZeros}
 use Rattle.bits.specs.Written.{bitsOfAll}
 use Rattle.answer.specs.Refusals.{invalidBitCount, outputTooShort, unless, firstOf, noRoom, stored}
 use Rattle.srl_rules.specs.Rules.{widthOk}
 use Rattle.srl_decoder.specs.Srl.{values, readerAfter}
 use Rattle.srl_decoder.specs.Missing.{readValues}
 use Rattle.srl_decoder.specs.Decode.{startState, opened, decodeRefusal, decodeOut}
-use Rattle.srl_decoder.proofs.Due.{due-past, values-past}
+use Rattle.srl_decoder.specs.Turns.{valuesTurns}
+use Rattle.srl_decoder.proofs.Due.{values-past}
+use Rattle.srl_decoder.proofs.Turns.{due-past}
 use Rattle.srl_encoder.specs.Finish.{streamBits}
 use Rattle.upgrade_steps.specs.Steps.{srlWidths, rawWidths}
 use Rattle.progressive_decoder.specs.Upgrade.{signsAfter, coefficientsAfter}
@@ -46,12 +49,13 @@ empty out n w h =
     ∙ ap (λ (k : ℕ). replicate n (pos 0) ++ drop k out) (length-replicate n (pos 0))
 
 samples : BenchSamples
-unfolding readNum readNumbers readZeros missingIn readValues values readerAfter num zeros numbers clampI16 clampU8 addScaled subScaled isZero isOne spread srlWidths rawWidths signsAfter coefficientsAfter srlDifferences rawDifferences anyTooLarge streamBits bitsOfAll red green blue
+unfolding readNum readNumbers readZeros missingIn countZeros valuesTurns readValues values readerAfter num zeros numbers clampI16 clampU8 addScaled subScaled isZero isOne spread srlWidths rawWidths signsAfter coefficientsAfter srlDifferences rawDifferences anyTooLarge streamBits bitsOfAll red green blue
 samples = record {
   srl-written = refl;
   srl-read = refl;
   srl-counts = refl;
   srl-missing = refl;
+  srl-turns = refl;
   srl-refused = (refl, refl);
   srl-empty = empty;
   pass-answers = refl;
