@@ -1,4 +1,5 @@
 // Whether the port agrees with a case, by its kind. oracle/README.md lists the kinds.
+use crate::cuts;
 use crate::ladder;
 use crate::tiles;
 use replay_input::number;
@@ -22,6 +23,7 @@ fn same(kind: u8, c: &[u8]) -> bool {
         40 => ladder::agrees(c),
         41 | 42 | 43 | 44 => replay_pixels::agrees(kind, c),
         45 => tiles::pixels_agrees(c),
+        46 => cuts::agrees(c),
         _ => leaves::agrees(kind, c),
     }
 }

@@ -13,7 +13,7 @@ struct Stepped {
 }
 
 // Upgrades a tile by its streams, which begin at every 16,384th byte.
-fn upgrade(
+pub fn upgrade(
     t: tile::TileState,
     srl: &[u8],
     raw: &[u8],

@@ -5,6 +5,7 @@ use replay_input::number;
 use replay_input::report;
 use replay_input::sizes;
 
+mod cuts;
 mod kinds;
 mod ladder;
 mod tiles;

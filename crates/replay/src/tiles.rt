@@ -171,7 +171,7 @@ fn with_fields(digest: u64, t: tile::TileState) -> u64 {
 }
 
 // A whole tile as one number.
-fn digest(t: tile::TileState) -> u64 {
+pub fn digest(t: tile::TileState) -> u64 {
     let coefficients = t.coefficients;
     let d = digests::with_values(0, &coefficients, 12288);
     let sign = t.sign;

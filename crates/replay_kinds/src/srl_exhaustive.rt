@@ -15,18 +15,11 @@ fn with_state(digest: u64, state: srl_decoder::SrlState) -> u64 {
     digests::mixed(d, 0)
 }
 
-// A digest with what the port decodes from a stream; a refusal counts as no number that a recording has.
-fn with_stream(digest: u64, src: &[u8], width: u8, count: u8) -> u64 {
-    let mut out = [0i16; 255];
-    match srl_decoder::decode(
-        src,
-        srl_decoder::SrlState::new(),
-        &mut out,
-        count as usize,
-        width,
-    ) {
+// A digest with an answer of the port more, its values in `out`; a refusal counts as no number that a recording has.
+pub fn with_answer(digest: u64, out: &[i16], answer: srl_decoder::Decoded) -> u64 {
+    match answer {
         srl_decoder::Decoded::Values(n, state, missing) => digests::mixed(
-            with_state(digests::with_values(digest, &out, n), state),
+            with_state(digests::with_values(digest, out, n), state),
             missing,
         ),
         srl_decoder::Decoded::Refused(refusal, _) => digests::mixed(
@@ -34,6 +27,19 @@ fn with_stream(digest: u64, src: &[u8], width: u8, count: u8) -> u64 {
             u64::MAX - refusal as u64,
         ),
     }
+}
+
+// A digest with what the port decodes from a stream.
+fn with_stream(digest: u64, src: &[u8], width: u8, count: u8) -> u64 {
+    let mut out = [0i16; 255];
+    let answer = srl_decoder::decode(
+        src,
+        srl_decoder::SrlState::new(),
+        &mut out,
+        count as usize,
+        width,
+    );
+    with_answer(digest, &out, answer)
 }
 
 // A digest with the stream of one byte, or of two, that ends so.

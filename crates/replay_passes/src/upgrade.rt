@@ -21,7 +21,7 @@ pub fn refusal(answer: answer::Answer) -> u8 {
 }
 
 // The coefficients and the signs as one number.
-fn digest(befores: &[i16], signs: &[i8]) -> u64 {
+pub fn digest(befores: &[i16], signs: &[i8]) -> u64 {
     let d = digests::with_values(0, befores, befores.len());
     digests::with_signs(d, signs)
 }

@@ -2,6 +2,8 @@
 //! the rule.
 
 use oracle::codecs::rfx::progressive::ComponentCodecQuant;
+use oracle::kinds::missing;
+use oracle::kinds::srl::decode::START;
 use oracle::port::Row;
 use oracle::progressive::{self, COEFFICIENTS_PER_COMPONENT, TileState};
 use oracle::random::Random;
@@ -62,27 +64,51 @@ pub struct Tile {
     pub base_quant: [Row; 3],
 }
 
-/// A tile before a pass, and the pass of each component as the text writes it.
+/// A tile before a pass, and the streams of each component.
 pub struct Upgrade {
     pub before: TileState,
+    /// The positions of all components before the pass and after it.
+    pub prev: Row,
+    pub curr: Row,
     pub srl: [Vec<u8>; 3],
     pub raw: [Vec<u8>; 3],
+    /// The bits that the SRL streams and the raw streams lack.
+    pub missing: [u32; 2],
 }
 
-/// Several tiles, each of three components of a sort.
+impl Upgrade {
+    /// A tile of zeros, and streams of no bytes.
+    fn of_nothing(prev: Row, curr: Row, missing: [u32; 2]) -> Self {
+        Self {
+            before: TileState {
+                prog_quant: [ComponentCodecQuant::of_bands(prev); 3],
+                use_reduce_extrapolate: USE_REDUCE_EXTRAPOLATE,
+                ..TileState::new()
+            },
+            prev,
+            curr,
+            srl: Default::default(),
+            raw: Default::default(),
+            missing,
+        }
+    }
+}
+
+/// Several tiles of zeros, all alike, whose pass of all bits has no bytes: it lacks 20 bits of each SRL stream, and in
+/// each bottom band 15 bits of 81 places.
+pub fn empty_upgrades() -> Vec<Upgrade> {
+    let missing = [3 * 20, 3 * 81 * 15];
+    (0..16)
+        .map(|_| Upgrade::of_nothing([15; 10], [0; 10], missing))
+        .collect()
+}
+
+/// Several tiles, each of three components of a sort, with the pass as the text writes it.
 pub fn upgrades(sort: Sort) -> Vec<Upgrade> {
     let mut random = Random::new(3, sort.known as u8);
     let mut upgrades = Vec::new();
     for _ in 0..16 {
-        let mut upgrade = Upgrade {
-            before: TileState {
-                prog_quant: [ComponentCodecQuant::of_bands(PREV); 3],
-                use_reduce_extrapolate: USE_REDUCE_EXTRAPOLATE,
-                ..TileState::new()
-            },
-            srl: Default::default(),
-            raw: Default::default(),
-        };
+        let mut upgrade = Upgrade::of_nothing(PREV, CURR, [0; 2]);
         for k in 0..3 {
             let input = input(&mut random, sort);
             upgrade.before.coefficients[k].copy_from_slice(&input.before);
@@ -94,25 +120,52 @@ pub fn upgrades(sort: Sort) -> Vec<Upgrade> {
     upgrades
 }
 
-/// The bits of a value in an SRL stream that is timed by itself.
-pub const SRL_WIDTH: u8 = 3;
-
-/// Values, and the SRL stream that the text writes of them.
+/// Values of a width, and the SRL stream that brings them.
 pub struct Stream {
     pub values: Vec<i16>,
+    pub width: u8,
     pub bytes: Vec<u8>,
+    /// The bits that the stream lacks.
+    pub missing: u64,
 }
 
-/// Several streams of as many values as the bands above the bottom have places. One of 20 values is not zero, and
-/// smaller magnitudes are more frequent.
+/// Several streams of as many values as the bands above the bottom have places, of 3 bits, as the text writes them. One
+/// of 20 values is not zero, and smaller magnitudes are more frequent.
 pub fn streams() -> Vec<Stream> {
     let mut random = Random::new(4, 0);
     let stream = |_| {
         let values: Vec<i16> = (0..4015).map(|_| value(&mut random)).collect();
-        let bytes = srl::encode_srl(&values, SRL_WIDTH).expect("the values fit");
-        Stream { values, bytes }
+        let bytes = srl::encode_srl(&values, 3).expect("the values fit");
+        Stream {
+            values,
+            width: 3,
+            bytes,
+            missing: 0,
+        }
     };
     (0..16).map(stream).collect()
+}
+
+/// Several streams that are cut after their first byte, within a value of 15 bits: the first bytes from 80 on after
+/// which the zeros of such a value go on past the end, so that its magnitude is the greatest.
+pub fn cut_streams() -> Vec<Stream> {
+    let in_a_value = |stream: &Stream| stream.values.iter().any(|value| value.abs() == i16::MAX);
+    (0x80..=0xFF)
+        .map(cut_stream)
+        .filter(in_a_value)
+        .take(16)
+        .collect()
+}
+
+/// The first four values of 15 bits that the text reads of a stream of one byte.
+fn cut_stream(byte: u8) -> Stream {
+    let (count, width) = (4, 15);
+    Stream {
+        values: srl::decode_srl(&[byte], count, width).expect("the width is one"),
+        width,
+        bytes: vec![byte],
+        missing: missing::of_values(&[byte], START, count, width),
+    }
 }
 
 fn value(random: &mut Random) -> i16 {

@@ -15,8 +15,8 @@ use oracle::progressive::{self, COEFFICIENTS_PER_COMPONENT, TileState, reach};
 use oracle::srl::{SrlDecoder, SrlEncoder};
 
 use input::{
-    CURR, FAINT, Input, PREV, Pixels, QUANT, SORTS, SRL_WIDTH, Stream, Tile,
-    USE_REDUCE_EXTRAPOLATE, Upgrade, inputs, rows, streams, tiles, upgrades,
+    CURR, FAINT, Input, PREV, Pixels, QUANT, SORTS, Stream, Tile, USE_REDUCE_EXTRAPOLATE, Upgrade,
+    cut_streams, empty_upgrades, inputs, rows, streams, tiles, upgrades,
 };
 
 /// The bytes of each output that the port gets: more than any pass here takes.
@@ -145,20 +145,27 @@ fn main() -> ExitCode {
             port_reconstruct,
         );
     }
-    row(
-        "TileState::decode_upgrade, typical",
-        &upgrades(SORTS[1]),
-        repetitions,
-        rust_upgrade,
-        port_upgrade,
-    );
-    row(
-        "srl decode, 4015 values",
-        &streams(),
-        repetitions,
-        rust_srl_decode,
-        port_srl_decode,
-    );
+    for (name, upgrades) in [("typical", upgrades(SORTS[1])), ("empty", empty_upgrades())] {
+        row(
+            &format!("TileState::decode_upgrade, {name}"),
+            &upgrades,
+            repetitions,
+            rust_upgrade,
+            port_upgrade,
+        );
+    }
+    for (name, streams) in [
+        ("4015 values", streams()),
+        ("cut after one byte", cut_streams()),
+    ] {
+        row(
+            &format!("srl decode, {name}"),
+            &streams,
+            repetitions,
+            rust_srl_decode,
+            port_srl_decode,
+        );
+    }
     row(
         "srl encode and finish, 4015 values",
         &streams(),
@@ -205,14 +212,14 @@ fn row<I>(name: &str, inputs: &[I], repetitions: usize, rust: Call<I>, port: Cal
     let ratios = sorted(ratios.map(|(port, rust)| port / rust).collect());
     let [rust, port] = times.map(sorted);
     println!(
-        "{name:<34}{:>8.0}{:>8.0}{:>10.0}{:>8.0}   {:.2} ({:.2} to {:.2})",
+        "{name:<34}{:>8.0}{:>8.0}{:>10.0}{:>8.0}   {} ({} to {})",
         quartile(&rust, 2),
         quartile(&port, 2),
         rust[0],
         port[0],
-        quartile(&ratios, 2),
-        quartile(&ratios, 1),
-        quartile(&ratios, 3),
+        shown(quartile(&ratios, 2)),
+        shown(quartile(&ratios, 1)),
+        shown(quartile(&ratios, 3)),
     );
 }
 
@@ -235,6 +242,12 @@ fn sorted(mut numbers: Vec<f64>) -> Vec<f64> {
 /// The number below which so many quarters of the numbers are.
 fn quartile(numbers: &[f64], quarters: usize) -> f64 {
     numbers[numbers.len() * quarters / 4]
+}
+
+/// A ratio with two decimals, or three where two would say nothing.
+fn shown(ratio: f64) -> String {
+    let decimals = if ratio < 0.05 { 3 } else { 2 };
+    format!("{ratio:.decimals$}")
 }
 
 /// A fresh copy of the component: both sides work in place, and both are timed with it.
@@ -373,7 +386,7 @@ fn rust_upgrade(upgrade: &Upgrade, work: &mut Work) {
         .decode_upgrade(
             upgrade.srl.each_ref().map(Vec::as_slice),
             upgrade.raw.each_ref().map(Vec::as_slice),
-            [ComponentCodecQuant::of_bands(CURR); 3],
+            [ComponentCodecQuant::of_bands(upgrade.curr); 3],
             50,
         )
         .expect("a stream causes no refusal");
@@ -382,7 +395,7 @@ fn rust_upgrade(upgrade: &Upgrade, work: &mut Work) {
 fn port_upgrade(upgrade: &Upgrade, work: &mut Work) {
     refresh_tile(upgrade, work);
     let tile = &mut *work.tile;
-    let mut prog_quant = [PREV; 3];
+    let mut prog_quant = [upgrade.prev; 3];
     let mut missing = [u32::MAX; 2];
     let number = port::tile_decode_upgrade(
         port::Tile {
@@ -394,21 +407,21 @@ fn port_upgrade(upgrade: &Upgrade, work: &mut Work) {
             pass: &mut tile.pass,
             quality: &mut tile.quality,
         },
-        &[CURR; 3],
+        &[upgrade.curr; 3],
         50,
         upgrade.srl.each_ref().map(Vec::as_slice),
         upgrade.raw.each_ref().map(Vec::as_slice),
         &mut missing,
     );
     assert_eq!(number, 0, "a stream causes no refusal");
-    assert_eq!(missing, [0; 2], "the streams are whole");
+    assert_eq!(missing, upgrade.missing, "bits that the streams lack");
     tile.prog_quant = prog_quant.map(ComponentCodecQuant::of_bands);
 }
 
 /// The text hands out a new list; the work keeps it.
 fn rust_srl_decode(stream: &Stream, work: &mut Work) {
     let mut decoder = SrlDecoder::new(&stream.bytes).expect("every stream is one");
-    let values = decoder.decode(stream.values.len(), SRL_WIDTH);
+    let values = decoder.decode(stream.values.len(), stream.width);
     work.values = values.expect("the width is one the decoder takes");
 }
 
@@ -423,20 +436,20 @@ fn port_srl_decode(stream: &Stream, work: &mut Work) {
         &mut state,
         &mut work.values,
         count,
-        SRL_WIDTH,
+        stream.width,
         &mut missing,
     );
     assert_eq!(
         number, 0,
         "the width is one the decoder takes, and there is room"
     );
-    assert_eq!(missing, 0, "the stream is whole");
+    assert_eq!(missing, stream.missing, "bits that the stream lacks");
 }
 
 fn rust_srl_encode(stream: &Stream, work: &mut Work) {
     let mut encoder = SrlEncoder::new();
     encoder
-        .encode(&stream.values, SRL_WIDTH)
+        .encode(&stream.values, stream.width)
         .expect("the values fit");
     work.srl = encoder.finish().expect("the zeros are few");
     work.written = [work.srl.len(), 0];
@@ -449,7 +462,7 @@ fn port_srl_encode(stream: &Stream, work: &mut Work) {
         &stream.values,
         &mut state,
         &mut work.srl,
-        SRL_WIDTH,
+        stream.width,
         &mut written,
     );
     assert_eq!(number, 0, "the values fit, and there is room");

@@ -2,6 +2,7 @@
 //! that both leave is compared byte by byte, also what no one may touch; then the answers of the case
 //! are compared with those of the functions.
 
+mod cuts;
 mod passes;
 mod pixels;
 mod srl;
@@ -22,6 +23,7 @@ type Agrees = Result<(), String>;
 pub fn agree(kind: u8, case: &[u8]) -> Option<Agrees> {
     const WRONG_ANSWER: u8 = wrong::WRONG_ANSWER.number;
     const SRL_EXHAUSTIVE: u8 = srl_kinds::exhaustive::SRL_EXHAUSTIVE.number;
+    const CUT_EVERYWHERE: u8 = progressive::cuts::CUT_EVERYWHERE.number;
     const DWT_DECODE: u8 = wavelet::DWT_DECODE.number;
     const DWT_IMPULSE: u8 = wavelet::DWT_IMPULSE.number;
     const YCBCR_TO_RGB: u8 = color::YCBCR_TO_RGB.number;
@@ -36,6 +38,7 @@ pub fn agree(kind: u8, case: &[u8]) -> Option<Agrees> {
         dequantize::DEQUANTIZE => passes::dequantize(&mut fields),
         ladder::UPGRADE_LADDER => tiles::upgrade_ladder(&mut fields),
         progressive::pixels::TILE_PIXELS => tiles::tile_pixels(&mut fields),
+        CUT_EVERYWHERE => cuts::cut_everywhere(&mut fields),
         DWT_DECODE => pixels::dwt_decode(&mut fields),
         DWT_IMPULSE => pixels::dwt_impulse(&mut fields),
         YCBCR_TO_RGB => pixels::ycbcr_to_rgb(&mut fields),

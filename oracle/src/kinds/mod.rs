@@ -16,7 +16,7 @@ use crate::record::{Case, Recording};
 use oracle::random::Random;
 
 /// The number and the name of each kind.
-pub const KINDS: [(u8, &str); 32] = [
+pub const KINDS: [(u8, &str); 33] = [
     (1, "clamp_i16"),
     (2, "clamp_u8"),
     (3, "t"),
@@ -49,6 +49,7 @@ pub const KINDS: [(u8, &str); 32] = [
     (43, "ycbcr_to_rgb"),
     (44, "ycbcr_row"),
     (45, "tile_pixels"),
+    (46, "cut_everywhere"),
 ];
 
 /// The name of a kind.
@@ -69,6 +70,7 @@ fn size(kind: u8) -> Option<usize> {
         bands::LL3_OFFSET,
         wrong::WRONG_ANSWER,
         srl::exhaustive::SRL_EXHAUSTIVE,
+        progressive::cuts::CUT_EVERYWHERE,
         wavelet::DWT_DECODE,
         wavelet::DWT_IMPULSE,
         color::YCBCR_TO_RGB,

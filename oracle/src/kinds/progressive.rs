@@ -1,7 +1,8 @@
 //! Kinds 36 to 40: a pass over one component, read and written; dequantizing; a tile, loaded and upgraded.
-//! Kind 45: a tile's pixels.
+//! Kind 45: a tile's pixels. Kind 46: streams that are cut at each byte.
 
 pub mod component;
+pub mod cuts;
 pub mod decode;
 pub mod dequantize;
 pub mod encode;
@@ -41,6 +42,7 @@ pub fn record_all(recording: &mut Recording<'_>) -> io::Result<Vec<(u8, Case)>> 
     models.extend(recording.kind(load::TILE_LOAD, load::record_all)?);
     models.extend(recording.kind(ladder::UPGRADE_LADDER, ladder::record_all)?);
     models.extend(recording.kind(pixels::TILE_PIXELS, pixels::record_all)?);
+    recording.kind(cuts::CUT_EVERYWHERE.number, cuts::record_all)?;
     Ok(models)
 }
 

@@ -35,6 +35,23 @@ fn same_made(port: &Made, text: &Made) -> Agrees {
     same_places("target", &port.target, &text.target)
 }
 
+/// Has both read a pass into places that `make` gives, and gives the refusal, or 0, the bits that were missing and the
+/// places of the port.
+pub fn same_read(
+    given: &Given,
+    srl: &[u8],
+    raw: &[u8],
+    make: impl Fn() -> Made,
+) -> Result<(u8, Missing, Made), String> {
+    let [mut made, mut text] = [make(), make()];
+    let (text_number, text_missing) = decode::read(given, srl, raw, &mut text);
+    let (number, missing) = read(given, srl, raw, &mut made);
+    same("refusal", number, text_number)?;
+    same("missing bits", missing, text_missing)?;
+    same_made(&made, &text)?;
+    Ok((number, missing, made))
+}
+
 /// A pass that is read.
 pub fn decode_upgrade(fields: &mut Fields<'_>) -> Agrees {
     let given = Given::read(fields);
@@ -42,13 +59,7 @@ pub fn decode_upgrade(fields: &mut Fields<'_>) -> Agrees {
     let mut answers = Fields::of(fields.bytes(17));
     let srl = fields.bytes(srl);
     let raw = fields.bytes(raw);
-    let mut text = given.make();
-    let (text_number, text_missing) = decode::read(&given, srl, raw, &mut text);
-    let mut made = given.make();
-    let (number, missing) = read(&given, srl, raw, &mut made);
-    same("refusal", number, text_number)?;
-    same("missing bits", missing, text_missing)?;
-    same_made(&made, &text)?;
+    let (number, missing, made) = same_read(&given, srl, raw, || given.make())?;
     same_answer(&mut answers, &[number])?;
     same_answer(&mut answers, &decode::digest(&made).to_le_bytes())?;
     same_answer(&mut answers, &missing::fields(missing))

@@ -128,32 +128,43 @@ fn same_output(text: &encode::Answer, number: u8, out: &[u8], written: usize) ->
     same_places("bytes", out, &held)
 }
 
+/// Has both decode values of a stream, from its start, and gives what the port decodes, its state then and the bits
+/// that were missing.
+pub fn same_values(
+    stream: &[u8],
+    width: u8,
+    count: usize,
+) -> Result<(Vec<i16>, DecoderState, u64), String> {
+    let (values, state, text_missing) = exhaustive::decoded(stream, width, count);
+    let mut numbers = reader_numbers(decode::START);
+    let before = vec![i16::MAX; count + 8];
+    let mut out = before.clone();
+    let mut missing = u64::MAX;
+    let number = port::srl_decode(
+        stream,
+        &mut numbers,
+        &mut out[..count],
+        count,
+        width,
+        &mut missing,
+    );
+    same("refusal", number, 0)?;
+    same("state", numbers, reader_numbers(state))?;
+    same("missing bits", missing, text_missing)?;
+    same_places("values", &out, &overwritten(before, &values))?;
+    out.truncate(count);
+    let state = reader(numbers).ok_or("the state is none")?;
+    Ok((out, state, missing))
+}
+
 /// The 256 streams of a case.
 pub fn exhaustive(fields: &mut Fields<'_>) -> Agrees {
     let [width, count, bytes, first] = [(); 4].map(|()| fields.u8());
     let mut digest = 0;
     for last in 0..=255 {
         let stream = &[first, last][2 - usize::from(bytes)..];
-        let (values, state, text_missing) = exhaustive::decoded(stream, width, count);
-        let mut numbers = reader_numbers(decode::START);
-        let mut out = [i16::MAX; 48];
-        let mut missing = u64::MAX;
-        let room = usize::from(count);
-        let number = port::srl_decode(
-            stream,
-            &mut numbers,
-            &mut out[..room],
-            room,
-            width,
-            &mut missing,
-        );
-        same("refusal", number, 0)?;
-        same("state", numbers, reader_numbers(state))?;
-        same("missing bits", missing, text_missing)?;
-        let text = overwritten(vec![i16::MAX; out.len()], &values);
-        same_places("values", &out, &text)?;
-        let state = reader(numbers).ok_or("the state is none")?;
-        digest = exhaustive::with_answer(digest, &out[..room], state, missing);
+        let (values, state, missing) = same_values(stream, width, count.into())?;
+        digest = exhaustive::with_answer(digest, &values, state, missing);
     }
     same_answer(fields, &digest.to_le_bytes())
 }

@@ -52,6 +52,20 @@ fn same_tile(port: &TileState, text: &TileState) -> Agrees {
     same_places("other fields", &port, &text)
 }
 
+/// Has both upgrade a tile, and gives the refusal, or 0, and the bits that were missing.
+pub fn same_upgrade(
+    tile: &mut TileState,
+    text: &mut TileState,
+    given: &Upgrade,
+) -> Result<(u8, Missing), String> {
+    let (text_number, text_missing) = given.apply(text);
+    let (number, missing) = upgrade(tile, given);
+    same("refusal", number, text_number)?;
+    same("missing bits", missing, text_missing)?;
+    same_tile(tile, text)?;
+    Ok((number, missing))
+}
+
 /// A tile and upgrades one after another. No function makes or loads a tile: the text's is taken.
 pub fn upgrade_ladder(fields: &mut Fields<'_>) -> Agrees {
     let start = Start::read(fields);
@@ -62,12 +76,8 @@ pub fn upgrade_ladder(fields: &mut Fields<'_>) -> Agrees {
     same_answer(fields, &answer_fields(number, &tile))?;
     for index in 0..usize::from(steps) {
         let given = Step::read(fields).upgrade(&start, index, &text);
-        let (text_number, text_missing) = given.apply(&mut text);
-        let (number, missing) = upgrade(&mut tile, &given);
-        same(&format!("upgrade {index}, refusal"), number, text_number)?;
-        let what = format!("upgrade {index}, missing bits");
-        same(&what, missing, text_missing)?;
-        same_tile(&tile, &text).map_err(|what| format!("upgrade {index}, {what}"))?;
+        let (number, missing) = same_upgrade(&mut tile, &mut text, &given)
+            .map_err(|what| format!("upgrade {index}, {what}"))?;
         same_answer(fields, &answer_fields(number, &tile))?;
         same_answer(fields, &missing::fields(missing))?;
     }

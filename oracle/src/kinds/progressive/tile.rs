@@ -74,7 +74,7 @@ impl Start {
 
     /// A seed that the case's seed gives, by its number.
     pub fn seed(&self, number: u64) -> u64 {
-        (0..3).fold(self.shape.seed, |seed, _| mixed(seed, number))
+        numbered(self.shape.seed, number)
     }
 
     /// The tile with all of these fields.
@@ -138,6 +138,11 @@ impl Fields {
         bytes.push(u8::from(self.use_reduce_extrapolate));
         bytes
     }
+}
+
+/// A seed that another gives, by its number.
+pub fn numbered(seed: u64, number: u64) -> u64 {
+    (0..3).fold(seed, |seed, _| mixed(seed, number))
 }
 
 fn row(quant: ComponentCodecQuant) -> Row {

@@ -39,15 +39,14 @@ fn digest(begin: &[u8], width: u8, count: u8) -> u64 {
     let mut digest = 0;
     for last in 0..=255 {
         let stream = [begin, &[last]].concat();
-        let (values, state, missing) = decoded(&stream, width, count);
+        let (values, state, missing) = decoded(&stream, width, count.into());
         digest = with_answer(digest, &values, state, missing);
     }
     digest
 }
 
 /// What the text decodes from a stream, the state then, and how many bits were missing.
-pub fn decoded(stream: &[u8], width: u8, count: u8) -> (Vec<i16>, DecoderState, u64) {
-    let count = usize::from(count);
+pub fn decoded(stream: &[u8], width: u8, count: usize) -> (Vec<i16>, DecoderState, u64) {
     let mut decoder = reach::decoder(stream, START);
     let values = decoder
         .decode(count, width)
