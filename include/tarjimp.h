@@ -35,7 +35,9 @@
  * read came from past the end; 0 means that the stream had all of them. What
  * tarjimp_encode_upgrade_pass writes misses none where it is read with the same
  * signs and rows (proved). Some writers leave out zeros at the end of a stream:
- * those count as missing too, though nothing is lost with them.
+ * those count as missing too, though nothing is lost with them. Nor does a cut
+ * stream take long: the loop that counts a value's zeros turns at most once for
+ * each bit that the stream still holds, and once more, at every width (proved).
  *
  * WHAT MUST HOLD OF POINTERS
  *

@@ -8,7 +8,7 @@ use borrow.Author.Tests.{leb-true, leb-false}
 use lib.ListN.{length}
 use Rattle.bits.specs.Bits.{bitAt, zeros, zerosLength}
 use Rattle.bits.specs.Missing.{readBit, readZeros, missingIn}
-use Rattle.bits.specs.Turns.{stillHeld, Counted, givenUp, stopped, goneOn, countZeros, wordsOf, CountsZeros}
+use Rattle.bits.specs.Turns.{stillHeld, Counted, givenUp, stopped, goneOn, countZeros, wordTurns, CountsZeros}
 use Rattle.bits.specs.declared.reader.ZerosCounted.{ZerosCounted}
 use Rattle.bits.proofs.Ones.{zeros-past, zeros-one, zeros-zero, length-all, length-one, length-go}
 use Rattle.bits.proofs.Missing.{missing-zeros}
@@ -73,9 +73,9 @@ count-is s n (suc l) = by (readBit s n .missing) refl (bitAt s n) refl (count-is
     by false g false e ih = ap goneOn ih ∙ on (leb-false (8 * length s) n g) e
 
 -- the code's loop, which takes up to 56 bits in a turn, has no more turns
-pub words-fewer : (s : List ℕ) (n l : ℕ) → min (wordsOf (zerosLength s n l)) (wordsOf (stillHeld s n) + 1) ≤ countZeros s n l .turns
+pub words-fewer : (s : List ℕ) (n l : ℕ) → wordTurns s n l ≤ countZeros s n l .turns
 words-fewer s n l = omega (arith, ap (λ (c : Counted). c .turns) (count-is s n l))
 
 -- what fixes the code's turns bounds them
-pub counts : (s : List ℕ) (n l : ℕ) (r : ZerosCounted) → r .zeros ≡ zeros s n l → r .turns ≡ min (wordsOf (zerosLength s n l)) (wordsOf (stillHeld s n) + 1) → CountsZeros s n l r
+pub counts : (s : List ℕ) (n l : ℕ) (r : ZerosCounted) → r .zeros ≡ zeros s n l → r .turns ≡ wordTurns s n l → CountsZeros s n l r
 counts s n l r z t = record { count = z; turns = t; spent = omega (arith, t) }

@@ -43,10 +43,13 @@ countZeros s n (suc limit) =
 abbrev pub wordsOf : ℕ → ℕ
 wordsOf b = (b + 55) / 56
 
+-- its turns: for the zeros and the 1 behind them; or, where the bytes are spent before, for the bits still held and once more
+abbrev pub wordTurns : List ℕ → ℕ → ℕ → ℕ
+wordTurns s n limit = min (wordsOf (zerosLength s n limit)) (wordsOf (stillHeld s n) + 1)
+
 -- what `count_zeros` hands back
 pub record CountsZeros (s : List ℕ) (n limit : ℕ) (r : ZerosCounted) : Type 0 where
   pub count : r .zeros ≡ zeros s n limit
-  -- it turns for the zeros and the 1 behind them; or, where the bytes are spent before, for the bits still held and once more
-  pub turns : r .turns ≡ min (wordsOf (zerosLength s n limit)) (wordsOf (stillHeld s n) + 1)
+  pub turns : r .turns ≡ wordTurns s n limit
   -- "at most once for each bit that the stream still holds from where it begins [..], and once more"
   pub spent : r .turns ≤ stillHeld s n + 1

@@ -6,7 +6,7 @@ use lib.ListN.{length}
 use Rattle.fixed.specs.Fixed.{withSign}
 use Rattle.bits.specs.Bits.{bitOf, bitAt, zerosLength}
 use Rattle.bits.specs.Missing.{readBit, missingIn}
-use Rattle.bits.specs.Turns.{stillHeld, wordsOf}
+use Rattle.bits.specs.Turns.{stillHeld, wordTurns}
 use Rattle.srl_decoder.specs.Srl.{Reader, mostZeros, nonzero, behind}
 use Rattle.srl_decoder.specs.Missing.{readNonzero}
 use Rattle.srl_decoder.specs.Decode.{dueAmong}
@@ -21,7 +21,7 @@ pub record SrlBoundedTurns : Type 0 where
   -- at width 1 it does not turn
   pub narrow : (s : List ℕ) (n : ℕ) → nonzeroCount s n 1 .turns ≡ 0
   -- the code's loop, which takes up to 56 bits in a turn, turns no more often (`CountsZeros` fixes its turns)
-  pub words : (s : List ℕ) (n w : ℕ) → min (wordsOf (zerosLength s (n + 1) (mostZeros w))) (wordsOf (stillHeld s (n + 1)) + 1) ≤ nonzeroCount s n w .turns
+  pub words : (s : List ℕ) (n w : ℕ) → wordTurns s (n + 1) (mostZeros w) ≤ nonzeroCount s n w .turns
   -- the value, the place behind it and the count of its missing bits are those of the definitions, which go bit by bit to the limit
   pub value : (s : List ℕ) (n w : ℕ) → withSign (bitAt s n) (nonzeroCount s n w .zeros + 1) ≡ nonzero s n w
   pub place : (s : List ℕ) (n w : ℕ) → n + 1 + nonzeroCount s n w .taken ≡ behind s n w

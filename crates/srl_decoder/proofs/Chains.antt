@@ -10,7 +10,7 @@ use Rattle.bits.specs.Bits.{bitAt, num, zeros}
 use Rattle.srl_decoder.specs.Srl.{Reader, reader, codeWord, value, past, readied, nextReader}
 use Rattle.srl_decoder.specs.Inner.{Same, below, readBehind, Brought}
 use Rattle.srl_decoder.specs.declared.decoder.CodesRead.{CodesRead}
-use Rattle.srl_decoder.proofs.Codes.{code-ready, code-zero, code-one, code-near, code-run, ready-run, ready-pending}
+use Rattle.srl_decoder.proofs.Codes.{code-ready, code-zero, code-one, code-near, code-run}
 
 -- ════ how many zeros code words 0 bring ════
 

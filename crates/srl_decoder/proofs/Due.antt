@@ -1,17 +1,16 @@
 -- Where no nonzero value is due the width does not matter; and past the end every value is 0.
 use mathlib.Core.Path.{_≡_, refl, sym, ap, _∙_}
-use mathlib.Core.Bool.{Bool, true, false, cond, true≢false}
+use mathlib.Core.Bool.{true, false, cond, true≢false}
 use mathlib.Core.List.{List, [], _∷_}
-use Prim.Native.Nat.{ℕ, zero, suc, _+_, _-_, _*_, _/_, _^_, _≤_, _<_, min}
+use Prim.Native.Nat.{ℕ, zero, suc, _+_, _-_, _*_, _/_, _^_, _≤_, min}
 use native.Mathlib.Omega.{arith}
 use lib.IntN.{ℤ, pos}
 use lib.ListN.{length, replicate}
 use lib.Pow.{suc-ones}
-use Rattle.bits.specs.Bits.{bitAt, num}
 use Rattle.bits.proofs.Numbers.{bit-past}
-use Rattle.srl_decoder.specs.Srl.{Reader, reader, codeWord, value, past, readied, values, readerAfter}
+use Rattle.srl_decoder.specs.Srl.{Reader, reader, value, past, readied, values, readerAfter}
 use Rattle.srl_decoder.specs.Decode.{due, dueAmong}
-use Rattle.srl_decoder.proofs.Codes.{ready-pending, code-zero}
+use Rattle.srl_decoder.proofs.Codes.{code-zero}
 
 -- the values from a ready reader
 abbrev pub from : List ℕ → ℕ → List ℕ → Reader → List ℤ

@@ -5,8 +5,8 @@ use mathlib.Core.List.{List, [], _∷_}
 use Prim.Native.Nat.{ℕ, zero, suc, _+_, _-_, _*_, _/_, _^_, _≤_, _<_, min}
 use native.Mathlib.Decide.{decLt}
 use native.Mathlib.Omega.{arith}
-use borrow.Author.Tests.{leb-true, leb-false, le-leb, lt-leb, ltb-true, ltb-false, lt-ltb, not-true}
-use lib.Dec.{leb, ltb}
+use borrow.Author.Tests.{leb-false, le-leb, lt-leb, ltb-true, ltb-false, lt-ltb, not-true}
+use lib.Dec.{ltb}
 use lib.ListN.{length}
 use lib.Pow.{suc-ones}
 use Rattle.bits.specs.Bits.{bitAt, num, bitsRead}
@@ -17,11 +17,11 @@ use Rattle.bits.proofs.Turns.{count-is}
 use Rattle.srl_rules.proofs.Widths.{both}
 use Rattle.srl_decoder.specs.Srl.{Reader, reader, mostZeros, codeWord, past, readied, nextReader}
 use Rattle.srl_decoder.specs.Decode.{opened, due, dueAmong}
-use Rattle.srl_decoder.specs.Turns.{nonzeroCount, valueTurns, valuesTurns, codeAhead, turned, dryRun}
+use Rattle.srl_decoder.specs.Turns.{valueTurns, valuesTurns, codeAhead, turned, dryRun}
 use Rattle.srl_decoder.specs.Inner.{readsOn}
 use Rattle.srl_decoder.specs.declared.SrlState.{SrlState}
 use Rattle.srl_decoder.specs.declared.decoder.DryRun.{DryRun}
-use Rattle.srl_decoder.proofs.Codes.{code-zero, code-one, code-moves, code-ready, ready-mono}
+use Rattle.srl_decoder.proofs.Codes.{code-zero, code-moves, code-ready, ready-mono}
 use Rattle.srl_decoder.proofs.States.{past-mono}
 
 -- ════ the dry run ════

@@ -11,7 +11,6 @@ use Rattle.bits.proofs.Turns.{atOnce, count-is, words-fewer}
 use Rattle.srl_decoder.specs.Srl.{mostZeros}
 use Rattle.srl_decoder.specs.Turns.{nonzeroCount}
 use Rattle.srl_decoder.proofs.Turns.{dry-due, dry-spent, dry-few, values-turns}
-use Rattle.srl.specs.Turns.{SrlBoundedTurns}
 use Rattle.srl.proofs.bounded_turns.Statement.{statement}
 use Rattle.srl.proofs.bounded_turns.Tie as tie
 

@@ -7,7 +7,7 @@ use lib.ListN.{length}
 use Rattle.bits.specs.Bits.{zeros, bitsRead}
 use Rattle.bits.specs.Turns.{stillHeld, wordsOf}
 use Rattle.bits.specs.declared.reader.BitReader.{BitReader}
-use Rattle.bits.proofs.Ones.{zeros-le, zeros-end, zeros-stop, zeros-go, length-all, length-some}
+use Rattle.bits.proofs.Ones.{zeros-end, zeros-stop, zeros-go, length-all, length-some}
 use Rattle.bits.proofs.Turns.{counts}
 use Rattle.bits.proofs.Places.{read-place}
 use Rattle.bits.proofs.reader.count_zeros.Statement.{statement}
