@@ -8,7 +8,8 @@ use borrow.Author.Tests.{leb-true, leb-false}
 use lib.ListN.{length}
 use Rattle.bits.specs.Bits.{bitAt, zeros, zerosLength}
 use Rattle.bits.specs.Missing.{readBit, readZeros, missingIn}
-use Rattle.bits.specs.Turns.{stillHeld, Counted, givenUp, stopped, goneOn, countZeros, wordTurns, CountsZeros}
+use Rattle.bits.specs.Turns.{stillHeld, Counted, givenUp, stopped, goneOn, countZeros, wordTurns}
+use Rattle.bits.specs.Inner.{CountsZeros}
 use Rattle.bits.specs.declared.reader.ZerosCounted.{ZerosCounted}
 use Rattle.bits.proofs.Ones.{zeros-past, zeros-one, zeros-zero, length-all, length-one, length-go}
 use Rattle.bits.proofs.Missing.{missing-zeros}

@@ -1,11 +1,13 @@
--- For inner functions only: what a word of 64 bits holds of a stream, and what a writer keeps, stores and counts.
+-- For inner functions only: what a word of 64 bits holds of a stream, what a count of zeros hands back, and what a writer keeps, stores and counts.
 use mathlib.Core.Path.{_≡_}
 use mathlib.Core.List.{List, [], _∷_}
 use Prim.Native.Nat.{ℕ, _-_, _*_, _^_, _≤_, _+_, _/_, _%_, _<_}
-use Rattle.bits.specs.Bits.{num, bitOf}
+use Rattle.bits.specs.Bits.{num, bitOf, zeros}
+use Rattle.bits.specs.Turns.{stillHeld, wordTurns}
 use mathlib.Core.Bool.{Bool, cond}
 use lib.Dec.{eqb}
 use lib.ListN.{set}
+use Rattle.bits.specs.declared.reader.ZerosCounted.{ZerosCounted}
 use Rattle.bits.specs.declared.writer.BitWriter.{BitWriter}
 use Rattle.bits.specs.declared.writer.BitCount.{BitCount}
 use Rattle.bits.specs.Written.{afterBit, after}
@@ -20,6 +22,13 @@ pub record Front (v a : ℕ) (s : List ℕ) (n : ℕ) : Type 0 where
   pub all : ℕ
   pub enough : v ≤ all
   pub top : Top all a s n
+
+-- what `count_zeros` hands back
+pub record CountsZeros (s : List ℕ) (n limit : ℕ) (r : ZerosCounted) : Type 0 where
+  pub count : r .zeros ≡ zeros s n limit
+  pub turns : r .turns ≡ wordTurns s n limit
+  -- "at most once for each bit that the stream still holds from where it begins [..], and once more"
+  pub spent : r .turns ≤ stillHeld s n + 1
 
 -- what a writer keeps: fewer than 8 bits, as a number
 abbrev pub Sound : BitWriter → Type 0

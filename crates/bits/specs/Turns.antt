@@ -1,12 +1,10 @@
 -- Counting zeros before a 1 as a loop that gives up where the bytes are spent, with the number of its turns (docs/SCOPE.md, "Spent bytes").
-use mathlib.Core.Path.{_≡_}
 use mathlib.Core.Bool.{cond}
 use mathlib.Core.List.{List}
-use Prim.Native.Nat.{ℕ, zero, suc, _+_, _-_, _*_, _/_, _≤_, min}
+use Prim.Native.Nat.{ℕ, zero, suc, _+_, _-_, _*_, _/_, min}
 use lib.ListN.{length}
-use Rattle.bits.specs.Bits.{zeros, zerosLength}
+use Rattle.bits.specs.Bits.{zerosLength}
 use Rattle.bits.specs.Missing.{readBit}
-use Rattle.bits.specs.declared.reader.ZerosCounted.{ZerosCounted}
 
 -- how many bits "the stream still holds" from bit n on
 abbrev pub stillHeld : List ℕ → ℕ → ℕ
@@ -46,10 +44,3 @@ wordsOf b = (b + 55) / 56
 -- its turns: for the zeros and the 1 behind them; or, where the bytes are spent before, for the bits still held and once more
 abbrev pub wordTurns : List ℕ → ℕ → ℕ → ℕ
 wordTurns s n limit = min (wordsOf (zerosLength s n limit)) (wordsOf (stillHeld s n) + 1)
-
--- what `count_zeros` hands back
-pub record CountsZeros (s : List ℕ) (n limit : ℕ) (r : ZerosCounted) : Type 0 where
-  pub count : r .zeros ≡ zeros s n limit
-  pub turns : r .turns ≡ wordTurns s n limit
-  -- "at most once for each bit that the stream still holds from where it begins [..], and once more"
-  pub spent : r .turns ≤ stillHeld s n + 1

@@ -6,8 +6,7 @@ ghost use lib.Count.{leadingZeros};
 ghost use lib.Dec.{ltb};
 ghost use lib.ListN.{length, getD};
 ghost use Rattle.bits.specs.Bits.{num, zeros, bitsRead, placeOf, held};
-ghost use Rattle.bits.specs.Turns.{CountsZeros};
-ghost use Rattle.bits.specs.Inner.{Top, Front};
+ghost use Rattle.bits.specs.Inner.{Top, Front, CountsZeros};
 
 // A place in a stream: a byte, and a bit of it, 0 to 7, counted from the highest.
 pub struct BitReader {

@@ -7,11 +7,14 @@ use lib.Dec.{ltb}
 use lib.IntN.{ℤ, pos}
 use lib.ListN.{length, getD, replicate}
 use Rattle.bits.specs.Bits.{placeOf, held}
+use Rattle.bits.specs.Turns.{stillHeld}
 use Rattle.srl_decoder.specs.Srl.{Reader, reader, nextValue, nextReader, readerAfter}
-use Rattle.srl_decoder.specs.Decode.{opened, missingFrom}
+use Rattle.srl_decoder.specs.Decode.{opened, missingFrom, dueAmong}
+use Rattle.srl_decoder.specs.Turns.{dryRun}
 use Rattle.srl_decoder.specs.declared.SrlState.{SrlState}
 use Rattle.srl_decoder.specs.declared.decoder.CodesRead.{CodesRead}
 use Rattle.srl_decoder.specs.declared.decoder.Stored.{Stored}
+use Rattle.srl_decoder.specs.declared.decoder.DryRun.{DryRun}
 
 -- the state that a reader is: the place runs on past the end with the count
 abbrev pub shut : Reader → SrlState
@@ -58,6 +61,13 @@ readBehind n r = reader (n + r .taken) (r .kp) (r .run) (r .pending)
 -- whether the dry run reads a code word: values are left behind the run, no nonzero value is at hand, and the stream holds bits still
 abbrev pub readsOn : List ℕ → SrlState → ℕ → Bool
 readsOn s st left = ltb (st .«zero_run_remaining») left && (not (st .«nonzero_pending») && ltb (st .reader .«byte_idx») (length s))
+
+-- what `any_due` hands back
+pub record FindsDue (s : List ℕ) (r : Reader) (n : ℕ) (d : DryRun) : Type 0 where
+  pub found : d .due ≡ dueAmong s r n
+  pub turns : d .turns ≡ dryRun s r n .turns
+  -- "no more often than the stream still holds bits"
+  pub spent : d .turns ≤ stillHeld s (r .read)
 
 -- two readers give the same k values, of whatever widths, and are one reader after them
 abbrev pub Same : List ℕ → ℕ → Reader → Reader → Type 0

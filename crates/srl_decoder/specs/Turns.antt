@@ -1,12 +1,11 @@
 -- Loops that end where the bytes are spent, and the number of their turns (docs/SCOPE.md, "Spent bytes").
-use mathlib.Core.Path.{_≡_}
 use mathlib.Core.Bool.{Bool, true, false, cond, not}
 use mathlib.Core.List.{List, [], _∷_}
-use Prim.Native.Nat.{ℕ, zero, suc, _+_, _≤_}
+use Prim.Native.Nat.{ℕ, zero, suc, _+_}
 use Rattle.bits.specs.Missing.{readBit}
-use Rattle.bits.specs.Turns.{stillHeld, Counted, countZeros}
+use Rattle.bits.specs.Turns.{Counted, countZeros}
 use Rattle.srl_decoder.specs.Srl.{Reader, mostZeros, readied, nextReader}
-use Rattle.srl_decoder.specs.Decode.{due, dueAmong}
+use Rattle.srl_decoder.specs.Decode.{due}
 use Rattle.srl_decoder.specs.declared.decoder.DryRun.{DryRun}
 
 -- ════ the zeros of a nonzero value ════
@@ -44,10 +43,3 @@ dryRun s r zero = record { due = false; turns = 0 }
 dryRun s r (suc n) =
     turned (codeAhead s (r .read) (r .run) (r .pending))
     (cond (due (readied s r .run)) (record { due = true; turns = 0 }) (dryRun s (nextReader s 0 r) n))
-
--- what `any_due` hands back
-pub record FindsDue (s : List ℕ) (r : Reader) (n : ℕ) (d : DryRun) : Type 0 where
-  pub found : d .due ≡ dueAmong s r n
-  pub turns : d .turns ≡ dryRun s r n .turns
-  -- "no more often than the stream still holds bits"
-  pub spent : d .turns ≤ stillHeld s (r .read)

@@ -8,10 +8,9 @@ ghost use Rattle.bits.specs.Bits.{bitAt, zeros, bitsRead};
 ghost use Rattle.bits.specs.Inner.{Top, Front};
 ghost use Rattle.srl_decoder.specs.Srl.{mostZeros, behind, codeWord};
 ghost use Rattle.srl_decoder.specs.Decode.{opened, valuesFrom, stateAfter, missingFrom, stateOk, decoded};
-ghost use Rattle.srl_decoder.specs.Turns.{FindsDue};
 ghost use Rattle.answer.specs.Refusals.{noRoom, stored};
 ghost use Rattle.srl_rules.specs.Inner.{Width};
-ghost use Rattle.srl_decoder.specs.Inner.{SoundState, shut, stateBy, heldReader, storedBy, StoresValues, readsOn, handed, readBehind, below, Brought, Clear};
+ghost use Rattle.srl_decoder.specs.Inner.{SoundState, shut, stateBy, heldReader, storedBy, StoresValues, readsOn, FindsDue, handed, readBehind, below, Brought, Clear};
 use crate::Decoded;
 use crate::SrlState;
 
