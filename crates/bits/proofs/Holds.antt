@@ -14,6 +14,7 @@ use lib.Seq.{drop-drop, getD-drop}
 use Rattle.bits.specs.Bits.{isOdd, bitOf, bitAt, num, zeros}
 use Rattle.bits.specs.Written.{bitsOf, pack}
 use Rattle.bits.proofs.Numbers.{bit-le, odd-bit, num-split, num-none}
+use Rattle.bits.proofs.Ones.{zeros-step}
 use Rattle.bits.proofs.Puts.{length-bitsOf}
 
 -- the stream has these bits from bit n on
@@ -35,14 +36,14 @@ holds-append s n (x ∷ a) b h =
 pub zeros-one : (s : List ℕ) (n m l : ℕ) → m < l → Holds s n (replicate m false ++ (true ∷ [])) → zeros s n l ≡ m
 unfolding zeros
 zeros-one s n m zero k h = absurd (omega arith)
-zeros-one s n zero (suc l) k h = ap (λ (b : Bool). cond b 0 (suc (zeros s (suc n) l))) (h .0)
-zeros-one s n (suc m) (suc l) k h = ap (λ (b : Bool). cond b 0 (suc (zeros s (suc n) l))) (h .0) ∙ ap suc (zeros-one s (suc n) m l (omega arith) (h .1))
+zeros-one s n zero (suc l) k h = zeros-step s n l true (h .0)
+zeros-one s n (suc m) (suc l) k h = zeros-step s n l false (h .0) ∙ ap suc (zeros-one s (suc n) m l (omega arith) (h .1))
 
 -- nothing but zeros
 pub zeros-all : (s : List ℕ) (n l : ℕ) → Holds s n (replicate l false) → zeros s n l ≡ l
 unfolding zeros
 zeros-all s n zero h = refl
-zeros-all s n (suc l) h = ap (λ (b : Bool). cond b 0 (suc (zeros s (suc n) l))) (h .0) ∙ ap suc (zeros-all s (suc n) l (h .1))
+zeros-all s n (suc l) h = zeros-step s n l false (h .0) ∙ ap suc (zeros-all s (suc n) l (h .1))
 
 num-last : (s : List ℕ) (n k : ℕ) → num s n (suc k) ≡ num s n k * 2 + bitOf (bitAt s (n + k))
 unfolding num

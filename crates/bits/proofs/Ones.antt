@@ -21,15 +21,10 @@ zeros-le s n (suc l) = by (bitAt s n) (zeros-le s (suc n) l)
     by true h = omega arith
     by false h = omega arith
 
--- a 1 at once
-pub zeros-one : (s : List ℕ) (n l : ℕ) → bitAt s n ≡ true → zeros s n (suc l) ≡ 0
+-- by the first bit: a 1, or a zero and those behind it
+pub zeros-step : (s : List ℕ) (n l : ℕ) (b : Bool) → bitAt s n ≡ b → zeros s n (suc l) ≡ cond b 0 (suc (zeros s (suc n) l))
 unfolding zeros
-zeros-one s n l e = ap (λ (b : Bool). cond b 0 (suc (zeros s (suc n) l))) e
-
--- a zero, and those behind it
-pub zeros-zero : (s : List ℕ) (n l : ℕ) → bitAt s n ≡ false → zeros s n (suc l) ≡ suc (zeros s (suc n) l)
-unfolding zeros
-zeros-zero s n l e = ap (λ (b : Bool). cond b 0 (suc (zeros s (suc n) l))) e
+zeros-step s n l b e = ap (λ (b : Bool). cond b 0 (suc (zeros s (suc n) l))) e
 
 -- past the end all that is asked for are zeros
 pub zeros-past : (s : List ℕ) (n l : ℕ) → 8 * length s ≤ n → zeros s n l ≡ l
@@ -63,7 +58,7 @@ zeros-on s n (suc m) k e = by (bitAt s n) refl e (zeros-on s (suc n) m k)
     by true q f ih = absurd (omega arith)
     by false q f ih =
         ap (zeros s n) (suc-add m k)
-        ∙ ap (λ (b : Bool). cond b 0 (suc (zeros s (suc n) (m + k)))) q
+        ∙ zeros-step s n (m + k) false q
         ∙ ap suc (ih (omega arith))
         ∙ ap (λ (i : ℕ). suc (m + zeros s i k)) {x = suc n + m} {y = n + suc m} (omega arith)
         ∙ sym (suc-add m (zeros s (n + suc m) k))
@@ -96,14 +91,14 @@ length-some s n l h = simp (lt-ltb (zeros s n l) l h)
 
 -- a 1 at once
 pub length-one : (s : List ℕ) (n l : ℕ) → bitAt s n ≡ true → zerosLength s n (suc l) ≡ 1
-length-one s n l e = let z = zeros-one s n l e in omega (arith, length-some s n (suc l) (omega (arith, z)), z)
+length-one s n l e = let z = zeros-step s n l true e in omega (arith, length-some s n (suc l) (omega (arith, z)), z)
 
 -- a zero, and those behind it
 pub length-go : (s : List ℕ) (n l : ℕ) → bitAt s n ≡ false → zerosLength s n (suc l) ≡ suc (zerosLength s (suc n) l)
 length-go s n l e = by (decLt (zeros s (suc n) l) l)
   where
     z : zeros s n (suc l) ≡ suc (zeros s (suc n) l)
-    z = zeros-zero s n l e
+    z = zeros-step s n l false e
 
     by : Dec (zeros s (suc n) l < l) → zerosLength s n (suc l) ≡ suc (zerosLength s (suc n) l)
     by (yes p) = omega (arith, z, length-some s n (suc l) (omega (arith, z)), length-some s (suc n) l p)

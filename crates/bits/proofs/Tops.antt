@@ -13,7 +13,7 @@ use lib.Pow.{pow-add, shl-lt, high, low}
 use Rattle.bits.specs.Bits.{bitOf, bitAt, num, zeros}
 use Rattle.bits.specs.Inner.{Top, Front}
 use Rattle.bits.proofs.Numbers.{num-lt, num-split}
-use Rattle.bits.proofs.Ones.{zeros-min}
+use Rattle.bits.proofs.Ones.{zeros-min, zeros-step}
 
 -- ---- a shift left
 
@@ -96,7 +96,7 @@ lead zero s n = none refl refl
 lead (suc w) s n = by (bitAt s n) refl (lead w s (suc n))
   where
     at : (b : Bool) → bitAt s n ≡ b → (zeros s n (suc w) ≡ cond b 0 (suc (zeros s (suc n) w))) × (num s n (suc w) ≡ bitOf b * 2 ^ w + num s (suc n) w)
-    at b e = (ap (λ (b : Bool). cond b 0 (suc (zeros s (suc n) w))) e, ap (λ (b : Bool). bitOf b * 2 ^ w + num s (suc n) w) e)
+    at b e = (zeros-step s n w b e, ap (λ (b : Bool). bitOf b * 2 ^ w + num s (suc n) w) e)
 
     by : (b : Bool) → bitAt s n ≡ b → Lead w s (suc n) → Lead (suc w) s n
     by true e l =
@@ -148,7 +148,7 @@ ends-at s n (suc l) z e h = by (bitAt s n) refl z e h (ends-at s (suc n) l)
     by false q (suc z) e h ih =
         let r = ih z (omega arith) (omega arith) in
         let m : n + suc z ≡ suc n + z = omega arith in
-        (ap (λ (b : Bool). cond b 0 (suc (zeros s (suc n) z))) q ∙ ap suc (r .0), ap (bitAt s) m ∙ r .1)
+        (zeros-step s n z false q ∙ ap suc (r .0), ap (bitAt s) m ∙ r .1)
 
 -- behind the leading zeros stands a 1
 pub top-one : (v a z : ℕ) (s : List ℕ) (n : ℕ) → Top v a s n → z ≡ leadingZeros 64 a → z < v → (zeros s n z ≡ z) × (bitAt s (n + z) ≡ true)

@@ -11,7 +11,7 @@ use Rattle.bits.specs.Missing.{readBit, readZeros, missingIn}
 use Rattle.bits.specs.Turns.{stillHeld, Counted, givenUp, stopped, goneOn, countZeros, wordTurns}
 use Rattle.bits.specs.Inner.{CountsZeros}
 use Rattle.bits.specs.declared.reader.ZerosCounted.{ZerosCounted}
-use Rattle.bits.proofs.Ones.{zeros-past, zeros-one, zeros-zero, length-all, length-one, length-go}
+use Rattle.bits.proofs.Ones.{zeros-past, zeros-step, length-all, length-one, length-go}
 use Rattle.bits.proofs.Missing.{missing-zeros}
 
 -- ════ known streams, by `refl` ════
@@ -60,12 +60,12 @@ count-is s n (suc l) = by (readBit s n .missing) refl (bitAt s n) refl (count-is
     one : n < 8 * length s → bitAt s n ≡ true → stopped ≡ atOnce s n (suc l)
     one h e =
         let t = length-one s n l e in
-        parts (sym (zeros-one s n l e)) (sym t) (omega (arith, missing, t)) (omega (arith, t))
+        parts (sym (zeros-step s n l true e)) (sym t) (omega (arith, missing, t)) (omega (arith, t))
 
     on : n < 8 * length s → bitAt s n ≡ false → goneOn (atOnce s (suc n) l) ≡ atOnce s n (suc l)
     on h e =
         let t = length-go s n l e in
-        parts (sym (zeros-zero s n l e)) (sym t) (omega (arith, missing, missing-zeros s (suc n) l, t)) (omega (arith, t))
+        parts (sym (zeros-step s n l false e)) (sym t) (omega (arith, missing, missing-zeros s (suc n) l, t)) (omega (arith, t))
 
     by : (m : Bool) → readBit s n .missing ≡ m → (b : Bool) → bitAt s n ≡ b → countZeros s (suc n) l ≡ atOnce s (suc n) l
         → cond m (givenUp (suc l)) (cond b stopped (goneOn (countZeros s (suc n) l))) ≡ atOnce s n (suc l)

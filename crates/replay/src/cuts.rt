@@ -36,17 +36,16 @@ fn with_upgrade(digest: u64, extrapolate: bool, srl: &[u8], raw: &[u8], n: usize
     cut_passes::with_answer(digest, answer, tiles::digest(tile), missing)
 }
 
-// The digest of the upgrades with all streams at each length up to 1,024 bytes.
-fn upgrades(extrapolate: bool, srl: &[u8], raw: &[u8]) -> u64
-    requires { ⌜ (length (now srl) ≡ 49152) × (length (now raw) ≡ 49152) ⌝ }
+// A digest with the case's call on the streams more, cut at a length.
+fn with_cut(digest: u64, c: &[u8], srl: &[u8], raw: &[u8], n: usize) -> u64
+    requires { ⌜ (length (now srl) ≡ 49152) × (length (now raw) ≡ 49152) × (n ≤ 1024) ⌝ }
 {
-    let mut d: u64 = 0;
-    let mut n: usize = 0;
-    while n <= 1024 {
-        d = with_upgrade(d, extrapolate, srl, raw, n);
-        n += 1;
+    let extrapolate = number::flag_at(c, 10);
+    match number::u8_at(c, 9) {
+        0 => cut_values::with_values(digest, &srl[..n]),
+        1 => cut_passes::with_pass(digest, extrapolate, &srl[..n], &raw[..n]),
+        _ => with_upgrade(digest, extrapolate, srl, raw, n),
     }
-    d
 }
 
 // Makes the streams of the component with a number, each in its 16,384 bytes: the SRL stream of the case's sort, and any raw bytes.
@@ -63,16 +62,17 @@ fn fill(c: &[u8], k: usize, srl: &mut [u8], raw: &mut [u8])
     cut_streams::fill(0, component::seed(c, k as u64 + 3), &mut raw[from..to]);
 }
 
-// What the case's call makes of the streams, as one number.
+// The digest of the case's call on the streams at each length up to 1,024 bytes.
 fn digest(c: &[u8], srl: &[u8], raw: &[u8]) -> u64
     requires { ⌜ (length (now srl) ≡ 49152) × (length (now raw) ≡ 49152) ⌝ }
 {
-    let extrapolate = number::flag_at(c, 10);
-    match number::u8_at(c, 9) {
-        0 => cut_values::digest(srl),
-        1 => cut_passes::digest(extrapolate, srl, raw),
-        _ => upgrades(extrapolate, srl, raw),
+    let mut d: u64 = 0;
+    let mut n: usize = 0;
+    while n <= 1024 {
+        d = with_cut(d, c, srl, raw, n);
+        n += 1;
     }
+    d
 }
 
 // Whether the port agrees with a case.

@@ -1,8 +1,6 @@
-// Kind 46, `decode_upgrade_pass`: a pass whose streams are cut at each of their first 1,024 bytes, as one number.
+// Kind 46, `decode_upgrade_pass`: what a pass makes of streams that are cut.
 use crate::upgrade;
 use replay_input::digests;
-ghost use Prim.Native.Nat.{_≤_};
-ghost use lib.ListN.{length};
 
 // A digest with an answer more: the refusal, the digest of what a call left, and the bits that were missing.
 pub fn with_answer(
@@ -18,7 +16,7 @@ pub fn with_answer(
 }
 
 // A digest with a pass more, over zeros, from positions 15 to 0.
-fn with_pass(digest: u64, extrapolate: bool, srl: &[u8], raw: &[u8]) -> u64 {
+pub fn with_pass(digest: u64, extrapolate: bool, srl: &[u8], raw: &[u8]) -> u64 {
     let mut coefficients = [0i16; 4096];
     let mut signs = [0i8; 4096];
     let done = progressive_decoder::decode_upgrade_pass(
@@ -38,17 +36,4 @@ fn with_pass(digest: u64, extrapolate: bool, srl: &[u8], raw: &[u8]) -> u64 {
         upgrade::digest(&coefficients, &signs),
         missing,
     )
-}
-
-// The digest of the passes with both streams at each length up to 1,024 bytes.
-pub fn digest(extrapolate: bool, srl: &[u8], raw: &[u8]) -> u64
-    requires { ⌜ (1024 ≤ length (now srl)) × (1024 ≤ length (now raw)) ⌝ }
-{
-    let mut d: u64 = 0;
-    let mut n: usize = 0;
-    while n <= 1024 {
-        d = with_pass(d, extrapolate, &srl[..n], &raw[..n]);
-        n += 1;
-    }
-    d
 }

@@ -21,7 +21,7 @@ use Rattle.srl_decoder.specs.Turns.{valueTurns, valuesTurns, codeAhead, 
 use Rattle.srl_decoder.specs.Inner.{readsOn}
 use Rattle.srl_decoder.specs.declared.SrlState.{SrlState}
 use Rattle.srl_decoder.specs.declared.decoder.DryRun.{DryRun}
-use Rattle.srl_decoder.proofs.Codes.{code-zero, code-moves, code-ready, ready-mono}
+use Rattle.srl_decoder.proofs.Codes.{code-zero, code-one, code-moves, code-ready, ready-mono}
 use Rattle.srl_decoder.proofs.States.{past-mono}
 
 -- ════ the dry run ════
@@ -97,19 +97,18 @@ module _ (s : List ℕ) where
 
   -- behind a code word none is read
   code-none : (p kp : ℕ) → codeAhead s (codeWord s p kp .read) (codeWord s p kp .run) (codeWord s p kp .pending) ≡ false
-  code-none p kp = by (bitAt s p)
+  code-none p kp = by (bitAt s p) refl
     where
       waits : (m run : ℕ) → codeAhead s m run true ≡ false
       waits m zero = refl
       waits m (suc run) = refl
 
-      by : (b : Bool)
-          → codeAhead s (cond b (reader (p + 1 + kp / 8) (kp - 6) (num s (p + 1) (kp / 8)) true) (reader (p + 1) (min (kp + 4) 80) (2 ^ (kp / 8)) false) .read)
-          (cond b (reader (p + 1 + kp / 8) (kp - 6) (num s (p + 1) (kp / 8)) true) (reader (p + 1) (min (kp + 4) 80) (2 ^ (kp / 8)) false) .run)
-          (cond b (reader (p + 1 + kp / 8) (kp - 6) (num s (p + 1) (kp / 8)) true) (reader (p + 1) (min (kp + 4) 80) (2 ^ (kp / 8)) false) .pending)
-          ≡ false
-      by true = waits (p + 1 + kp / 8) (num s (p + 1) (kp / 8))
-      by false = ap (λ (z : ℕ). codeAhead s (p + 1) z false) (sym (suc-ones (kp / 8)))
+      at : Reader → Bool
+      at r = codeAhead s (r .read) (r .run) (r .pending)
+
+      by : (b : Bool) → bitAt s p ≡ b → at (codeWord s p kp) ≡ false
+      by true e = ap at (code-one s p kp e) ∙ waits (p + 1 + kp / 8) (num s (p + 1) (kp / 8))
+      by false e = ap at (code-zero s p kp e) ∙ ap (λ (z : ℕ). codeAhead s (p + 1) z false) (sym (suc-ones (kp / 8)))
 
   -- a code word that begins in the stream is a turn
   pub dry-code : (p kp n : ℕ) → p < 8 * length s → 1 ≤ n → dryRun s (reader p kp 0 false) n ≡ turned true (dryRun s (codeWord s p kp) n)

@@ -14,19 +14,19 @@ use Rattle.srl_decoder.specs.declared.decoder.DryRun.{DryRun}
 abbrev pub nonzeroCount : List ℕ → ℕ → ℕ → Counted
 nonzeroCount s n w = countZeros s (n + 1) (mostZeros w)
 
--- its turns for a value from a reader that is ready
+-- its turns for a value from a reader that is ready: a zero of a run takes none
 abbrev pub valueTurns : List ℕ → ℕ → ℕ → ℕ → ℕ
 valueTurns s w n (suc run) = 0
 valueTurns s w n zero = nonzeroCount s n w .turns
 
--- its turns for some values together
+-- its turns "for some values together"
 unfoldable pub valuesTurns : List ℕ → List ℕ → Reader → ℕ
 valuesTurns s [] r = 0
 valuesTurns s (w ∷ ws) r = valueTurns s w (readied s r .read) (readied s r .run) + valuesTurns s ws (nextReader s w r)
 
 -- ════ the dry run ════
 
--- whether a code word is to be read that begins in the stream
+-- whether a code word is to be read that "begins in the stream"
 abbrev pub codeAhead : List ℕ → ℕ → ℕ → Bool → Bool
 codeAhead s n (suc run) pending = false
 codeAhead s n zero true = false
