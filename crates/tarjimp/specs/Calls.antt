@@ -16,7 +16,7 @@ use Rattle.answer.specs.Refusals.{impossibleState, answered}
 use Rattle.progressive_decoder.specs.Upgrade.{decodePassAnswer, decodeCoefficients, decodeSigns, decodeMissing}
 use Rattle.progressive_decoder.specs.declared.MissingBits.{MissingBits}
 use Rattle.progressive_encoder.specs.Encode.{writtenNumber, srlCount, rawCount, encodePassAnswer, encodeSrlOut, encodeRawOut}
-use Rattle.tile.specs.Tile.{decodeUpgrade}
+use Rattle.tile.specs.Tile.{decodeUpgrade, Reconstructs}
 use Rattle.tile.specs.declared.TileState.{TileState}
 use Rattle.tarjimp.specs.States.{readerFits, readerOf, readerNumbers, writerFits, writerOf, writerNumbers}
 
@@ -125,10 +125,11 @@ pub record WritesPass (cs ps : List ℤ) (prev curr : List ℕ) (ss : List ℤ) 
 -- ════ `tarjimp_tile_decode_upgrade` ════
 
 -- the tile that the arrays and numbers are; an upgrade neither reads nor changes the two fields that are not among them
-abbrev pub tileOf : List ℤ → List ℤ → List ℕ → List ℕ → Bool → ℕ → ℕ → TileState
-tileOf cs ss positions quants e pass quality = record {
+abbrev pub tileOf : List ℤ → List ℤ → List ℕ → List ℕ → List ℕ → Bool → ℕ → ℕ → TileState
+tileOf cs ss ns positions quants e pass quality = record {
   coefficients = cs;
   sign = ss;
+  «zero_signs» = ns;
   «prog_quant» = positions;
   «quant_idx» = replicate 3 0;
   «base_quant» = quants;
@@ -143,3 +144,9 @@ pub record UpgradesTile (t : TileState) (srlData rawData rows : List (List ℕ))
   pub number : answered r ≡ decodeUpgrade t srlData rawData rows q .answer
   pub tile : t′ ≡ decodeUpgrade t srlData rawData rows q .tile
   pub missing : counts ≡ missingNumbers (decodeUpgrade t srlData rawData rows q .missing)
+
+-- ════ `tarjimp_tile_reconstruct_to_rgba` ════
+
+-- what the call fixes, of the tile that the arrays are; pixels do not depend on its pass number and quality
+abbrev pub ReconstructsTile : List ℤ → List ℤ → List ℕ → List ℕ → List ℕ → Bool → List ℕ → ℕ → List ℕ → Type 0
+ReconstructsTile cs ss ns positions quants e px r px′ = Reconstructs (tileOf cs ss ns positions quants e 0 0) px (answered r) px′

@@ -7,9 +7,9 @@ ghost use Rattle.answer.specs.Refusals.{answered};
 ghost use Rattle.dequantizer.specs.Dequantize.{Dequantizes};
 ghost use Rattle.dwt_extrapolate.specs.Transform.{Inverts};
 ghost use Rattle.color.specs.Color.{rgb};
-ghost use Rattle.pixels.specs.Pixels.{WritesPixels};
+ghost use Rattle.zero_signs.specs.ZeroSigns.{zeroSigns};
 ghost use Rattle.planes.specs.Planes.{three};
-ghost use Rattle.tarjimp.specs.Calls.{SrlDecodes, ReadsPass, SrlEncodes, SrlFinishes, WritesPass, tileOf, UpgradesTile};
+ghost use Rattle.tarjimp.specs.Calls.{SrlDecodes, ReadsPass, SrlEncodes, SrlFinishes, WritesPass, tileOf, UpgradesTile, ReconstructsTile};
 
 mod answers;
 mod states;
@@ -183,6 +183,7 @@ pub extern "C" fn tarjimp_ycbcr_to_rgb(y: i16, cb: i16, cr: i16, out: &mut [u8; 
 pub extern "C" fn tarjimp_tile_decode_upgrade(
     coefficients: &mut [i16; bands::COEFFICIENTS_PER_TILE],
     sign: &mut [i8; bands::COEFFICIENTS_PER_TILE],
+    zero_signs: &mut [u16; 30],
     prog_quant: &mut [u8; 30],
     base_quant: &[u8; 30],
     use_reduce_extrapolate: bool,
@@ -199,22 +200,30 @@ pub extern "C" fn tarjimp_tile_decode_upgrade(
     missing: &mut [u32; 2],
 ) -> u8
     ensures { λ r. ⌜ UpgradesTile
-        (tileOf (now (coefficients .entry)) (now (sign .entry)) (now («prog_quant» .entry)) (now («base_quant» .entry))
-        «use_reduce_extrapolate» (now (pass .entry)) (now (quality .entry)))
+        (tileOf (now (coefficients .entry)) (now (sign .entry)) (now («zero_signs» .entry)) (now («prog_quant» .entry))
+        (now («base_quant» .entry)) «use_reduce_extrapolate» (now (pass .entry)) (now (quality .entry)))
         (three (now («y_srl» .entry)) (now («cb_srl» .entry)) (now («cr_srl» .entry)))
         (three (now («y_raw» .entry)) (now («cb_raw» .entry)) (now («cr_raw» .entry)))
         (now («prog_quants» .entry)) «new_quality»
         r
-        (tileOf (now (coefficients .exit)) (now (sign .exit)) (now («prog_quant» .exit)) (now («base_quant» .entry))
-        «use_reduce_extrapolate» (now (pass .exit)) (now (quality .exit)))
+        (tileOf (now (coefficients .exit)) (now (sign .exit)) (now («zero_signs» .exit)) (now («prog_quant» .exit))
+        (now («base_quant» .entry)) «use_reduce_extrapolate» (now (pass .exit)) (now (quality .exit)))
         (now (missing .exit)) ⌝ }
 {
     let rows = *prog_quants;
     let positions = *prog_quant;
     let quants = *base_quant;
-    if !tile::in_domain(rows, positions, quants) {
+    let refusal = tile::upgrade_refusal(
+        rows,
+        positions,
+        quants,
+        sign,
+        zero_signs,
+        use_reduce_extrapolate,
+    );
+    if refusal != 0 {
         *missing = [0, 0];
-        return answer::OUT_OF_DOMAIN;
+        return refusal;
     }
     let bits = tile::upgrade_in_place(
         y_srl,
@@ -227,6 +236,7 @@ pub extern "C" fn tarjimp_tile_decode_upgrade(
         use_reduce_extrapolate,
         coefficients,
         sign,
+        zero_signs,
         prog_quant,
         pass,
     );
@@ -235,18 +245,23 @@ pub extern "C" fn tarjimp_tile_decode_upgrade(
     0
 }
 
-// The pixels of a tile, of the fields that they depend on.
+// The pixels of a tile, of the fields that they depend on, and of the signs with their numbers: where these are wrong, no pixels are given.
 #[no_mangle]
 pub extern "C" fn tarjimp_tile_reconstruct_to_rgba(
     coefficients: &[i16; bands::COEFFICIENTS_PER_TILE],
+    sign: &[i8; bands::COEFFICIENTS_PER_TILE],
+    zero_signs: &[u16; 30],
     prog_quant: &[u8; 30],
     base_quant: &[u8; 30],
     use_reduce_extrapolate: bool,
     pixels: &mut [u8],
 ) -> u8
-    ensures { λ r. ⌜ WritesPixels (now (coefficients .entry)) (now («prog_quant» .entry)) (now («base_quant» .entry)) «use_reduce_extrapolate»
-        (now (pixels .entry)) (answered r) (now (pixels .exit)) ⌝ }
+    ensures { λ r. ⌜ ReconstructsTile (now (coefficients .entry)) (now (sign .entry)) (now («zero_signs» .entry)) (now («prog_quant» .entry))
+        (now («base_quant» .entry)) «use_reduce_extrapolate» (now (pixels .entry)) r (now (pixels .exit)) ⌝ }
 {
+    if !zero_signs::are_right(zero_signs, sign, use_reduce_extrapolate) {
+        return answer::IMPOSSIBLE_STATE;
+    }
     let values = *coefficients;
     let positions = *prog_quant;
     let quants = *base_quant;
@@ -257,4 +272,16 @@ pub extern "C" fn tarjimp_tile_reconstruct_to_rgba(
         use_reduce_extrapolate,
         pixels,
     ))
+}
+
+// The numbers of zero signs of a tile, by its signs and its layout: those that its functions ask for.
+#[no_mangle]
+pub extern "C" fn tarjimp_tile_zero_signs(
+    sign: &[i8; bands::COEFFICIENTS_PER_TILE],
+    use_reduce_extrapolate: bool,
+    zero_signs: &mut [u16; 30],
+)
+    ensures { λ _. ⌜ now («zero_signs» .exit) ≡ zeroSigns «use_reduce_extrapolate» (now (sign .entry)) ⌝ }
+{
+    *zero_signs = zero_signs::count(sign, use_reduce_extrapolate);
 }

@@ -5,6 +5,7 @@ use mathlib.Core.List.{List}
 use Prim.Native.Nat.{ℕ}
 use lib.IntN.{ℤ}
 use Rattle.planes.specs.Planes.{joined, of}
+use Rattle.zero_signs.specs.ZeroSigns.{zeroSigns}
 use Rattle.progressive_decoder.specs.declared.MissingBits.{MissingBits}
 use Rattle.components.specs.Components.{passCoefficients, passSigns, passMissing}
 use Rattle.tile.specs.Tile.{nextPass, upgraded, upgradeMissing}
@@ -14,17 +15,19 @@ use Rattle.tile.specs.declared.TileState.{TileState}
 pub record Fields : Type 0 where
   pub coefficients : List ℤ
   pub sign : List ℤ
+  pub numbers : List ℕ
   pub positions : List ℕ
   pub pass : ℕ
 
--- by their four parts
-abbrev pub fields : List ℤ → List ℤ → List ℕ → ℕ → Fields
-fields cs ss positions n = record { coefficients = cs; sign = ss; positions = positions; pass = n }
+-- by their five parts
+abbrev pub fields : List ℤ → List ℤ → List ℕ → List ℕ → ℕ → Fields
+fields cs ss numbers positions n = record { coefficients = cs; sign = ss; numbers = numbers; positions = positions; pass = n }
 
 -- what a pass fixes of them, from f to g, and the bits that were missing
 pub record PassedInPlace (e : Bool) (rows srlData rawData : List (List ℕ)) (f g : Fields) (r : MissingBits) : Type 0 where
   pub coefficients : g .coefficients ≡ passCoefficients e (f .positions) rows srlData rawData (f .coefficients) (f .sign)
   pub sign : g .sign ≡ passSigns e (f .positions) rows srlData (f .sign)
+  pub numbers : g .numbers ≡ zeroSigns e (passSigns e (f .positions) rows srlData (f .sign))
   pub positions : g .positions ≡ joined (of rows)
   pub pass : g .pass ≡ nextPass (f .pass)
   pub missing : r ≡ passMissing e (f .positions) rows srlData rawData (f .sign)

@@ -6,13 +6,8 @@ use Prim.Native.Nat.{ℕ, suc}
 use lib.IntN.{ℤ}
 use Rattle.answer.specs.Refusals.{numberOf}
 use Rattle.progressive_decoder.specs.Upgrade.{missingBits}
-use Rattle.pixels.specs.Pixels.{pixelsRefusal}
-use Rattle.tile.specs.Tile.{fresh, loadRefusal, load, upgradeRefusal, decodeUpgrade, reconstructAnswer, reconstructPixels}
+use Rattle.tile.specs.Tile.{fresh, loadRefusal, load, upgradeRefusal, decodeUpgrade, reconstructRefusal, reconstructAnswer, reconstructPixels}
 use Rattle.tile.specs.declared.TileState.{TileState}
-
--- why a tile's pixels are refused
-abbrev pub pixelsRefusalOf : TileState → List ℕ → ℕ
-pixelsRefusalOf t px = pixelsRefusal (t .«prog_quant») (t .«base_quant») (t .«use_reduce_extrapolate») px
 
 -- "a refusal gives its number .. and the state handed in, and alters no lent element"; "a refusal gives 0 for every count"
 pub record TileRefusals : Type 0 where
@@ -22,5 +17,5 @@ pub record TileRefusals : Type 0 where
   pub upgrade-number : (t : TileState) (srlData rawData rows : List (List ℕ)) (q : ℕ) → numberOf (decodeUpgrade t srlData rawData rows q .answer) ≡ upgradeRefusal t rows
   pub upgrade-kept : (t : TileState) (srlData rawData rows : List (List ℕ)) (q k : ℕ) → upgradeRefusal t rows ≡ suc k → decodeUpgrade t srlData rawData rows q .tile ≡ t
   pub upgrade-counts : (t : TileState) (srlData rawData rows : List (List ℕ)) (q k : ℕ) → upgradeRefusal t rows ≡ suc k → decodeUpgrade t srlData rawData rows q .missing ≡ missingBits 0 0
-  pub pixels-number : (t : TileState) (px : List ℕ) → numberOf (reconstructAnswer t px) ≡ pixelsRefusalOf t px
-  pub pixels-kept : (t : TileState) (px : List ℕ) (k : ℕ) → pixelsRefusalOf t px ≡ suc k → reconstructPixels t px ≡ px
+  pub pixels-number : (t : TileState) (px : List ℕ) → numberOf (reconstructAnswer t px) ≡ reconstructRefusal t px
+  pub pixels-kept : (t : TileState) (px : List ℕ) (k : ℕ) → reconstructRefusal t px ≡ suc k → reconstructPixels t px ≡ px

@@ -7,12 +7,13 @@ use lib.IntN.{ℤ, pos}
 use lib.ListN.{replicate}
 use Rattle.bands.specs.Positions.{every, rowInDomain, rowsInDomain}
 use Rattle.answer.specs.declared.Answer.{Answer}
-use Rattle.answer.specs.Refusals.{sliceTooShort, outOfDomain, unless, firstOf, longEnough, answered, unlessRefused}
+use Rattle.answer.specs.Refusals.{sliceTooShort, outOfDomain, impossibleState, unless, firstOf, longEnough, answered, unlessRefused}
 use Rattle.progressive_decoder.specs.Upgrade.{missingBits}
 use Rattle.progressive_decoder.specs.declared.MissingBits.{MissingBits}
 use Rattle.components.specs.Components.{passCoefficients, passSigns, passMissing}
 use Rattle.planes.specs.Planes.{joined, of, taken}
-use Rattle.pixels.specs.Pixels.{pixelsAnswer, pixelsOut}
+use Rattle.zero_signs.specs.ZeroSigns.{zeroSigns, areRight}
+use Rattle.pixels.specs.Pixels.{pixelsRefusal, pixelsOut}
 use Rattle.tile.specs.declared.TileState.{TileState}
 use Rattle.tile.specs.declared.Loaded.{Loaded}
 use Rattle.tile.specs.declared.Upgraded.{Upgraded}
@@ -23,11 +24,12 @@ use Rattle.tile.specs.declared.Upgraded.{Upgraded}
 abbrev pub lossless : List ℕ
 lossless = replicate 10 0
 
--- "coefficients and signs 0, positions `LOSSLESS` .. base quantizers 6, standard layout, pass number 0"
+-- "coefficients and signs 0, positions `LOSSLESS` .. base quantizers 6, standard layout, pass number 0"; the numbers of zero signs are right
 unfoldable pub fresh : TileState
 fresh = record {
   coefficients = replicate 12288 (pos 0);
   sign = replicate 12288 (pos 0);
+  «zero_signs» = zeroSigns false (replicate 12288 (pos 0));
   «prog_quant» = joined (λ k. lossless);
   «quant_idx» = replicate 3 0;
   «base_quant» = replicate 30 6;
@@ -39,11 +41,12 @@ fresh = record {
 
 -- ════ a loaded tile ════
 
--- "a loading call puts in coefficients, signs, rows and layout, with pass number 1; the other fields are the fresh tile's"
+-- "a loading call puts in coefficients, signs, rows and layout, with pass number 1", and counts the zero signs; "the other fields are the fresh tile's"
 unfoldable pub loaded : List (List ℤ) → List (List ℤ) → List (List ℕ) → List (List ℕ) → Bool → TileState
 loaded cs ss rows quants e = record {
   coefficients = taken cs;
   sign = taken ss;
+  «zero_signs» = zeroSigns e (taken ss);
   «prog_quant» = joined (of rows);
   «quant_idx» = fresh .«quant_idx»;
   «base_quant» = joined (of quants);
@@ -66,17 +69,28 @@ loadedBy n new old = record { answer = answered n; tile = unlessRefused n new ol
 abbrev pub load : List (List ℤ) → List (List ℤ) → List (List ℕ) → List (List ℕ) → Bool → Loaded
 load cs ss rows quants e = loadedBy (loadRefusal cs ss rows quants) (loaded cs ss rows quants e) fresh
 
+-- ════ a tile that is handed in ════
+
+-- "a tile handed in with a wrong number gets refusal 8, before all other checks": by its signs, numbers and layout
+abbrev pub numbersRefusalBy : Bool → List ℤ → List ℕ → ℕ
+numbersRefusalBy e ss ns = unless (areRight e ss ns) impossibleState
+
+-- of a tile
+abbrev pub numbersRefusal : TileState → ℕ
+numbersRefusal t = numbersRefusalBy (t .«use_reduce_extrapolate») (t .sign) (t .«zero_signs»)
+
 -- ════ an upgraded tile ════
 
 -- "adds 1 to the pass number, which stays at 65535"
 abbrev pub nextPass : ℕ → ℕ
 nextPass n = min (n + 1) 65535
 
--- "`decode_upgrade` does three components, then stores rows and quality and adds 1 to the pass number .. every other field is kept"
+-- "`decode_upgrade` does three components, then stores rows and quality", counts the zero signs "and adds 1 to the pass number .. every other field is kept"
 unfoldable pub upgraded : TileState → List (List ℕ) → List (List ℕ) → List (List ℕ) → ℕ → TileState
 upgraded t srlData rawData rows q = record {
   coefficients = passCoefficients (t .«use_reduce_extrapolate») (t .«prog_quant») rows srlData rawData (t .coefficients) (t .sign);
   sign = passSigns (t .«use_reduce_extrapolate») (t .«prog_quant») rows srlData (t .sign);
+  «zero_signs» = zeroSigns (t .«use_reduce_extrapolate») (passSigns (t .«use_reduce_extrapolate») (t .«prog_quant») rows srlData (t .sign));
   «prog_quant» = joined (of rows);
   «quant_idx» = t .«quant_idx»;
   «base_quant» = t .«base_quant»;
@@ -90,9 +104,9 @@ upgraded t srlData rawData rows q = record {
 abbrev pub rowsRefusal : List ℕ → List ℕ → List (List ℕ) → ℕ
 rowsRefusal positions quants rows = unless (rowsInDomain rows && (rowInDomain positions && rowInDomain quants)) outOfDomain
 
--- of a pass over a tile; its arrays are never too short
+-- of a pass over a tile, in the order 8, 2; its arrays are never too short
 abbrev pub upgradeRefusal : TileState → List (List ℕ) → ℕ
-upgradeRefusal t rows = rowsRefusal (t .«prog_quant») (t .«base_quant») rows
+upgradeRefusal t rows = firstOf (numbersRefusal t) (rowsRefusal (t .«prog_quant») (t .«base_quant») rows)
 
 -- how many bits of its streams were missing
 abbrev pub upgradeMissing : TileState → List (List ℕ) → List (List ℕ) → List (List ℕ) → MissingBits
@@ -109,13 +123,18 @@ decodeUpgrade t srlData rawData rows q =
 
 -- ════ its pixels ════
 
+-- why they are refused: 8 "before a short pixel slice", then 1, 2, 3
+abbrev pub reconstructRefusal : TileState → List ℕ → ℕ
+reconstructRefusal t px = firstOf (numbersRefusal t) (pixelsRefusal (t .«prog_quant») (t .«base_quant») (t .«use_reduce_extrapolate») px)
+
 -- what `reconstruct_to_rgba` answers. The tile goes in by value and nothing of it comes back: it "does not change the tile"
 abbrev pub reconstructAnswer : TileState → List ℕ → Answer
-reconstructAnswer t px = pixelsAnswer (t .«prog_quant») (t .«base_quant») (t .«use_reduce_extrapolate») px
+reconstructAnswer t px = answered (reconstructRefusal t px)
 
 -- the slice of pixels then
 abbrev pub reconstructPixels : TileState → List ℕ → List ℕ
-reconstructPixels t px = pixelsOut (t .coefficients) (t .«prog_quant») (t .«base_quant») (t .«use_reduce_extrapolate») px
+reconstructPixels t px =
+    unlessRefused (numbersRefusal t) (pixelsOut (t .coefficients) (t .«prog_quant») (t .«base_quant») (t .«use_reduce_extrapolate») px) px
 
 -- what the call fixes: its answer, and the slice
 pub record Reconstructs (t : TileState) (px : List ℕ) (r : Answer) (px′ : List ℕ) : Type 0 where

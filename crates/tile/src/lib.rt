@@ -8,7 +8,8 @@ ghost use lib.Dec.{leb};
 ghost use lib.ListN.{length};
 ghost use Rattle.bands.specs.Positions.{every, rowInDomain, rowsInDomain};
 ghost use Rattle.planes.specs.Planes.{three};
-ghost use Rattle.tile.specs.Tile.{fresh, loaded, loadedBy, load, nextPass, decodeUpgrade, Reconstructs};
+ghost use Rattle.answer.specs.Refusals.{firstOf};
+ghost use Rattle.tile.specs.Tile.{fresh, loaded, loadedBy, load, nextPass, numbersRefusalBy, rowsRefusal, decodeUpgrade, Reconstructs};
 ghost use Rattle.tile.specs.Refused.{TileRefusals};
 ghost use Rattle.tile.specs.Inner.{fields, PassedInPlace, PassesTile};
 use progressive_decoder::MissingBits;
@@ -18,6 +19,8 @@ use progressive_decoder::MissingBits;
 pub struct TileState {
     pub coefficients: [i16; bands::COEFFICIENTS_PER_TILE],
     pub sign: [i8; bands::COEFFICIENTS_PER_TILE],
+    // How many signs of each band of each component are 0.
+    pub zero_signs: [u16; 30],
     pub prog_quant: [u8; 30],
     pub quant_idx: [u8; 3],
     pub base_quant: [u8; 30],
@@ -57,7 +60,7 @@ fn next_pass(pass: u16) -> u16
 }
 
 // Whether no position or quantizer, given or in the tile, is above 15.
-pub fn in_domain(rows: [[u8; 10]; 3], positions: [u8; 30], quants: [u8; 30]) -> bool
+fn in_domain(rows: [[u8; 10]; 3], positions: [u8; 30], quants: [u8; 30]) -> bool
     ensures { λ r. ⌜ r ≡ (rowsInDomain rows && (rowInDomain positions && rowInDomain quants)) ⌝ }
 {
     if !bands::rows_in_domain(rows) {
@@ -67,6 +70,29 @@ pub fn in_domain(rows: [[u8; 10]; 3], positions: [u8; 30], quants: [u8; 30]) -> 
         return false;
     }
     bands::positions_in_domain(&quants)
+}
+
+// Why a pass over a tile is refused, 0 if it is not: by its signs and their numbers, and by the positions and quantizers, given or in the tile. A part
+// of the tile's call and of the C function.
+pub fn upgrade_refusal(
+    rows: [[u8; 10]; 3],
+    positions: [u8; 30],
+    quants: [u8; 30],
+    sign: &[i8; bands::COEFFICIENTS_PER_TILE],
+    numbers: &[u16; 30],
+    use_reduce_extrapolate: bool,
+) -> u8
+    ensures { λ r. ⌜ r ≡ firstOf
+        (numbersRefusalBy «use_reduce_extrapolate» (now (sign .entry)) (now (numbers .entry)))
+        (rowsRefusal positions quants rows) ⌝ }
+{
+    if !zero_signs::are_right(numbers, sign, use_reduce_extrapolate) {
+        return answer::IMPOSSIBLE_STATE;
+    }
+    if !in_domain(rows, positions, quants) {
+        return answer::OUT_OF_DOMAIN;
+    }
+    0
 }
 
 // Whether three slices of these lengths have a component each.
@@ -109,6 +135,7 @@ pub fn upgrade_in_place(
     use_reduce_extrapolate: bool,
     coefficients: &mut [i16; bands::COEFFICIENTS_PER_TILE],
     sign: &mut [i8; bands::COEFFICIENTS_PER_TILE],
+    numbers: &mut [u16; 30],
     prog_quant: &mut [u8; 30],
     pass: &mut u16,
 ) -> MissingBits
@@ -116,8 +143,8 @@ pub fn upgrade_in_place(
     ensures { λ r. ⌜ PassedInPlace «use_reduce_extrapolate» rows
         (three (now («y_srl» .entry)) (now («cb_srl» .entry)) (now («cr_srl» .entry)))
         (three (now («y_raw» .entry)) (now («cb_raw» .entry)) (now («cr_raw» .entry)))
-        (fields (now (coefficients .entry)) (now (sign .entry)) (now («prog_quant» .entry)) (now (pass .entry)))
-        (fields (now (coefficients .exit)) (now (sign .exit)) (now («prog_quant» .exit)) (now (pass .exit)))
+        (fields (now (coefficients .entry)) (now (sign .entry)) (now (numbers .entry)) (now («prog_quant» .entry)) (now (pass .entry)))
+        (fields (now (coefficients .exit)) (now (sign .exit)) (now (numbers .exit)) (now («prog_quant» .exit)) (now (pass .exit)))
         r ⌝ }
 {
     let prev = *prog_quant;
@@ -135,6 +162,7 @@ pub fn upgrade_in_place(
         coefficients,
         sign,
     );
+    *numbers = zero_signs::count(sign, use_reduce_extrapolate);
     *prog_quant = planes::flat_rows(rows);
     *pass = next_pass(number);
     missing
@@ -151,9 +179,12 @@ impl TileState {
         let row = Self::LOSSLESS;
         let rows = [row; 3];
         let prog_quant = planes::flat_rows(rows);
+        let sign = [0i8; bands::COEFFICIENTS_PER_TILE];
+        let numbers = zero_signs::count(&sign, false);
         Self {
             coefficients: [0; bands::COEFFICIENTS_PER_TILE],
-            sign: [0; bands::COEFFICIENTS_PER_TILE],
+            sign: sign,
+            zero_signs: numbers,
             prog_quant: prog_quant,
             quant_idx: [0; 3],
             base_quant: [6; 30],
@@ -191,9 +222,11 @@ impl TileState {
         planes::load_signs(y_sign, cb_sign, cr_sign, &mut sign);
         let prog_quant = planes::flat_rows(prog_quants);
         let base_quant = planes::flat_rows(base_quants);
+        let numbers = zero_signs::count(&sign, use_reduce_extrapolate);
         Self {
             coefficients: coefficients,
             sign: sign,
+            zero_signs: numbers,
             prog_quant: prog_quant,
             quant_idx: [0; 3],
             base_quant: base_quant,
@@ -272,6 +305,7 @@ impl TileState {
         let e = self.use_reduce_extrapolate;
         let mut coefficients = self.coefficients;
         let mut sign = self.sign;
+        let mut numbers = self.zero_signs;
         let mut prog_quant = self.prog_quant;
         let mut pass = self.pass;
         let missing = upgrade_in_place(
@@ -285,6 +319,7 @@ impl TileState {
             e,
             &mut coefficients,
             &mut sign,
+            &mut numbers,
             &mut prog_quant,
             &mut pass,
         );
@@ -293,6 +328,7 @@ impl TileState {
         let tile = Self {
             coefficients: coefficients,
             sign: sign,
+            zero_signs: numbers,
             prog_quant: prog_quant,
             quant_idx: quant_idx,
             base_quant: base_quant,
@@ -323,9 +359,13 @@ impl TileState {
     {
         let positions = self.prog_quant;
         let quants = self.base_quant;
-        if !in_domain(prog_quants, positions, quants) {
+        let sign = self.sign;
+        let numbers = self.zero_signs;
+        let e = self.use_reduce_extrapolate;
+        let refusal = upgrade_refusal(prog_quants, positions, quants, &sign, &numbers, e);
+        if refusal != 0 {
             return Upgraded {
-                answer: answer::Answer::Refused(answer::OUT_OF_DOMAIN),
+                answer: answer::Answer::Refused(refusal),
                 tile: self,
                 missing: MissingBits { srl: 0, raw: 0 },
             };
@@ -353,6 +393,11 @@ impl TileState {
     pub fn reconstruct_to_rgba(self, pixels: &mut [u8]) -> answer::Answer
         ensures { λ r. ⌜ Reconstructs self (now (pixels .entry)) r (now (pixels .exit)) ⌝ }
     {
+        let sign = self.sign;
+        let numbers = self.zero_signs;
+        if !zero_signs::are_right(&numbers, &sign, self.use_reduce_extrapolate) {
+            return answer::Answer::Refused(answer::IMPOSSIBLE_STATE);
+        }
         let coefficients = self.coefficients;
         let positions = self.prog_quant;
         let quants = self.base_quant;
