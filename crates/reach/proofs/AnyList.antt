@@ -134,7 +134,7 @@ whole (o ∷ os) t f (AllRows.one w ws) x n g =
 -- ════ answers, by the rows alone ════
 
 -- numbers that are right
-abbrev Right : TileState → Type 0
+abbrev pub Right : TileState → Type 0
 Right t = t .«zero_signs» ≡ zeroSigns (t .«use_reduce_extrapolate») (t .sign)
 
 answers-step : (n : ℕ) (k : Call) (ks : List Call) (t : TileState) → Right t → ((u : TileState) → Right u → answersTo u ks ≡ answersBy (u .«base_quant») (u .«prog_quant») (passesOf ks))
@@ -143,7 +143,7 @@ unfolding upgraded
 answers-step zero k ks t r ih = ih (given zero t k) refl
 answers-step (suc n) k ks t r ih = ih t r
 
-answers : (ks : List Call) (t : TileState) → Right t → answersTo t ks ≡ answersBy (t .«base_quant») (t .«prog_quant») (passesOf ks)
+pub answers : (ks : List Call) (t : TileState) → Right t → answersTo t ks ≡ answersBy (t .«base_quant») (t .«prog_quant») (passesOf ks)
 unfolding answersTo answersBy
 answers [] t r = refl
 answers (k ∷ ks) t r =

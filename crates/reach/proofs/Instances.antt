@@ -2,7 +2,7 @@
 use mathlib.Core.Path.{_≡_, refl, sym, ap, _∙_}
 use mathlib.Core.Bool.{Bool, true, false, cond, _&&_}
 use mathlib.Core.List.{List, [], _∷_, _++_, map}
-use Prim.Native.Nat.{ℕ, zero, suc, _*_, _≤_, _<_}
+use Prim.Native.Nat.{ℕ, zero, suc, _*_, _^_, _≤_, _<_}
 use native.Mathlib.Omega.{arith}
 use lib.IntN.{ℤ, pos, negsuc}
 use lib.ListN.{length, getD, take, replicate, length-replicate, getD-replicate, replicate-append-replicate}
@@ -65,20 +65,21 @@ pub inside : (e : Bool) (i : ℕ) → i < length (bandsOf e) → i < 4096
 inside e i h = omega (arith, h, bands-whole e)
 
 -- where a place with them fits, a component of them does
-pub all-fit : (e : Bool) (p : ℕ) (c s : ℤ) → ((b : Bool) → Fits b p (record { coefficient = c; sign = s })) → ComponentFits (bandsOf e) (replicate 10 p) (replicate 4096 c) (replicate 4096 s)
+all-fit : (e : Bool) (p : ℕ) (c s : ℤ) → ((b : Bool) → Fits b p (record { coefficient = c; sign = s })) → ComponentFits (bandsOf e) (replicate 10 p) (replicate 4096 c) (replicate 4096 s)
 all-fit e p c s f = record {
   coefficients = length-replicate 4096 c ∙ sym (bands-whole e);
   signs = length-replicate 4096 s ∙ sym (bands-whole e);
   each = λ i h. rw (same-position e p i, getD-replicate 4096 i c (pos 0) (inside e i h), getD-replicate 4096 i s (pos 0) (inside e i h)) (f (isBottom (getD (bandsOf e) i 0)));
 }
 
-pub multiple-of : (m n k : ℕ) → n ≡ k * m → Multiple m n
+multiple-of : (m n k : ℕ) → n ≡ k * m → Multiple m n
 multiple-of m n k e = record { times = k; is = e }
 
-pub zero-fits : (b : Bool) → Fits b 0 (record { coefficient = pos 0; sign = pos 0 })
+-- a zero fits every position
+pub zero-place : (p : ℕ) → p ≤ 15 → (b : Bool) → Fits b p (record { coefficient = pos 0; sign = pos 0 })
 unfolding signOf
-zero-fits true = record { low = omega arith; range = omega arith; multiple = multiple-of 1 0 0 refl; own = tt }
-zero-fits false = record { low = omega arith; range = omega arith; multiple = multiple-of 1 0 0 refl; own = refl }
+zero-place p h true = record { low = h; range = omega arith; multiple = multiple-of (2 ^ p) 0 0 (omega arith); own = tt }
+zero-place p h false = record { low = h; range = omega arith; multiple = multiple-of (2 ^ p) 0 0 (omega arith); own = refl }
 
 dark-place : (b : Bool) → Fits b 3 (record { coefficient = negsuc 7; sign = negsuc 0 })
 unfolding signOf
@@ -100,7 +101,7 @@ fresh-fits = record {
   positions = refl;
   quantizers = refl;
   numbers = refl;
-  each = λ k h. rw (parts k h, row-joined (λ k. replicate 10 0) (λ k h. refl) k h) (all-fit false 0 (pos 0) (pos 0) zero-fits);
+  each = λ k h. rw (parts k h, row-joined (λ k. replicate 10 0) (λ k h. refl) k h) (all-fit false 0 (pos 0) (pos 0) (zero-place 0 (omega arith)));
 }
   where
     parts : (k : ℕ) → k < 3 → component k (replicate 12288 (pos 0)) ≡ replicate 4096 (pos 0)

@@ -64,7 +64,7 @@ pub tile-refl : {t : TileState} → TileFits t → TileGains t (t .«prog_quant�
 tile-refl f = record { coefficients = f .coefficients; sign = f .sign; numbers = f .numbers; each = λ k h. component-refl (f .each k h) }
 
 -- three parts that are alike
-joined-path : {A : Type 0} (f g : ℕ → List A) → ((k : ℕ) → k < 3 → f k ≡ g k) → joined f ≡ joined g
+pub joined-path : {A : Type 0} (f g : ℕ → List A) → ((k : ℕ) → k < 3 → f k ≡ g k) → joined f ≡ joined g
 joined-path {A} f g e = ap₂ (λ (x y : List A). x ++ y) (e 0 (omega arith)) (ap₂ (λ (x y : List A). x ++ y) (e 1 (omega arith)) (e 2 (omega arith)))
 
 -- a list by its components
