@@ -11,7 +11,7 @@ returns c =
     record {
       coefficients = done .coefficients;
       sign = done .sign;
-      numbers = c .before .before .count .ensures ∙ ap (zeroSigns (c .before .before .before .before .before .before .before .before .before .before .before .before .before .before .before .args .use-reduce-extrapolate)) (done .sign);
+      numbers = c .before .before .count .ensures ∙ ap (zeroSigns _) (done .sign);
       positions = c .before .flat-rows .ensures;
       pass = c .next-pass .ensures;
       missing = done .missing;

@@ -11,7 +11,7 @@ use Rattle.tile.proofs.upgrade_refusal.Tie as tie
 returns : tie.Need-returns
 returns c =
     let a = c .before .before .before .args in
-    let wrong : areRight (a .use-reduce-extrapolate) (a .sign .now) (a .numbers .now) ≡ false = sym (c .before .before .are-right .ensures) ∙ not-true _ (c .if1 .taken) in
+    let wrong : areRight (a .use-reduce-extrapolate) (a .sign .now) (a .numbers .now) ≡ false = sym (c .before .before .are-right .ensures) ∙ not-true (c .before .before .are-right .result) (c .if1 .taken) in
     simp wrong
 
 -- past the first test the numbers are right

@@ -61,7 +61,7 @@ loop-again c =
     let s = c .before .before .before .before .before .before .before in
     let l = c .before .before .before .before .loop in
     let is = c .zeros-between .ensures ∙ ap (λ (i : BandInfo). zerosIn (signsIn i (s .args .signs .now))) (is-band (c .before)) in
-    copy-next 10 (right s) (s .args .numbers .now) (omega (arith, ten s)) (s .pre .1) (l .numbers) (l .b) _ 0 (l .inv) (c .before .before .before .loop-test .taken) (is ∙ sym (number-at (s .args .use-reduce-extrapolate) (s .args .signs .now) (l .b)))
+    copy-next 10 (right s) (s .args .numbers .now) (omega (arith, ten s)) (s .pre .1) (l .numbers) (l .b) _ 0 (l .inv) (omega arith) (is ∙ sym (number-at (s .args .use-reduce-extrapolate) (s .args .signs .now) (l .b)))
 
 returns : tie.Need-returns Inv-loop μ-loop
 returns c =
