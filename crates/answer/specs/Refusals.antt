@@ -39,7 +39,7 @@ zeroRunTooLong = 6
 abbrev pub outputTooShort : ℕ
 outputTooShort = 7
 
--- "8: a coder state" that no coder makes
+-- "8: a coder state" that no coder makes, "a tile with a number of zero signs that is not right"
 abbrev pub impossibleState : ℕ
 impossibleState = 8
 

@@ -105,7 +105,7 @@ lastOf t os = lastRows (t .«base_quant») (t .«prog_quant») os
 
 -- ════ what a tile may become ════
 
--- "a picture is the coefficients and signs of all three components", with the numbers of zero signs
+-- "a picture is the coefficients and signs of all three components, with the numbers of zero signs"
 pub record Picture : Type 0 where
   pub coefficients : List ℤ
   pub sign : List ℤ
@@ -119,7 +119,7 @@ pictureOf t = record { coefficients = t .coefficients; sign = t .sign; «zero_si
 pub record TileGains (t : TileState) (last : List ℕ) (x : Picture) : Type 0 where
   pub coefficients : length (x .coefficients) ≡ 12288
   pub sign : length (x .sign) ≡ 12288
-  -- "the numbers are fixed by the signs"
+  -- the numbers, "which the signs fix"
   pub numbers : x .«zero_signs» ≡ zeroSigns (t .«use_reduce_extrapolate») (x .sign)
   pub each : (k : ℕ) → k < 3
       → ComponentGains (bandsOf (t .«use_reduce_extrapolate»)) (rowOf k (t .«prog_quant»)) (rowOf k last) (component k (t .coefficients)) (component k (t .sign)) (component k (x .coefficients)) (component k (x .sign))
@@ -137,7 +137,7 @@ pub data AllStreams : List Call → Type 0 where
   none : AllStreams []
   one : {k : Call} {ks : List Call} → ThreeStreams (k .srlData) → ThreeStreams (k .rawData) → AllStreams ks → AllStreams (k ∷ ks)
 
--- "the rows and qualities of the list stay fixed, and .. streams of some lengths, chosen for each pass, end at exactly these coefficients and signs", and their numbers
+-- "the rows and qualities of the list stay fixed, and .. streams of some lengths, chosen for each pass, end at exactly these coefficients, signs and numbers"
 pub record Reached (t : TileState) (os : List Pass) (x : Picture) : Type 0 where
   pub calls : List Call
   pub streams : AllStreams calls

@@ -42,7 +42,7 @@ pub record Falls (t u : TileState) : Type 0 where
       → numberAt t k b ≡ numberAt u k b + setIn (signsIn (bandAt (t .«use_reduce_extrapolate») b) (component k (t .sign))) (signsIn (bandAt (t .«use_reduce_extrapolate») b) (component k (u .sign)))
   -- "an accepted upgrade never raises a number"
   pub not-raised : (k b : ℕ) → k < 3 → b < 10 → numberAt u k b ≤ numberAt t k b
-  -- "and the sum over a component by the number of signs that it set there"
+  -- ".. and the sum over a component by the number of signs that it set there"
   pub sum : (k : ℕ) → k < 3 → total (rowOf k (t .«zero_signs»)) ≡ total (rowOf k (u .«zero_signs»)) + setIn (component k (t .sign)) (component k (u .sign))
 
 -- ════ zeros that are true ════
@@ -54,7 +54,7 @@ blank e = allOver (pos 0) (pos 0) e
 abbrev pub allBits : List Pass
 allBits = record { rows = rowsAt 0; quality = 100 } ∷ []
 
--- "a band whose positions reach 0 may still have zeros"
+-- "a band whose positions reach 0 may still have zeros: these are true zeros"
 pub record TrueZeros (e : Bool) : Type 0 where
   pub fits : TileFits (blank e)
   pub positions : lastOf (blank e) allBits ≡ replicate 30 0

@@ -24,7 +24,7 @@ use Rattle.tile.specs.declared.Upgraded.{Upgraded}
 abbrev pub lossless : List ℕ
 lossless = replicate 10 0
 
--- "coefficients and signs 0, positions `LOSSLESS` .. base quantizers 6, standard layout, pass number 0"; the numbers of zero signs are right
+-- "coefficients and signs 0, positions `LOSSLESS` .. base quantizers 6, standard layout, pass number 0"; "all three count the zero signs"
 unfoldable pub fresh : TileState
 fresh = record {
   coefficients = replicate 12288 (pos 0);
@@ -41,7 +41,7 @@ fresh = record {
 
 -- ════ a loaded tile ════
 
--- "a loading call puts in coefficients, signs, rows and layout, with pass number 1", and counts the zero signs; "the other fields are the fresh tile's"
+-- "a loading call puts in coefficients, signs, rows and layout, with pass number 1; the other fields are the fresh tile's"
 unfoldable pub loaded : List (List ℤ) → List (List ℤ) → List (List ℕ) → List (List ℕ) → Bool → TileState
 loaded cs ss rows quants e = record {
   coefficients = taken cs;
@@ -85,7 +85,7 @@ numbersRefusal t = numbersRefusalBy (t .«use_reduce_extrapolate») (t .sign) (t
 abbrev pub nextPass : ℕ → ℕ
 nextPass n = min (n + 1) 65535
 
--- "`decode_upgrade` does three components, then stores rows and quality", counts the zero signs "and adds 1 to the pass number .. every other field is kept"
+-- "`decode_upgrade` does three components, then stores rows and quality and adds 1 to the pass number .. every other field is kept"
 unfoldable pub upgraded : TileState → List (List ℕ) → List (List ℕ) → List (List ℕ) → ℕ → TileState
 upgraded t srlData rawData rows q = record {
   coefficients = passCoefficients (t .«use_reduce_extrapolate») (t .«prog_quant») rows srlData rawData (t .coefficients) (t .sign);
@@ -104,7 +104,7 @@ upgraded t srlData rawData rows q = record {
 abbrev pub rowsRefusal : List ℕ → List ℕ → List (List ℕ) → ℕ
 rowsRefusal positions quants rows = unless (rowsInDomain rows && (rowInDomain positions && rowInDomain quants)) outOfDomain
 
--- of a pass over a tile, in the order 8, 2; its arrays are never too short
+-- of a pass over a tile: "order: 8, .. 2"; its arrays are never too short
 abbrev pub upgradeRefusal : TileState → List (List ℕ) → ℕ
 upgradeRefusal t rows = firstOf (numbersRefusal t) (rowsRefusal (t .«prog_quant») (t .«base_quant») rows)
 
@@ -123,7 +123,7 @@ decodeUpgrade t srlData rawData rows q =
 
 -- ════ its pixels ════
 
--- why they are refused: 8 "before a short pixel slice", then 1, 2, 3
+-- why they are refused: "order: 8, 1, 2, 3"
 abbrev pub reconstructRefusal : TileState → List ℕ → ℕ
 reconstructRefusal t px = firstOf (numbersRefusal t) (pixelsRefusal (t .«prog_quant») (t .«base_quant») (t .«use_reduce_extrapolate») px)
 

@@ -49,9 +49,10 @@ module _ (l : List ℤ) (f t : ℕ) where
 
 -- ════ the same numbers ════
 
--- by the first that is left of each
-pub same-next : (a b : List ℕ) (i : ℕ) → i < length a → i < length b → areSame (drop i a) (drop i b) ≡ eqb (getD a i 0) (getD b i 0) && areSame (drop (i + 1) a) (drop (i + 1) b)
-same-next a b i h k = rw (add-one i, drop-cons a i 0 h, drop-cons b i 0 k) refl
+-- by what the first that is left of each says
+pub same-next : (a b : List ℕ) (i : ℕ) (x : Bool) → eqb (getD a i 0) (getD b i 0) ≡ x → i < length a → length a ≡ length b
+    → (x && areSame (drop (i + 1) a) (drop (i + 1) b)) ≡ areSame (drop i a) (drop i b)
+same-next a b i x e h l = rw (add-one i, ← e, drop-cons a i 0 h, drop-cons b i 0 (omega (arith, l))) refl
 
 -- the same just where they are equal
 pub same-refl : (l : List ℕ) → areSame l l ≡ true

@@ -10,7 +10,7 @@ use Rattle.bands.specs.Bands.{layout, countOf}
 use Rattle.bands.specs.declared.BandInfo.{BandInfo}
 use Rattle.planes.specs.Planes.{component, joined}
 
--- how many of some signs are 0, counted one by one; "any other sign counts as not zero, 5 too"
+-- how many of some signs are 0, counted one by one: "any other sign counts as not zero, 5 too"
 unfoldable pub zerosIn : List ℤ → ℕ
 zerosIn [] = 0
 zerosIn (s ∷ ss) = cond (isZero s) 1 0 + zerosIn ss
@@ -34,6 +34,6 @@ areSame [] (n ∷ ns) = false
 areSame (m ∷ ms) [] = false
 areSame (m ∷ ms) (n ∷ ns) = eqb m n && areSame ms ns
 
--- the numbers are right: "each is the number of zero signs"
+-- the numbers are right: "each is the number of signs of that band of that component that are 0"
 abbrev pub areRight : Bool → List ℤ → List ℕ → Bool
 areRight e ss ns = areSame ns (zeroSigns e ss)

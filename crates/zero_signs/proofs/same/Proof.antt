@@ -1,9 +1,9 @@
 -- `zero_signs::same` meets its contract. Assumes nothing.
-use mathlib.Core.Path.{_≡_, sym, ap, ap₂, _∙_}
-use mathlib.Core.Bool.{Bool, _&&_}
-use Prim.Native.Nat.{_+_, _-_, _≤_}
+use mathlib.Core.Path.{_≡_, sym, ap₂, _∙_}
+use mathlib.Core.Bool.{true, false}
+use Prim.Native.Nat.{_-_, _≤_}
 use native.Mathlib.Omega.{arith}
-use lib.ListN.{length, getD, drop, drop-of-length-le}
+use lib.ListN.{length, drop, drop-of-length-le}
 use borrow.Author.Tests.{eq-eqb, ne-eqb}
 use borrow.Author.Needs.{needs}
 use Rattle.zero_signs.specs.ZeroSigns.{areSame}
@@ -22,19 +22,13 @@ returns : tie.Need-returns Inv-loop μ-loop
 returns c =
     let s = c .before .before .before .before .before in
     let at = c .before .before .before .before .loop in
-    let here = c .before .before .before .loop-test .taken in
-    let a = s .args .a .now in
-    let b = s .args .b .now in
-    sym (sym (at .inv .1) ∙ same-next a b (at .i) here (omega (arith, s .pre)) ∙ ap (λ (x : Bool). x && areSame (drop (at .i + 1) a) (drop (at .i + 1) b)) (ne-eqb (getD a (at .i) 0) (getD b (at .i) 0) (c .if1 .taken)))
+    same-next (s .args .a .now) (s .args .b .now) (at .i) false (ne-eqb _ _ (c .if1 .taken)) (omega arith) (s .pre) ∙ at .inv .1
 
 loop-again : tie.Need-loop-again Inv-loop μ-loop
 loop-again c =
     let s = c .before .before .before .before .before in
     let at = c .before .before .before .before .loop in
-    let here = c .before .before .before .loop-test .taken in
-    let a = s .args .a .now in
-    let b = s .args .b .now in
-    (omega arith, sym (sym (at .inv .1) ∙ same-next a b (at .i) here (omega (arith, s .pre)) ∙ ap (λ (x : Bool). x && areSame (drop (at .i + 1) a) (drop (at .i + 1) b)) (eq-eqb (getD a (at .i) 0) (getD b (at .i) 0) (c .if1 .left))))
+    (omega arith, same-next (s .args .a .now) (s .args .b .now) (at .i) true (eq-eqb _ _ (c .if1 .left)) (omega arith) (s .pre) ∙ at .inv .1)
 
 returns-2 : tie.Need-returns-2 Inv-loop μ-loop
 returns-2 c =
