@@ -7,6 +7,7 @@ use native.Mathlib.Omega.{arith}
 use lib.Dec.{ltb}
 use borrow.Author.Tests.{le-ltb, ltb-true, ltb-false}
 use Rattle.answer.specs.declared.Answer.{Answer}
+use Rattle.answer.specs.declared.Answer.the-variants.{Refused}
 use Rattle.answer.specs.Refusals.{outputTooShort, unless, firstOf, noRoom, answered, unlessRefused, stored, numberOf}
 
 -- ════ which of them, 0 where there is none ════
@@ -52,6 +53,15 @@ number-answered (suc k) = refl
 -- what was there before a refusal is there after it
 pub kept : {A : Type 0} (new old : A) {n k : ℕ} → n ≡ suc k → unlessRefused n new old ≡ old
 kept new old e = ap (λ (n : ℕ). unlessRefused n new old) e
+
+-- with a refusal the answer has its number, and what was there before it is there
+pub refused-some : (n : ℕ) → (n ≡ 0 → ⊥) → Refused n ≡ answered n
+refused-some zero h = absurd (h refl)
+refused-some (suc n) h = refl
+
+pub kept-some : {A : Type 0} (n : ℕ) (new old : A) → (n ≡ 0 → ⊥) → old ≡ unlessRefused n new old
+kept-some zero new old h = absurd (h refl)
+kept-some (suc n) new old h = refl
 
 -- the number of an answer stands for that answer
 pub by-number : (n : ℕ) {r : ℕ} {a : Answer} → r ≡ numberOf a → a ≡ answered n → answered r ≡ answered n

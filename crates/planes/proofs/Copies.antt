@@ -16,16 +16,16 @@ use Rattle.planes.proofs.Joined.{Long, put-all}
 abbrev copied : {A : Type 0} → List A → List A → ℕ → List A
 copied from into i = take i from ++ drop i into
 
--- i elements of 4,096 are copied
-abbrev pub Copying : {A : Type 0} → List A → List A → List A → ℕ → Type 0
-Copying from into₀ into i = (i ≤ 4096) × (length into ≡ 4096) × (into ≡ copied from into₀ i)
+-- i elements of n are copied
+abbrev pub Copying : {A : Type 0} → ℕ → List A → List A → List A → ℕ → Type 0
+Copying n from into₀ into i = (i ≤ n) × (length into ≡ n) × (into ≡ copied from into₀ i)
 
-module _ {A : Type 0} (from into₀ : List A) (enough : 4096 ≤ length from) (room : length into₀ ≡ 4096) where
-  pub copy-starts : Copying from into₀ into₀ 0
+module _ {A : Type 0} (n : ℕ) (from into₀ : List A) (enough : n ≤ length from) (room : length into₀ ≡ n) where
+  pub copy-starts : Copying n from into₀ into₀ 0
   copy-starts = (omega arith, room, refl)
 
   -- x is the element of place i
-  pub copy-next : (into : List A) (i : ℕ) (x d : A) → Copying from into₀ into i → i < 4096 → x ≡ getD from i d → Copying from into₀ (set into i x) (i + 1)
+  pub copy-next : (into : List A) (i : ℕ) (x d : A) → Copying n from into₀ into i → i < n → x ≡ getD from i d → Copying n from into₀ (set into i x) (i + 1)
   copy-next into i x d c h e = (
     omega arith,
     length-set into i x ∙ c .1,
@@ -35,10 +35,10 @@ module _ {A : Type 0} (from into₀ : List A) (enough : 4096 ≤ length from) (r
         ∙ sym (ap (copied from into₀) (add-one i)),
   )
 
-  pub copy-ends : (into : List A) (i : ℕ) → Copying from into₀ into i → 4096 ≤ i → into ≡ take 4096 from
+  pub copy-ends : (into : List A) (i : ℕ) → Copying n from into₀ into i → n ≤ i → into ≡ take n from
   copy-ends into i c h =
-      let all : i ≡ 4096 = omega (arith, c .0) in
-      c .2 ∙ ap (copied from into₀) all ∙ ap (λ (l : List A). take 4096 from ++ l) (drop-of-length-le into₀ {i = 4096} (omega arith)) ∙ append-nil (take 4096 from)
+      let all : i ≡ n = omega (arith, c .0) in
+      c .2 ∙ ap (copied from into₀) all ∙ ap (λ (l : List A). take n from ++ l) (drop-of-length-le into₀ {i = n} (omega arith)) ∙ append-nil (take n from)
 
 -- ════ three of them ════
 

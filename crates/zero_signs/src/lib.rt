@@ -50,15 +50,23 @@ fn count_component(signs: &[i8], use_reduce_extrapolate: bool, numbers: &mut [u1
     }
 }
 
+// The thirty numbers of three components.
+fn count_components(sign: &[i8], use_reduce_extrapolate: bool, numbers: &mut [u16])
+    requires { ⌜ (length (now sign) ≡ 12288) × (length (now numbers) ≡ 30) ⌝ }
+    ensures { λ _. ⌜ now (numbers .exit) ≡ zeroSigns «use_reduce_extrapolate» (now (sign .entry)) ⌝ }
+{
+    let e = use_reduce_extrapolate;
+    count_component(&sign[0..4096], e, &mut numbers[0..10]);
+    count_component(&sign[4096..8192], e, &mut numbers[10..20]);
+    count_component(&sign[8192..12288], e, &mut numbers[20..30]);
+}
+
 // The thirty numbers of a tile's signs: three rows of ten, in band order by the layout.
 pub fn count(sign: &[i8; bands::COEFFICIENTS_PER_TILE], use_reduce_extrapolate: bool) -> [u16; 30]
     ensures { λ r. ⌜ r ≡ zeroSigns «use_reduce_extrapolate» (now (sign .entry)) ⌝ }
 {
     let mut numbers = [0u16; 30];
-    let e = use_reduce_extrapolate;
-    count_component(&sign[0..4096], e, &mut numbers[0..10]);
-    count_component(&sign[4096..8192], e, &mut numbers[10..20]);
-    count_component(&sign[8192..12288], e, &mut numbers[20..30]);
+    count_components(sign, use_reduce_extrapolate, &mut numbers);
     numbers
 }
 

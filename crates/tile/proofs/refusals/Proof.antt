@@ -1,10 +1,17 @@
 -- `tile::refusals` meets its contract. Assumes nothing.
+use mathlib.Core.Path.{_≡_, refl}
+use Prim.Native.Nat.{ℕ, zero, suc}
+use Rattle.answer.specs.Refusals.{firstOf, unlessRefused}
 use Rattle.answer.proofs.Numbers.{number-answered, kept}
 use Rattle.progressive_decoder.specs.Upgrade.{missingBits}
-use Rattle.tile.specs.Tile.{fresh, loadRefusal, loaded, upgraded, upgradeRefusal, upgradeMissing}
-use Rattle.tile.specs.Refused.{pixelsRefusalOf}
+use Rattle.tile.specs.Tile.{fresh, loadRefusal, loaded, upgraded, upgradeRefusal, upgradeMissing, numbersRefusal, reconstructRefusal}
 use Rattle.tile.proofs.refusals.Statement.{statement}
 use Rattle.tile.proofs.refusals.Tie as tie
+
+-- a refusal before another
+kept-first : {A : Type 0} (m n : ℕ) (new old : A) {k : ℕ} → firstOf m n ≡ suc k → unlessRefused m (unlessRefused n new old) old ≡ old
+kept-first zero n new old e = kept new old e
+kept-first (suc m) n new old e = refl
 
 returns : tie.Need-returns
 returns c = record {
@@ -13,8 +20,8 @@ returns c = record {
   upgrade-number = λ t srlData rawData rows q. number-answered (upgradeRefusal t rows);
   upgrade-kept = λ t srlData rawData rows q k n. kept (upgraded t srlData rawData rows q) t n;
   upgrade-counts = λ t srlData rawData rows q k n. kept (upgradeMissing t srlData rawData rows) (missingBits 0 0) n;
-  pixels-number = λ t px. number-answered (pixelsRefusalOf t px);
-  pixels-kept = λ t px k n. kept _ px n;
+  pixels-number = λ t px. number-answered (reconstructRefusal t px);
+  pixels-kept = λ t px k n. kept-first (numbersRefusal t) _ _ px n;
 }
 
 pub refusals-spec : {M : Type 1} → statement M

@@ -6,7 +6,7 @@ use Rattle.tile.proofs.TileState.loaded.Tie as tie
 
 returns : tie.Need-returns
 unfolding fresh loaded
-returns c = rw (c .before .before .before .before .before .before .load-coefficients .ensures, c .before .before .before .load-signs .ensures, c .before .flat-rows .ensures, c .flat-rows2 .ensures)
+returns c = rw (c .count .ensures, c .before .before .before .before .before .before .before .before .load-coefficients .ensures, c .before .before .before .before .before .load-signs .ensures, c .before .before .before .flat-rows .ensures, c .before .before .flat-rows2 .ensures)
 
 pub loaded-spec : {M : Type 1} → statement M
-loaded-spec = tie.close (tie.spec (λ c. search needs) (λ c κs. search needs) (λ c. search needs) (λ c κs. search needs) (λ c κs. search needs) (λ c κs. search needs) returns)
+loaded-spec = tie.close (tie.spec (λ c. search needs) (λ c κs. search needs) (λ c. search needs) (λ c κs. search needs) (λ c κs. search needs) (λ c κs. search needs) (λ c κs. search needs) returns)

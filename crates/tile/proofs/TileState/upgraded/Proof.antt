@@ -8,7 +8,7 @@ returns : tie.Need-returns
 unfolding upgraded
 returns c =
     let done = c .before .before .upgrade-in-place .ensures in
-    record { tile = simp (done .coefficients, done .sign, done .positions, done .pass); missing = done .missing }
+    record { tile = simp (done .coefficients, done .sign, done .numbers, done .positions, done .pass); missing = done .missing }
 
 pub upgraded-spec : {M : Type 1} → statement M
 upgraded-spec = tie.close (tie.spec (λ c κs. search needs) returns)

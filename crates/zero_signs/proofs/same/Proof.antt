@@ -1,0 +1,46 @@
+-- `zero_signs::same` meets its contract. Assumes nothing.
+use mathlib.Core.Path.{_≡_, sym, ap, ap₂, _∙_}
+use mathlib.Core.Bool.{Bool, _&&_}
+use Prim.Native.Nat.{_+_, _-_, _≤_}
+use native.Mathlib.Omega.{arith}
+use lib.ListN.{length, getD, drop, drop-of-length-le}
+use borrow.Author.Tests.{eq-eqb, ne-eqb}
+use borrow.Author.Needs.{needs}
+use Rattle.zero_signs.specs.ZeroSigns.{areSame}
+use Rattle.zero_signs.proofs.Counted.{same-next}
+use Rattle.zero_signs.proofs.same.Statement.{statement}
+use Rattle.zero_signs.proofs.same.Tie as tie
+
+-- what is left decides
+abbrev Inv-loop : tie.InvT-loop
+Inv-loop a b i₀ i = (i ≤ length a) × (areSame (drop i a) (drop i b) ≡ areSame a b)
+
+abbrev μ-loop : tie.MeasureT-loop
+μ-loop a b i₀ i = length a - i
+
+returns : tie.Need-returns Inv-loop μ-loop
+returns c =
+    let s = c .before .before .before .before .before in
+    let at = c .before .before .before .before .loop in
+    let here = c .before .before .before .loop-test .taken in
+    let a = s .args .a .now in
+    let b = s .args .b .now in
+    sym (sym (at .inv .1) ∙ same-next a b (at .i) here (omega (arith, s .pre)) ∙ ap (λ (x : Bool). x && areSame (drop (at .i + 1) a) (drop (at .i + 1) b)) (ne-eqb (getD a (at .i) 0) (getD b (at .i) 0) (c .if1 .taken)))
+
+loop-again : tie.Need-loop-again Inv-loop μ-loop
+loop-again c =
+    let s = c .before .before .before .before .before in
+    let at = c .before .before .before .before .loop in
+    let here = c .before .before .before .loop-test .taken in
+    let a = s .args .a .now in
+    let b = s .args .b .now in
+    (omega arith, sym (sym (at .inv .1) ∙ same-next a b (at .i) here (omega (arith, s .pre)) ∙ ap (λ (x : Bool). x && areSame (drop (at .i + 1) a) (drop (at .i + 1) b)) (eq-eqb (getD a (at .i) 0) (getD b (at .i) 0) (c .if1 .left))))
+
+returns-2 : tie.Need-returns-2 Inv-loop μ-loop
+returns-2 c =
+    let s = c .before .before in
+    let at = c .before .loop in
+    sym (ap₂ areSame (drop-of-length-le (s .args .a .now) {i = at .i} (omega arith)) (drop-of-length-le (s .args .b .now) {i = at .i} (omega (arith, s .pre)))) ∙ at .inv .1
+
+pub same-spec : {M : Type 1} → statement M
+same-spec = tie.close (tie.spec Inv-loop μ-loop (λ c. search needs) (λ c. search needs) (λ c. search needs) (λ c. search needs) (λ c. search needs) returns (λ c. search needs) (λ c. search needs) loop-again returns-2)
