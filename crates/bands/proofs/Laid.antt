@@ -80,7 +80,7 @@ whole-sum at [] end t = omega (arith, eqb→eq at end t)
 whole-sum at (i ∷ is) end t = omega (arith, whole-sum (at + countOf i) is end (rest i is at end t))
 
 -- a band ends no later than where the test says
-ordered : (at : ℕ) (l : List BandInfo) (end : ℕ) → T (laid at l end) → at ≤ end
+pub ordered : (at : ℕ) (l : List BandInfo) (end : ℕ) → T (laid at l end) → at ≤ end
 ordered at [] end t = omega (arith, eqb→eq at end t)
 ordered at (i ∷ is) end t = omega (arith, ordered (at + countOf i) is end (rest i is at end t))
 

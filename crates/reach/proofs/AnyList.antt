@@ -11,6 +11,8 @@ use Rattle.answer.specs.declared.Answer.{Answer}
 use Rattle.planes.specs.Planes.{component, rowOf, joined, of, three}
 use Rattle.tile.specs.Tile.{upgraded, rowsRefusal, upgradeRefusal}
 use Rattle.tile.specs.declared.TileState.{TileState}
+use Rattle.tile.proofs.Accepted.{by-rows}
+use Rattle.zero_signs.specs.ZeroSigns.{zeroSigns}
 use Rattle.reach.specs.Component.{ComponentGains}
 use Rattle.reach.specs.Reach.{TileFits, Pass, Call, afterCalls, answersTo, answersBy, passesOf, ThreeRows, AllRows, lastRows, Lower, NoRaise, lastOf, Picture, pictureOf, TileGains, ThreeStreams, AllStreams, Reached, Exact, ReachablePictures}
 use Rattle.reach.proofs.Tiles.{tile-refl, tile-same, step-fits, step-trans, step-whole, StreamsTo, Halfway, halfway}
@@ -54,8 +56,9 @@ always : (ks : List Call) (t : TileState) → TileFits t → AllRows (passesOf k
 unfolding lastRows NoRaise afterCalls
 always [] t f w n = record { kind = tile-refl f; positions = refl; fits = f }
 always (k ∷ ks) t f (AllRows.one w ws) n =
-    always-step k ks f w (λ u g r. always ks u g ws r) (upgradeRefusal t (k .pass .rows))
-    (refusal-rows (t .«prog_quant») (t .«base_quant») (k .pass)) (n .0) (n .1)
+    subst (λ (m : ℕ). Holds t (lastOf t (passesOf (k ∷ ks))) (afterCalls (given m t k) ks)) (sym (by-rows t (f .numbers) (k .pass .rows)))
+    (always-step k ks f w (λ u g r. always ks u g ws r) (rowsRefusal (t .«prog_quant») (t .«base_quant») (k .pass .rows))
+    (refusal-rows (t .«prog_quant») (t .«base_quant») (k .pass)) (n .0) (n .1))
 
 -- ════ and all of it ════
 
@@ -106,6 +109,7 @@ module _ (o : Pass) (os : List Pass) {t : TileState} (f : TileFits t) (w : Three
       here = record {
         coefficients = g .coefficients;
         sign = g .sign;
+        numbers = g .numbers;
         each = λ k h. subst
             (λ (y : Picture). ComponentGains (bandsOf (t .«use_reduce_extrapolate»)) (rowOf k (joined (of (o .rows)))) (rowOf k last) (component k (y .coefficients)) (component k (y .sign)) (component k (x .coefficients)) (component k (x .sign)))
             (sym (s .gives)) (m .behind k h);
@@ -115,8 +119,9 @@ whole : (os : List Pass) (t : TileState) → TileFits t → AllRows os → (x : 
 unfolding lastRows NoRaise afterCalls
 whole [] t f w x n g = record { calls = []; streams = AllStreams.none; same = refl; gives = tile-same f x g }
 whole (o ∷ os) t f (AllRows.one w ws) x n g =
-    join (whole-step o os f w x (λ u h r k. whole os u h ws x r k) (upgradeRefusal t (o .rows))
-    (refusal-rows (t .«prog_quant») (t .«base_quant») o) (n .0) (n .1) g)
+    join (subst (λ (m : ℕ). First m t o os x) (sym (by-rows t (f .numbers) (o .rows)))
+    (whole-step o os f w x (λ u h r k. whole os u h ws x r k) (rowsRefusal (t .«prog_quant») (t .«base_quant») (o .rows))
+    (refusal-rows (t .«prog_quant») (t .«base_quant») o) (n .0) (n .1) g))
   where
     join : First (upgradeRefusal t (o .rows)) t o os x → Reached t (o ∷ os) x
     join r = record {
@@ -128,18 +133,22 @@ whole (o ∷ os) t f (AllRows.one w ws) x n g =
 
 -- ════ answers, by the rows alone ════
 
-answers-step : (n : ℕ) (k : Call) (ks : List Call) (t : TileState) → ((u : TileState) → answersTo u ks ≡ answersBy (u .«base_quant») (u .«prog_quant») (passesOf ks))
+-- numbers that are right
+abbrev pub Right : TileState → Type 0
+Right t = t .«zero_signs» ≡ zeroSigns (t .«use_reduce_extrapolate») (t .sign)
+
+answers-step : (n : ℕ) (k : Call) (ks : List Call) (t : TileState) → Right t → ((u : TileState) → Right u → answersTo u ks ≡ answersBy (u .«base_quant») (u .«prog_quant») (passesOf ks))
     → answersTo (given n t k) ks ≡ answersBy (t .«base_quant») (positionsBy n t (k .pass)) (passesOf ks)
 unfolding upgraded
-answers-step zero k ks t ih = ih (given zero t k)
-answers-step (suc n) k ks t ih = ih t
+answers-step zero k ks t r ih = ih (given zero t k) refl
+answers-step (suc n) k ks t r ih = ih t r
 
-answers : (ks : List Call) (t : TileState) → answersTo t ks ≡ answersBy (t .«base_quant») (t .«prog_quant») (passesOf ks)
+pub answers : (ks : List Call) (t : TileState) → Right t → answersTo t ks ≡ answersBy (t .«base_quant») (t .«prog_quant») (passesOf ks)
 unfolding answersTo answersBy
-answers [] t = refl
-answers (k ∷ ks) t =
-    let n = upgradeRefusal t (k .pass .rows) in
-    ap (λ (l : List Answer). answered n ∷ l) (answers-step n k ks t (answers ks))
+answers [] t r = refl
+answers (k ∷ ks) t r =
+    let n = rowsRefusal (t .«prog_quant») (t .«base_quant») (k .pass .rows) in
+    ap (λ (m : ℕ). answered m ∷ answersTo (given m t k) ks) (by-rows t r (k .pass .rows)) ∙ ap (λ (l : List Answer). answered n ∷ l) (answers-step n k ks t r (answers ks))
 
 -- ════ the theorem ════
 
@@ -152,7 +161,7 @@ module _ {t : TileState} (f : TileFits t) {os : List Pass} (w : AllRows os) (n :
   exact : Exact t os
   exact = record {
     always = λ ks e. along ks e .kind;
-    answers = λ ks e. answers ks t ∙ ap (answersBy (t .«base_quant») (t .«prog_quant»)) e;
+    answers = λ ks e. answers ks t (f .numbers) ∙ ap (answersBy (t .«base_quant») (t .«prog_quant»)) e;
     positions = λ ks e. along ks e .positions;
     reached = λ x. (λ r. subst (λ (y : Picture). TileGains t (lastOf t os) y) (r .gives) (along (r .calls) (r .same) .kind), whole os t f w x n);
   }

@@ -2,12 +2,14 @@
 use mathlib.Core.Path.{_≡_, refl, sym, ap, _∙_}
 use mathlib.Core.Bool.{Bool, true, false, cond, _&&_}
 use mathlib.Core.List.{List, [], _∷_, _++_, map}
-use Prim.Native.Nat.{ℕ, zero, suc, _*_, _≤_, _<_}
+use Prim.Native.Nat.{ℕ, zero, suc, _*_, _^_, _≤_, _<_}
 use native.Mathlib.Omega.{arith}
 use lib.IntN.{ℤ, pos, negsuc}
 use lib.ListN.{length, getD, take, replicate, length-replicate, getD-replicate, replicate-append-replicate}
 use lib.Seq.{take-all}
-use Rattle.fixed.specs.Fixed.{signOf}
+use Rattle.fixed.specs.Fixed.{isZero, signOf}
+use Rattle.zero_signs.specs.ZeroSigns.{zeroSigns}
+use Rattle.zero_signs.proofs.Counted.{uniform-tile}
 use Rattle.bands.specs.Bands.{perPlace, bandsOf, isBottom, positionOf}
 use Rattle.bands.specs.Positions.{every, rowsInDomain}
 use Rattle.bands.proofs.Every.{both-true}
@@ -21,7 +23,7 @@ use Rattle.reach.specs.Place.{Gains}
 use Rattle.fitting.specs.Component.{ComponentFits}
 use Rattle.reach.specs.Component.{ComponentGains}
 use Rattle.reach.specs.Reach.{TileFits, ThreeRows, AllRows, Lower, NoRaise, lastRows, TileGains}
-use Rattle.reach.specs.Corollaries.{rowsAt, dark, sharpening, darker, HypothesesMet}
+use Rattle.reach.specs.Corollaries.{rowsAt, allOver, dark, sharpening, darker, HypothesesMet}
 use Rattle.reach.proofs.Tiles.{given-row, rows-in-domain}
 use Rattle.reach.proofs.AnyList.{reachable-pictures}
 
@@ -50,15 +52,16 @@ loaded-fits cs ss rows quants e w v a f =
       rows = joined-long 10 (of rows) (w .ten);
       positions = rows-in-domain rows w (d .0);
       quantizers = rows-in-domain quants v (d .1);
+      numbers = refl;
       each = λ k h. rw (component-joined (λ k. take 4096 (of cs k)) lc k h, component-joined (λ k. take 4096 (of ss k)) ls k h, given-row rows w k h) (f k h);
     }
 
 -- ════ the same coefficient and sign everywhere ════
 
-same-position : (e : Bool) (p i : ℕ) → positionOf (replicate 10 p) (getD (bandsOf e) i 0) ≡ p
+pub same-position : (e : Bool) (p i : ℕ) → positionOf (replicate 10 p) (getD (bandsOf e) i 0) ≡ p
 same-position e p i = getD-replicate 10 (getD (bandsOf e) i 0) p 0 (one-of-ten e i)
 
-inside : (e : Bool) (i : ℕ) → i < length (bandsOf e) → i < 4096
+pub inside : (e : Bool) (i : ℕ) → i < length (bandsOf e) → i < 4096
 inside e i h = omega (arith, h, bands-whole e)
 
 -- where a place with them fits, a component of them does
@@ -72,10 +75,11 @@ all-fit e p c s f = record {
 multiple-of : (m n k : ℕ) → n ≡ k * m → Multiple m n
 multiple-of m n k e = record { times = k; is = e }
 
-zero-fits : (b : Bool) → Fits b 0 (record { coefficient = pos 0; sign = pos 0 })
+-- a zero fits every position
+pub zero-place : (p : ℕ) → p ≤ 15 → (b : Bool) → Fits b p (record { coefficient = pos 0; sign = pos 0 })
 unfolding signOf
-zero-fits true = record { low = omega arith; range = omega arith; multiple = multiple-of 1 0 0 refl; own = tt }
-zero-fits false = record { low = omega arith; range = omega arith; multiple = multiple-of 1 0 0 refl; own = refl }
+zero-place p h true = record { low = h; range = omega arith; multiple = multiple-of (2 ^ p) 0 0 (omega arith); own = tt }
+zero-place p h false = record { low = h; range = omega arith; multiple = multiple-of (2 ^ p) 0 0 (omega arith); own = refl }
 
 dark-place : (b : Bool) → Fits b 3 (record { coefficient = negsuc 7; sign = negsuc 0 })
 unfolding signOf
@@ -85,7 +89,7 @@ dark-place false = record { low = omega arith; range = omega arith; multiple = m
 -- ════ the fresh tile ════
 
 -- a list of one thing, by its three parts
-thirds : {A : Type 0} (x : A) → replicate 12288 x ≡ joined (λ k. replicate 4096 x)
+pub thirds : {A : Type 0} (x : A) → replicate 12288 x ≡ joined (λ k. replicate 4096 x)
 thirds {A} x = sym (ap (λ (l : List A). replicate 4096 x ++ l) (replicate-append-replicate 4096 4096 x) ∙ replicate-append-replicate 4096 8192 x)
 
 fresh-fits : TileFits fresh
@@ -96,7 +100,8 @@ fresh-fits = record {
   rows = refl;
   positions = refl;
   quantizers = refl;
-  each = λ k h. rw (parts k h, row-joined (λ k. replicate 10 0) (λ k h. refl) k h) (all-fit false 0 (pos 0) (pos 0) zero-fits);
+  numbers = refl;
+  each = λ k h. rw (parts k h, row-joined (λ k. replicate 10 0) (λ k h. refl) k h) (all-fit false 0 (pos 0) (pos 0) (zero-place 0 (omega arith)));
 }
   where
     parts : (k : ℕ) → k < 3 → component k (replicate 12288 (pos 0)) ≡ replicate 4096 (pos 0)
@@ -104,7 +109,7 @@ fresh-fits = record {
 
 -- ════ a tile of -8 at position 3, and passes to 2 and to 1 ════
 
-three-at : (p : ℕ) → ThreeRows (rowsAt p)
+pub three-at : (p : ℕ) → ThreeRows (rowsAt p)
 three-at p = record { three = refl; ten = ten }
   where
     ten : (k : ℕ) → k < 3 → length (of (rowsAt p) k) ≡ 10
@@ -113,20 +118,27 @@ three-at p = record { three = refl; ten = ten }
     ten (suc (suc zero)) h = refl
     ten (suc (suc (suc k))) h = absurd (omega arith)
 
-row-of : (p k : ℕ) → k < 3 → of (rowsAt p) k ≡ replicate 10 p
+pub row-of : (p k : ℕ) → k < 3 → of (rowsAt p) k ≡ replicate 10 p
 row-of p zero h = refl
 row-of p (suc zero) h = refl
 row-of p (suc (suc zero)) h = refl
 row-of p (suc (suc (suc k))) h = absurd (omega arith)
 
-whole-part : (c : ℤ) (k : ℕ) → k < 3 → take 4096 (of (replicate 3 (replicate 4096 c)) k) ≡ replicate 4096 c
+pub whole-part : (c : ℤ) (k : ℕ) → k < 3 → take 4096 (of (replicate 3 (replicate 4096 c)) k) ≡ replicate 4096 c
 whole-part c k h = ap (take 4096) (getD-replicate 3 k (replicate 4096 c) [] h) ∙ take-all 4096 (replicate 4096 c) (omega (arith, length-replicate 4096 c))
 
-dark-fits : (e : Bool) → TileFits (dark e)
-dark-fits e = loaded-fits (replicate 3 (replicate 4096 (negsuc 7))) (replicate 3 (replicate 4096 (negsuc 0))) (rowsAt 3) (rowsAt 6) e (three-at 3) (three-at 6) refl
-    (λ k h. rw (whole-part (negsuc 7) k h, whole-part (negsuc 0) k h, row-of 3 k h) (all-fit e 3 (negsuc 7) (negsuc 0) dark-place))
+pub start : (c : ℤ) (k : ℕ) → k < 3 → component k (taken (replicate 3 (replicate 4096 c))) ≡ replicate 4096 c
+start c k h =
+    component-joined (λ k. take 4096 (of (replicate 3 (replicate 4096 c)) k)) (λ k h. ap length (whole-part c k h) ∙ length-replicate 4096 c) k h ∙ whole-part c k h
 
-lower-at : (p q : ℕ) → q ≤ p → Lower (joined (of (rowsAt p))) (joined (of (rowsAt q)))
+pub all-over-fits : (c s : ℤ) → ((b : Bool) → Fits b 3 (record { coefficient = c; sign = s })) → (e : Bool) → TileFits (allOver c s e)
+all-over-fits c s f e = loaded-fits (replicate 3 (replicate 4096 c)) (replicate 3 (replicate 4096 s)) (rowsAt 3) (rowsAt 6) e (three-at 3) (three-at 6) refl
+    (λ k h. rw (whole-part c k h, whole-part s k h, row-of 3 k h) (all-fit e 3 c s f))
+
+dark-fits : (e : Bool) → TileFits (dark e)
+dark-fits = all-over-fits (negsuc 7) (negsuc 0) dark-place
+
+pub lower-at : (p q : ℕ) → q ≤ p → Lower (joined (of (rowsAt p))) (joined (of (rowsAt q)))
 lower-at p q l j h = omega (arith, getD-replicate 30 j p 0 h, getD-replicate 30 j q 0 h)
 
 none-raised : (e : Bool) → NoRaise (dark e .«base_quant») (dark e .«prog_quant») sharpening
@@ -175,6 +187,12 @@ component-darker e = record {
   each = λ i h. rw (same-position e 3 i, same-position e 1 i, getD-replicate 4096 i (negsuc 7) (pos 0) (inside e i h), getD-replicate 4096 i (negsuc 0) (pos 0) (inside e i h), deep-at e i h) (darker-place (isBottom (getD (bandsOf e) i 0)));
 }
 
+-- no sign is 0
+no-zeros : (e : Bool) → replicate 30 0 ≡ zeroSigns e (joined (λ k. replicate 4096 (negsuc 0)))
+unfolding isZero
+no-zeros true = sym (uniform-tile true (negsuc 0))
+no-zeros false = sym (uniform-tile false (negsuc 0))
+
 darker-gained : (e : Bool) → TileGains (dark e) (joined (of (rowsAt 1))) (darker e)
 unfolding loaded deep
 darker-gained e =
@@ -183,6 +201,7 @@ darker-gained e =
     record {
       coefficients = joined-long 4096 (λ k. deep e) lc;
       sign = joined-long 4096 (λ k. replicate 4096 (negsuc 0)) ls;
+      numbers = no-zeros e;
       each = λ k h. rw (
         component-joined (λ k. deep e) lc k h,
         component-joined (λ k. replicate 4096 (negsuc 0)) ls k h,
@@ -193,10 +212,6 @@ darker-gained e =
         row-of 1 k h,
       ) (component-darker e);
     }
-  where
-    start : (c : ℤ) (k : ℕ) → k < 3 → component k (taken (replicate 3 (replicate 4096 c))) ≡ replicate 4096 c
-    start c k h =
-        component-joined (λ k. take 4096 (of (replicate 3 (replicate 4096 c)) k)) (λ k h. ap length (whole-part c k h) ∙ length-replicate 4096 c) k h ∙ whole-part c k h
 
 -- the tiles and the list of passes, and what they reach
 pub hypotheses-met : HypothesesMet

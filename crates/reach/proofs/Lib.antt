@@ -7,3 +7,4 @@ pub mod Tiles
 pub mod AnyList
 pub mod Signs
 pub mod Instances
+pub mod Undecided

@@ -67,11 +67,11 @@ all-kept (t ∷ ts) (s ∷ ss) vs i = place-kept (source t s) s ss vs (signsAfte
 -- ════ a tile ════
 
 -- as many signs as before, and no nonzero one lost
-record KeptIn (t u : TileState) : Type 0 where
-  long : length (u .sign) ≡ 12288
-  kept : (k i : ℕ) → k < 3 → tileSign t k i ≢ pos 0 → tileSign u k i ≡ tileSign t k i
+pub record KeptIn (t u : TileState) : Type 0 where
+  pub long : length (u .sign) ≡ 12288
+  pub kept : (k i : ℕ) → k < 3 → tileSign t k i ≢ pos 0 → tileSign u k i ≡ tileSign t k i
 
-upgraded-kept : (t : TileState) → length (t .sign) ≡ 12288 → (srlData rawData rows : List (List ℕ)) (q : ℕ) → KeptIn t (upgraded t srlData rawData rows q)
+pub upgraded-kept : (t : TileState) → length (t .sign) ≡ 12288 → (srlData rawData rows : List (List ℕ)) (q : ℕ) → KeptIn t (upgraded t srlData rawData rows q)
 unfolding upgraded passSigns KeptAt
 upgraded-kept t h srlData rawData rows q = record {
   long = joined-long 4096 (λ k. upgradedSigns (stepsOf e p rows k) (of srlData k) (component k ss)) long;

@@ -17,6 +17,7 @@ use Rattle.upgrade_steps.specs.Steps.{Step, stepOf, steps}
 use Rattle.progressive_decoder.specs.Upgrade.{upgradedCoefficients, upgradedSigns}
 use Rattle.components.specs.Components.{stepsOf, passCoefficients, passSigns}
 use Rattle.planes.specs.Planes.{component, rowOf, joined, three, of}
+use Rattle.zero_signs.specs.ZeroSigns.{zeroSigns}
 use Rattle.tile.specs.Tile.{upgraded}
 use Rattle.tile.specs.declared.TileState.{TileState}
 use Rattle.planes.proofs.Joined.{Long, joined-long, component-joined, row-joined, joined-components}
@@ -60,22 +61,23 @@ rows-in-domain rows h d =
 
 -- from its positions to the same a tile may stay
 pub tile-refl : {t : TileState} → TileFits t → TileGains t (t .«prog_quant») (pictureOf t)
-tile-refl f = record { coefficients = f .coefficients; sign = f .sign; each = λ k h. component-refl (f .each k h) }
+tile-refl f = record { coefficients = f .coefficients; sign = f .sign; numbers = f .numbers; each = λ k h. component-refl (f .each k h) }
 
 -- three parts that are alike
-joined-path : {A : Type 0} (f g : ℕ → List A) → ((k : ℕ) → k < 3 → f k ≡ g k) → joined f ≡ joined g
+pub joined-path : {A : Type 0} (f g : ℕ → List A) → ((k : ℕ) → k < 3 → f k ≡ g k) → joined f ≡ joined g
 joined-path {A} f g e = ap₂ (λ (x y : List A). x ++ y) (e 0 (omega arith)) (ap₂ (λ (x y : List A). x ++ y) (e 1 (omega arith)) (e 2 (omega arith)))
 
 -- a list by its components
 by-components : {A : Type 0} (f : ℕ → List A) (l : List A) → length l ≡ 12288 → ((k : ℕ) → k < 3 → f k ≡ component k l) → joined f ≡ l
 by-components f l h e = joined-path f (λ k. component k l) e ∙ joined-components l h
 
-picture-path : {x y : Picture} → x .coefficients ≡ y .coefficients → x .sign ≡ y .sign → x ≡ y
-picture-path e f = λ i. record { coefficients = e i; sign = f i }
+-- a picture by its coefficients and signs, where the numbers are right in both
+picture-path : (e : Bool) {x y : Picture} → x .«zero_signs» ≡ zeroSigns e (x .sign) → y .«zero_signs» ≡ zeroSigns e (y .sign) → x .coefficients ≡ y .coefficients → x .sign ≡ y .sign → x ≡ y
+picture-path e n m c s = λ i. record { coefficients = c i; sign = s i; «zero_signs» = (n ∙ ap (zeroSigns e) s ∙ sym m) i }
 
 -- and cannot change
 pub tile-same : {t : TileState} → TileFits t → (x : Picture) → TileGains t (t .«prog_quant») x → pictureOf t ≡ x
-tile-same {t} f x g = picture-path
+tile-same {t} f x g = picture-path (t .«use_reduce_extrapolate») (f .numbers) (g .numbers)
     (sym (joined-components (t .coefficients) (f .coefficients)) ∙ by-components (λ k. component k (t .coefficients)) (x .coefficients) (g .coefficients) (λ k h. sym (component-same (f .each k h) (g .each k h) .0)))
     (sym (joined-components (t .sign) (f .sign)) ∙ by-components (λ k. component k (t .sign)) (x .sign) (g .sign) (λ k h. sym (component-same (f .each k h) (g .each k h) .1)))
 
@@ -104,7 +106,7 @@ module _ {t : TileState} (f : TileFits t) (o : Pass) (w : ThreeRows (o .rows)) (
   FromTo cs ss = (k : ℕ) → k < 3 → ComponentGains (bandsOf e) (rowOf k (t .«prog_quant»)) (rowOf k (joined (of (o .rows)))) (component k (t .coefficients)) (component k (t .sign)) (cs k) (ss k)
 
   -- three components that are gained make a picture
-  gathered : (cs ss : ℕ → List ℤ) → FromTo cs ss → TileGains t (joined (of (o .rows))) (record { coefficients = joined cs; sign = joined ss })
+  gathered : (cs ss : ℕ → List ℤ) → FromTo cs ss → TileGains t (joined (of (o .rows))) (record { coefficients = joined cs; sign = joined ss; «zero_signs» = zeroSigns e (joined ss) })
   unfolding FromTo e
   gathered cs ss g =
       let lc : Long 4096 cs = λ k h. g k h .coefficients ∙ bands-whole e in
@@ -112,6 +114,7 @@ module _ {t : TileState} (f : TileFits t) (o : Pass) (w : ThreeRows (o .rows)) (
       record {
         coefficients = joined-long 4096 cs lc;
         sign = joined-long 4096 ss ls;
+        numbers = refl;
         each = λ k h. rw (component-joined cs lc k h, component-joined ss ls k h) (g k h);
       }
 
@@ -140,6 +143,7 @@ module _ {t : TileState} (f : TileFits t) (o : Pass) (w : ThreeRows (o .rows)) (
         rows = joined-long 10 (of (o .rows)) (w .ten);
         positions = rows-in-domain (o .rows) w d;
         quantizers = f .quantizers;
+        numbers = refl;
         each = λ k h. component-fits (g .each k h);
       }
 
@@ -149,6 +153,7 @@ module _ {t : TileState} (f : TileFits t) (o : Pass) (w : ThreeRows (o .rows)) (
   step-trans srlData rawData last x g = record {
     coefficients = g .coefficients;
     sign = g .sign;
+    numbers = g .numbers;
     each = λ k h. component-trans (f .each k h) (below k h) (step-sound srlData rawData .each k h) (g .each k h);
   }
 
@@ -168,7 +173,7 @@ module _ {t : TileState} (f : TileFits t) (o : Pass) (w : ThreeRows (o .rows)) (
     rawData = rawData;
     srl = threeStreams (λ k h. s k h .srlData) (λ k h. s k h .srl);
     raw = threeStreams (λ k h. s k h .rawData) (λ k h. s k h .raw);
-    gives = picture-path (by-components _ (x .coefficients) (g .coefficients) coefficients) (by-components _ (x .sign) (g .sign) signs);
+    gives = picture-path e refl (g .numbers) (by-components _ (x .coefficients) (g .coefficients) coefficients) (by-components _ (x .sign) (g .sign) signs);
   }
     where
       s : (k : ℕ) (h : k < 3) → Streams (rowOf k (t .«prog_quant»)) (rowOf k (joined (of (o .rows)))) (bandsOf e) (component k (t .coefficients)) (component k (t .sign)) (component k (x .coefficients)) (component k (x .sign))
@@ -212,7 +217,7 @@ module _ {t : TileState} (f : TileFits t) (o : Pass) (w : ThreeRows (o .rows)) (
   pub halfway : (last : List ℕ) (x : Picture) → TileGains t last x → Halfway last x
   unfolding FromTo e
   halfway last x g = record {
-    mid = record { coefficients = joined (of cs); sign = joined (of ss) };
+    mid = record { coefficients = joined (of cs); sign = joined (of ss); «zero_signs» = zeroSigns e (joined (of ss)) };
     before = gathered (of cs) (of ss) (λ k h. rw (cs-of k h, ss-of k h) (m k h .before));
     behind = λ k h. rw (component-joined (of cs) long-cs k h, component-joined (of ss) long-ss k h, cs-of k h, ss-of k h) (m k h .behind);
   }

@@ -59,10 +59,13 @@ pub record OwnSignInWords : Type 0 where
 abbrev pub rowsAt : ℕ → List (List ℕ)
 rowsAt p = three (replicate 10 p) (replicate 10 p) (replicate 10 p)
 
--- a loaded tile, dark all over: each coefficient is -8 with sign -1, each position 3
+-- a loaded tile with the same coefficient and sign all over, each position 3
+abbrev pub allOver : ℤ → ℤ → Bool → TileState
+allOver c s e = loaded (replicate 3 (replicate 4096 c)) (replicate 3 (replicate 4096 s)) (rowsAt 3) (rowsAt 6) e
+
+-- one that is dark: each coefficient is -8 with sign -1
 abbrev pub dark : Bool → TileState
-dark e =
-    loaded (replicate 3 (replicate 4096 (negsuc 7))) (replicate 3 (replicate 4096 (negsuc 0))) (rowsAt 3) (rowsAt 6) e
+dark e = allOver (negsuc 7) (negsuc 0) e
 
 -- a pass to position 2, one that is refused, and a pass to position 1
 abbrev pub sharpening : List Pass
@@ -73,6 +76,7 @@ abbrev pub darker : Bool → Picture
 darker e = record {
   coefficients = joined (λ k. perPlace e (λ b. cond (isBottom b) (negsuc 1) (negsuc 13)));
   sign = joined (λ k. replicate 4096 (negsuc 0));
+  «zero_signs» = replicate 30 0;
 }
 
 -- tiles and a list of passes that the theorem is about

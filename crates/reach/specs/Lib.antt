@@ -3,3 +3,4 @@ pub mod Place
 pub mod Component
 pub mod Reach
 pub mod Corollaries
+pub mod Undecided

@@ -11,6 +11,7 @@ use Rattle.bands.specs.Bands.{bandsOf}
 use Rattle.bands.specs.Positions.{rowInDomain}
 use Rattle.answer.specs.Refusals.{answered, unlessRefused}
 use Rattle.answer.specs.declared.Answer.{Answer}
+use Rattle.zero_signs.specs.ZeroSigns.{zeroSigns}
 use Rattle.planes.specs.Planes.{component, rowOf, joined, of}
 use Rattle.tile.specs.Tile.{rowsRefusal, decodeUpgrade}
 use Rattle.tile.specs.declared.TileState.{TileState}
@@ -19,7 +20,7 @@ use Rattle.reach.specs.Component.{ComponentGains}
 
 -- ════ a tile that fits ════
 
--- "a tile fits if its three components do and no position or quantizer in it is above 15"
+-- "a tile fits if its three components do, no position or quantizer in it is above 15, and its numbers of zero signs are right"
 pub record TileFits (t : TileState) : Type 0 where
   -- the arrays are as long as their types say
   pub coefficients : length (t .coefficients) ≡ 12288
@@ -27,6 +28,7 @@ pub record TileFits (t : TileState) : Type 0 where
   pub rows : length (t .«prog_quant») ≡ 30
   pub positions : rowInDomain (t .«prog_quant») ≡ true
   pub quantizers : rowInDomain (t .«base_quant») ≡ true
+  pub numbers : t .«zero_signs» ≡ zeroSigns (t .«use_reduce_extrapolate») (t .sign)
   pub each : (k : ℕ) → k < 3
       → ComponentFits (bandsOf (t .«use_reduce_extrapolate»)) (rowOf k (t .«prog_quant»)) (component k (t .coefficients)) (component k (t .sign))
 
@@ -103,19 +105,22 @@ lastOf t os = lastRows (t .«base_quant») (t .«prog_quant») os
 
 -- ════ what a tile may become ════
 
--- "a picture is the coefficients and signs of all three components"
+-- "a picture is the coefficients and signs of all three components", with the numbers of zero signs
 pub record Picture : Type 0 where
   pub coefficients : List ℤ
   pub sign : List ℤ
+  pub «zero_signs» : List ℕ
 
 -- of a tile
 abbrev pub pictureOf : TileState → Picture
-pictureOf t = record { coefficients = t .coefficients; sign = t .sign }
+pictureOf t = record { coefficients = t .coefficients; sign = t .sign; «zero_signs» = t .«zero_signs» }
 
 -- x is of the kind, from t at its own positions to the last ones: each component has gained; "it counts from the first tile"
 pub record TileGains (t : TileState) (last : List ℕ) (x : Picture) : Type 0 where
   pub coefficients : length (x .coefficients) ≡ 12288
   pub sign : length (x .sign) ≡ 12288
+  -- "the numbers are fixed by the signs"
+  pub numbers : x .«zero_signs» ≡ zeroSigns (t .«use_reduce_extrapolate») (x .sign)
   pub each : (k : ℕ) → k < 3
       → ComponentGains (bandsOf (t .«use_reduce_extrapolate»)) (rowOf k (t .«prog_quant»)) (rowOf k last) (component k (t .coefficients)) (component k (t .sign)) (component k (x .coefficients)) (component k (x .sign))
 
@@ -132,7 +137,7 @@ pub data AllStreams : List Call → Type 0 where
   none : AllStreams []
   one : {k : Call} {ks : List Call} → ThreeStreams (k .srlData) → ThreeStreams (k .rawData) → AllStreams ks → AllStreams (k ∷ ks)
 
--- "the rows and qualities of the list stay fixed, and .. streams of some lengths, chosen for each pass, end at exactly these coefficients and signs"
+-- "the rows and qualities of the list stay fixed, and .. streams of some lengths, chosen for each pass, end at exactly these coefficients and signs", and their numbers
 pub record Reached (t : TileState) (os : List Pass) (x : Picture) : Type 0 where
   pub calls : List Call
   pub streams : AllStreams calls

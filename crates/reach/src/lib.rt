@@ -3,6 +3,7 @@
 
 ghost use Rattle.reach.specs.Reach.{ReachablePictures};
 ghost use Rattle.reach.specs.Corollaries.{FittingPreserved, NonzeroSignsKept, OwnSignInWords, HypothesesMet};
+ghost use Rattle.reach.specs.Undecided.{UndecidedFalls};
 
 // For every tile that fits and every list of passes of which none raises a position: what can be reached is exactly what the description says.
 pub fn reachable_pictures()
@@ -27,4 +28,9 @@ pub fn own_sign_in_words()
 // The theorem's hypotheses are met by the fresh tile, by loaded tiles and by a list with a refused pass; and more is reached than the start.
 pub fn hypotheses_met()
     ensures { λ _. ⌜ HypothesesMet ⌝ }
+{}
+
+// An accepted pass lowers the numbers of zero signs by exactly the signs that it sets, and a list of passes from a tile that fits never gets refusal 8.
+pub fn undecided_falls()
+    ensures { λ _. ⌜ UndecidedFalls ⌝ }
 {}

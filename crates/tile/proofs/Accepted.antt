@@ -1,16 +1,17 @@
 -- A pass over a tile by the number of its refusal: what is answered, and what holds where there is none.
 use mathlib.Core.Path.{_≡_, sym, ap, _∙_}
-use mathlib.Core.Bool.{true, _&&_}
+use mathlib.Core.Bool.{Bool, true, _&&_}
 use mathlib.Core.List.{List}
 use Prim.Native.Nat.{ℕ}
 use Rattle.bands.specs.Positions.{rowInDomain, rowsInDomain}
 use Rattle.bands.proofs.Every.{both-true}
-use Rattle.answer.specs.Refusals.{answered, unlessRefused}
+use Rattle.answer.specs.Refusals.{impossibleState, unless, firstOf, answered, unlessRefused}
 use Rattle.answer.specs.declared.Answer.the-variants.{Accepted, Refused}
 use Rattle.answer.proofs.Numbers.{unless-none, first-none, refused-some, kept-some}
 use Rattle.progressive_decoder.specs.Upgrade.{missingBits}
 use Rattle.progressive_decoder.specs.declared.MissingBits.{MissingBits}
-use Rattle.zero_signs.specs.ZeroSigns.{areRight}
+use Rattle.zero_signs.specs.ZeroSigns.{zeroSigns, areRight}
+use Rattle.zero_signs.proofs.Counted.{same-refl}
 use Rattle.tile.specs.Tile.{numbersRefusal, rowsRefusal, upgradeRefusal, upgraded, upgradeMissing, decodeUpgrade}
 use Rattle.tile.specs.Inner.{PassesTile}
 use Rattle.tile.specs.declared.TileState.{TileState}
@@ -62,3 +63,12 @@ module _ (t : TileState) (rows : List (List ℕ)) (e : upgradeRefusal t rows ≡
   -- its numbers are right
   pub numbers-right : areRight (t .«use_reduce_extrapolate») (t .sign) (t .«zero_signs») ≡ true
   numbers-right = unless-none _ 7 (neither .0)
+
+-- ════ where the numbers are right ════
+
+-- the rows decide
+pub by-rows : (t : TileState) → t .«zero_signs» ≡ zeroSigns (t .«use_reduce_extrapolate») (t .sign) → (rows : List (List ℕ))
+    → upgradeRefusal t rows ≡ rowsRefusal (t .«prog_quant») (t .«base_quant») rows
+by-rows t e rows =
+    let right : areRight (t .«use_reduce_extrapolate») (t .sign) (t .«zero_signs») ≡ true = rw e (same-refl (zeroSigns (t .«use_reduce_extrapolate») (t .sign))) in
+    ap (λ (b : Bool). firstOf (unless b impossibleState) (rowsRefusal (t .«prog_quant») (t .«base_quant») rows)) right

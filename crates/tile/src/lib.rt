@@ -86,10 +86,12 @@ pub fn upgrade_refusal(
         (numbersRefusalBy «use_reduce_extrapolate» (now (sign .entry)) (now (numbers .entry)))
         (rowsRefusal positions quants rows) ⌝ }
 {
-    if !zero_signs::are_right(numbers, sign, use_reduce_extrapolate) {
+    let right = zero_signs::are_right(numbers, sign, use_reduce_extrapolate);
+    let low = in_domain(rows, positions, quants);
+    if !right {
         return answer::IMPOSSIBLE_STATE;
     }
-    if !in_domain(rows, positions, quants) {
+    if !low {
         return answer::OUT_OF_DOMAIN;
     }
     0

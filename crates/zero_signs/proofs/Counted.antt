@@ -1,20 +1,23 @@
 -- Zeros counted: one more, and a part by parts. The numbers of a tile's bands.
-use mathlib.Core.Path.{_≡_, refl, sym, ap, _∙_}
-use mathlib.Core.Bool.{Bool, true, false, cond, _&&_}
-use mathlib.Core.List.{List, [], _∷_, _++_}
-use Prim.Native.Nat.{ℕ, suc, _+_, _≤_, _<_}
+use mathlib.Core.Path.{_≡_, refl, sym, ap, ap₂, _∙_}
+use mathlib.Core.Bool.{Bool, true, false, true≢false, cond, _&&_}
+use mathlib.Core.List.{List, [], _∷_, _++_, map}
+use Prim.Native.Nat.{ℕ, zero, suc, _+_, _≤_, _<_}
+use native.Mathlib.Nat.{le-of-suc-le-suc, zero-add, suc-add}
 use native.Mathlib.Numerals.{add-one}
 use native.Mathlib.Omega.{arith}
+use borrow.Author.Tests.{eqb-true, eq-eqb}
 use borrow.Rule.Slice.PartMut.{putMid}
 use lib.Dec.{eqb}
 use lib.IntN.{ℤ, pos}
-use lib.ListN.{length, getD, take, drop, take-append-drop, length-map, List·getD-map}
-use lib.Seq.{slice, slice-cons, drop-cons, take-take, length-take-le, drop-append-le}
-use Rattle.bands.specs.Bands.{layout, bandAt, none}
+use lib.ListN.{length, getD, take, drop, replicate, length-replicate, take-append-drop, length-map, List·getD-map}
+use lib.Seq.{slice, slice-cons, drop-cons, take-take, length-take-le, drop-append-le, ext-getD}
+use Rattle.bands.specs.Bands.{layout, countOf, bandAt, none}
 use Rattle.bands.specs.declared.BandInfo.{BandInfo}
-use Rattle.bands.proofs.Laid.{ten-bands}
-use Rattle.planes.specs.Planes.{component}
-use Rattle.planes.proofs.Joined.{put-all}
+use Rattle.bands.proofs.Every.{both-true}
+use Rattle.bands.proofs.Laid.{ten-bands, band-within}
+use Rattle.planes.specs.Planes.{component, joined}
+use Rattle.planes.proofs.Joined.{put-all, component-joined}
 use Rattle.fixed.specs.Fixed.{isZero}
 use Rattle.zero_signs.specs.ZeroSigns.{zerosIn, signsIn, bandZeros, zeroSigns, areSame}
 
@@ -50,6 +53,19 @@ module _ (l : List ℤ) (f t : ℕ) where
 pub same-next : (a b : List ℕ) (i : ℕ) → i < length a → i < length b → areSame (drop i a) (drop i b) ≡ eqb (getD a i 0) (getD b i 0) && areSame (drop (i + 1) a) (drop (i + 1) b)
 same-next a b i h k = rw (add-one i, drop-cons a i 0 h, drop-cons b i 0 k) refl
 
+-- the same just where they are equal
+pub same-refl : (l : List ℕ) → areSame l l ≡ true
+same-refl [] = refl
+same-refl (n ∷ l) = rw (eq-eqb n n refl) (same-refl l)
+
+pub same-is : (a b : List ℕ) → areSame a b ≡ true → a ≡ b
+same-is [] [] e = refl
+same-is [] (n ∷ b) e = absurd (true≢false (sym e))
+same-is (m ∷ a) [] e = absurd (true≢false (sym e))
+same-is (m ∷ a) (n ∷ b) e =
+    let both = both-true (eqb m n) (areSame a b) e in
+    ap₂ (λ (x : ℕ) (l : List ℕ). x ∷ l) (eqb-true m n (both .0)) (same-is a b (both .1))
+
 -- ════ the numbers of a component ════
 
 pub ten-numbers : (e : Bool) (ss : List ℤ) → length (bandZeros e ss) ≡ 10
@@ -60,6 +76,41 @@ pub number-at : (e : Bool) (ss : List ℤ) (b : ℕ) → getD (bandZeros e ss) b
 unfolding zerosIn
 number-at e ss b = List·getD-map (λ (i : BandInfo). zerosIn (signsIn i ss)) (layout e) b none
 
+-- ════ the same sign everywhere ════
+
+take-replicate : {A : Type 0} (m n : ℕ) (x : A) → m ≤ n → take m (replicate n x) ≡ replicate m x
+take-replicate zero n x h = refl
+take-replicate (suc m) zero x h = absurd (omega arith)
+take-replicate {A} (suc m) (suc n) x h = ap (λ (l : List A). x ∷ l) (take-replicate m n x (le-of-suc-le-suc h))
+
+drop-replicate : {A : Type 0} (m n : ℕ) (x : A) → drop m (replicate (m + n) x) ≡ replicate n x
+drop-replicate zero n x = ap (λ (k : ℕ). replicate k x) (zero-add n)
+drop-replicate (suc m) n x = ap (λ (k : ℕ). drop (suc m) (replicate k x)) (suc-add m n) ∙ drop-replicate m n x
+
+either-none : (b : Bool) → _≡_ {A = ℕ} 0 (cond b 0 0)
+either-none true = refl
+either-none false = refl
+
+zeros-replicate : (n : ℕ) (s : ℤ) → zerosIn (replicate n s) ≡ cond (isZero s) n 0
+unfolding zerosIn
+zeros-replicate zero s = either-none (isZero s)
+zeros-replicate (suc n) s = by (isZero s) (zeros-replicate n s)
+  where
+    by : (b : Bool) → zerosIn (replicate n s) ≡ cond b n 0 → cond b 1 0 + zerosIn (replicate n s) ≡ cond b (suc n) 0
+    by true e = omega (arith, e)
+    by false e = omega (arith, e)
+
+-- every sign of a band is 0, or none
+pub uniform : (e : Bool) (s : ℤ) → bandZeros e (replicate 4096 s) ≡ map (λ i. cond (isZero s) (countOf i) 0) (layout e)
+uniform e s = ext-getD 0 (bandZeros e (replicate 4096 s)) (map (λ i. cond (isZero s) (countOf i) 0) (layout e)) (length-map (layout e) _ ∙ sym (length-map (layout e) _))
+    (λ b h. number-at e (replicate 4096 s) b ∙ one (bandAt e b) (band-within e b) ∙ sym (by b))
+  where
+    one : (i : BandInfo) → i .offset + countOf i ≤ 4096 → zerosIn (signsIn i (replicate 4096 s)) ≡ cond (isZero s) (countOf i) 0
+    one i h = ap (λ (l : List ℤ). zerosIn (drop (i .offset) l)) (take-replicate (i .offset + countOf i) 4096 s h) ∙ ap zerosIn (drop-replicate (i .offset) (countOf i) s) ∙ zeros-replicate (countOf i) s
+
+    by : (b : ℕ) → getD (map (λ i. cond (isZero s) (countOf i) 0) (layout e)) b 0 ≡ cond (isZero s) (countOf (bandAt e b)) 0
+    by b = ap (λ (d : ℕ). getD (map (λ i. cond (isZero s) (countOf i) 0) (layout e)) b d) (either-none (isZero s)) ∙ List·getD-map (λ (i : BandInfo). cond (isZero s) (countOf i) 0) (layout e) b none
+
 -- ════ the numbers of a tile ════
 
 -- each row where it lies, by the components as parts of the whole
@@ -68,3 +119,11 @@ pub three-rows : (e : Bool) (ss : List ℤ) (into : List ℕ) → length into �
     → putMid 20 10 (putMid 10 10 (putMid 0 10 into a) b) c ≡ zeroSigns e ss
 unfolding zeroSigns
 three-rows e ss into h p q r = put-all 10 (λ k. bandZeros e (component k ss)) (λ k _. ten-numbers e (component k ss)) into h p q r
+
+-- the same sign everywhere
+pub uniform-tile : (e : Bool) (s : ℤ) → zeroSigns e (joined (λ k. replicate 4096 s)) ≡ joined (λ k. map (λ i. cond (isZero s) (countOf i) 0) (layout e))
+unfolding zeroSigns
+uniform-tile e s = ap₂ (λ (x y : List ℕ). x ++ y) (row 0 (omega arith)) (ap₂ (λ (x y : List ℕ). x ++ y) (row 1 (omega arith)) (row 2 (omega arith)))
+  where
+    row : (k : ℕ) → k < 3 → bandZeros e (component k (joined (λ k. replicate 4096 s))) ≡ map (λ i. cond (isZero s) (countOf i) 0) (layout e)
+    row k h = ap (bandZeros e) (component-joined (λ k. replicate 4096 s) (λ k h. length-replicate 4096 s) k h) ∙ uniform e s

@@ -37,15 +37,17 @@ fn zeros_between(signs: &[i8], from: usize, to: usize) -> u16
     n + few_zeros(signs, i, to) as u16
 }
 
-// The ten numbers of a component.
+// The ten numbers of a component. The layout is at hand before the loop, since the compiler builds a table at each use.
 fn count_component(signs: &[i8], use_reduce_extrapolate: bool, numbers: &mut [u16])
     requires { ⌜ (length (now signs) ≡ 4096) × (length (now numbers) ≡ 10) ⌝ }
     ensures { λ _. ⌜ now (numbers .exit) ≡ bandZeros «use_reduce_extrapolate» (now (signs .entry)) ⌝ }
 {
+    let layout = bands::get_band_layout(use_reduce_extrapolate);
     let mut b: usize = 0;
     while b < bands::NUM_BANDS {
-        let span = bands::span::band_span(use_reduce_extrapolate, b);
-        numbers[b] = zeros_between(signs, span.from, span.to);
+        let info = layout[b];
+        let from = info.offset;
+        numbers[b] = zeros_between(signs, from, from + info.width * info.height);
         b += 1;
     }
 }
