@@ -381,8 +381,8 @@ impl TileState {
     /// let rows = |number| [ComponentCodecQuant::of_bands([number; 10]); 3];
     /// let (coefficients, sign): ([&[i16]; 3], [&[i8]; 3]) = ([&[0; 4096]; 3], [&[0; 4096]; 3]);
     /// let mut tile = TileState::load(coefficients, sign, rows(1), rows(6), true)?;
-    /// let fresh = [1023, 1023, 961, 272, 272, 256, 72, 72, 64, 81];
-    /// assert_eq!(tile.zero_signs(), &[fresh; 3]);
+    /// let all = [1023, 1023, 961, 272, 272, 256, 72, 72, 64, 81];
+    /// assert_eq!(tile.zero_signs(), &[all; 3]);
     /// // The first coefficient of Y becomes 1.
     /// tile.decode_upgrade([&[0x80], &[], &[]], [&[]; 3], rows(0), 100)?;
     /// assert_eq!(tile.sign[0][0], 1);
@@ -393,8 +393,8 @@ impl TileState {
         &self.zero_signs
     }
 
-    /// Counts the zero signs anew, after `sign` or `use_reduce_extrapolate` were set. Until then a call refuses the
-    /// tile, with [`SrlError::ImpossibleState`].
+    /// Counts the zero signs anew, after `sign` or `use_reduce_extrapolate` were set. Until then the calls refuse a
+    /// tile whose numbers are no longer right, with [`SrlError::ImpossibleState`].
     ///
     /// ```
     /// use tarjimp::Error;
@@ -420,9 +420,9 @@ impl TileState {
     ///
     /// # Errors
     ///
-    /// [`SrlError::ImpossibleState`] if `sign` or `use_reduce_extrapolate` were set and
-    /// [`count_zero_signs`](Self::count_zero_signs) was not called, [`SrlError::OutOfDomain`] if a position or
-    /// quantizer is above 15, given or in the tile. The tile is as it was then.
+    /// [`SrlError::ImpossibleState`] if the numbers of zero signs are not those of the signs (see
+    /// [`count_zero_signs`](Self::count_zero_signs)), [`SrlError::OutOfDomain`] if a position or quantizer is above
+    /// 15, given or in the tile. The tile is as it was then.
     pub fn decode_upgrade(
         &mut self,
         srl_data: [&[u8]; 3],
@@ -493,9 +493,9 @@ impl TileState {
     ///
     /// # Errors
     ///
-    /// [`SrlError::ImpossibleState`] if `sign` or `use_reduce_extrapolate` were set and
-    /// [`count_zero_signs`](Self::count_zero_signs) was not called, [`SrlError::SliceTooShort`] if `pixels` has
-    /// fewer than 16,384 bytes, [`SrlError::OutOfDomain`] if a position or quantizer of the tile is above 15,
+    /// [`SrlError::ImpossibleState`] if the numbers of zero signs are not those of the signs (see
+    /// [`count_zero_signs`](Self::count_zero_signs)), [`SrlError::SliceTooShort`] if `pixels` has fewer than 16,384
+    /// bytes, [`SrlError::OutOfDomain`] if a position or quantizer of the tile is above 15,
     /// [`SrlError::StandardLayout`] if the tile is in the standard layout, of which no pixels are made.
     pub fn reconstruct_to_rgba(&self, pixels: &mut [u8]) -> Result<(), SrlError> {
         let number = ffi::tile_reconstruct_to_rgba(

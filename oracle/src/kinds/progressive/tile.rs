@@ -267,8 +267,8 @@ pub fn bad_fields(fields: Fields) -> Vec<Fields> {
     bad
 }
 
-/// Tiles with a wrong number at each of the thirty places, and signs of all sorts. It is one more or one less, wrong in
-/// one of the upper bits alone, 0, the greatest, or that of the other layout.
+/// Tiles with a wrong number at each of the thirty places, and signs of all sorts. It is 1, 256 or 32768 more, 1 less,
+/// 0, the greatest, or that of the other layout; 1 more where that is the right one.
 pub fn wrong_numbers(start: Start) -> Vec<Start> {
     let sorts = [Signs::Before, Signs::Any, Signs::Zero, Signs::Later];
     (0..30)

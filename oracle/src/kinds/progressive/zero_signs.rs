@@ -54,6 +54,7 @@ pub enum Wrong {
 }
 
 impl Wrong {
+    /// Mostly one wrong number.
     pub fn random(random: &mut Random) -> Self {
         if random.one_in(8) {
             return Self::OtherLayout;
