@@ -21,7 +21,8 @@
  *   5  a magnitude above the maximum of its width, 2^width - 1
  *   6  more than 4,096 pending zeros (tarjimp_srl_encode)
  *   7  the answer exceeds an output slice
- *   8  an impossible coder state
+ *   8  an impossible coder state, or a tile whose numbers of zero signs are not
+ *      those of its signs
  *
  * Several reasons: the first in the order 8, 1, 2, 3, 4, 5 or 6 by the earlier
  * value, 7. With a refusal no buffer, state or field is altered, and counts of
@@ -59,7 +60,9 @@
  * LH1 HH1 HL2 LH2 HH2 HL3 LH3 HH3 LL3; a tile three components, Y, Cb and Cr,
  * one after another. A row has a number for each band, in that order:
  * positions (the lowest bit that has arrived) or quantizers. Signs are 1, -1,
- * or 0 for a coefficient whose first bit has not arrived.
+ * or 0 for a coefficient whose first bit has not arrived. A tile has thirty
+ * numbers of zero signs, three rows of ten: how many signs of that band of that
+ * component are 0. They say how much of the tile is still undecided.
  */
 #ifndef TARJIMP_H
 #define TARJIMP_H
@@ -172,13 +175,23 @@ uint8_t tarjimp_dwt_extrapolate_decode(int16_t *buffer, size_t buffer_len,
 void tarjimp_ycbcr_to_rgb(int16_t y, int16_t cb, int16_t cr, uint8_t rgb[3]);
 
 /*
+ * Fills the numbers of zero signs of a tile, by its signs and its layout: for a
+ * tile that the caller makes, before the two functions below are called with it.
+ * Any other sign than 0, as 5, is not zero. LL3's signs are counted too.
+ */
+void tarjimp_tile_zero_signs(const int8_t sign[12288], bool use_reduce_extrapolate,
+                             uint16_t zero_signs[30]);
+
+/*
  * An upgrade pass over a tile, in place, from its positions in prog_quant to
  * prog_quants (three rows of ten): coefficients and signs, then prog_quant
- * and *quality are set and *pass rises by 1, up to 65535. missing has the
- * counts of bits that were read from past the end of the three SRL streams and
- * of the three raw streams, each as one sum. Refusal: 2.
+ * and *quality are set and *pass rises by 1, up to 65535. zero_signs has the
+ * numbers of zero signs, of the tile before the pass and then after it. missing
+ * has the counts of bits that were read from past the end of the three SRL
+ * streams and of the three raw streams, each as one sum. Refusals: 8, 2.
  */
 uint8_t tarjimp_tile_decode_upgrade(int16_t coefficients[12288], int8_t sign[12288],
+                                    uint16_t zero_signs[30],
                                     uint8_t prog_quant[30], const uint8_t base_quant[30],
                                     bool use_reduce_extrapolate,
                                     uint16_t pass[1], uint8_t quality[1],
@@ -193,9 +206,12 @@ uint8_t tarjimp_tile_decode_upgrade(int16_t coefficients[12288], int8_t sign[122
 
 /*
  * The pixels of a tile, row by row, four bytes each: red, green, blue, 255.
- * Refusals: 1, 2, 3 (only the reduce-extrapolate layout has pixels).
+ * They do not depend on the signs, which are here to be counted: where the
+ * numbers of zero signs are not theirs, no pixels are given.
+ * Refusals: 8, 1, 2, 3 (only the reduce-extrapolate layout has pixels).
  */
 uint8_t tarjimp_tile_reconstruct_to_rgba(const int16_t coefficients[12288],
+                                         const int8_t sign[12288], const uint16_t zero_signs[30],
                                          const uint8_t prog_quant[30], const uint8_t base_quant[30],
                                          bool use_reduce_extrapolate,
                                          uint8_t *pixels, size_t pixels_len);
@@ -212,7 +228,7 @@ static inline const char *tarjimp_message(uint8_t number)
     case TARJIMP_MAGNITUDE_OUT_OF_RANGE: return "a magnitude is above the maximum of its width";
     case TARJIMP_ZERO_RUN_TOO_LONG: return "more than 4096 zeros are pending";
     case TARJIMP_OUTPUT_TOO_SHORT: return "the answer does not fit the output slice";
-    case TARJIMP_IMPOSSIBLE_STATE: return "the coder state is impossible";
+    case TARJIMP_IMPOSSIBLE_STATE: return "the coder state is impossible, or the tile's numbers of zero signs are wrong";
     default: return "no number of this library";
     }
 }

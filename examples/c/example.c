@@ -54,20 +54,33 @@ static void srl_stream(void)
 struct tile {
     int16_t coefficients[12288];
     int8_t sign[12288];
+    uint16_t zero_signs[30];
     uint8_t prog_quant[30];
     uint8_t base_quant[30];
     uint16_t pass;
     uint8_t quality;
 };
 
+/* How many signs of the luma component are 0 outside LL3, the last of its ten bands. */
+static unsigned luma_zero_signs(const struct tile *tile)
+{
+    unsigned sum = 0;
+
+    for (size_t band = 0; band < 9; band++)
+        sum += tile->zero_signs[band];
+    return sum;
+}
+
 static void print_pixel(const char *name, const struct tile *tile)
 {
     static uint8_t pixels[64 * 64 * 4];
 
-    accepted("pixels", tarjimp_tile_reconstruct_to_rgba(tile->coefficients, tile->prog_quant, tile->base_quant,
-                                                        true, pixels, sizeof pixels));
-    printf("%s: pass %u, the first coefficient is %d with sign %d, the first pixel is %u %u %u\n", name, tile->pass,
-           tile->coefficients[0], tile->sign[0], pixels[0], pixels[1], pixels[2]);
+    accepted("pixels", tarjimp_tile_reconstruct_to_rgba(tile->coefficients, tile->sign, tile->zero_signs,
+                                                        tile->prog_quant, tile->base_quant, true, pixels,
+                                                        sizeof pixels));
+    printf("%s: pass %u, %u zero signs of luma, the first coefficient is %d with sign %d, the first pixel is %u %u %u\n",
+           name, tile->pass, luma_zero_signs(tile), tile->coefficients[0], tile->sign[0], pixels[0], pixels[1],
+           pixels[2]);
 }
 
 /* Reads a pass over the luma component; the other two keep their positions, and need no streams. */
@@ -76,9 +89,10 @@ static void upgrade(const char *name, struct tile *tile, const uint8_t rows[30],
 {
     uint32_t missing[2];
 
-    accepted("upgrade", tarjimp_tile_decode_upgrade(tile->coefficients, tile->sign, tile->prog_quant, tile->base_quant,
-                                                    true, &tile->pass, &tile->quality, rows, 100, srl, srl_len, raw,
-                                                    raw_len, NULL, 0, NULL, 0, NULL, 0, NULL, 0, missing));
+    accepted("upgrade", tarjimp_tile_decode_upgrade(tile->coefficients, tile->sign, tile->zero_signs, tile->prog_quant,
+                                                    tile->base_quant, true, &tile->pass, &tile->quality, rows, 100,
+                                                    srl, srl_len, raw, raw_len, NULL, 0, NULL, 0, NULL, 0, NULL, 0,
+                                                    missing));
     print_pixel(name, tile);
     printf("bits missing: %" PRIu32 " of SRL, %" PRIu32 " raw\n", missing[0], missing[1]);
 }
@@ -100,6 +114,7 @@ static void sharpen(void)
     memset(rows, 5, sizeof rows);
     memset(rows, 0, 10);
     tile.pass = 1;
+    tarjimp_tile_zero_signs(tile.sign, true, tile.zero_signs);
     cut = tile;
     print_pixel("before", &tile);
 
@@ -116,17 +131,19 @@ static void print_refusal(const char *what, uint8_t number)
     printf("%s: %u, %s\n", what, number, tarjimp_message(number));
 }
 
-/* Each number once. No call alters what it is lent. */
+/* Each number. No call alters what it is lent. */
 static void refusals(void)
 {
     static int16_t component[4096];
     static int16_t all[12288];
+    static int8_t sign[12288];
     static uint8_t pixels[64 * 64 * 4];
     static const int16_t values[2] = { 0, 4 };
     static int16_t zeros[4097];
     const uint8_t six[10] = { 6, 6, 6, 6, 6, 6, 6, 6, 6, 6 };
     const uint8_t high[10] = { 6, 6, 6, 6, 16, 6, 6, 6, 6, 6 };
     const uint8_t rows[30] = { 0 };
+    uint16_t zero_signs[30];
     uint64_t writer[4] = TARJIMP_SRL_ENCODE_START;
     uint64_t impossible[5] = { 0, 0, 300, 0, 0 };
     uint64_t missing;
@@ -136,13 +153,16 @@ static void refusals(void)
     print_refusal("4095 coefficients", tarjimp_dequantize_component(component, 4095, six, true));
     print_refusal("no coefficients at NULL", tarjimp_dequantize_component(NULL, 0, six, true));
     print_refusal("a quantizer of 16", tarjimp_dequantize_component(component, 4096, high, true));
+    tarjimp_tile_zero_signs(sign, false, zero_signs);
     print_refusal("pixels in the standard layout",
-                  tarjimp_tile_reconstruct_to_rgba(all, rows, rows, false, pixels, sizeof pixels));
+                  tarjimp_tile_reconstruct_to_rgba(all, sign, zero_signs, rows, rows, false, pixels, sizeof pixels));
     print_refusal("width 16", tarjimp_srl_encode(values, 2, writer, out, sizeof out, 16, &n));
     print_refusal("4 at width 2", tarjimp_srl_encode(values, 2, writer, out, sizeof out, 2, &n));
     print_refusal("4097 zeros", tarjimp_srl_encode(zeros, 4097, writer, out, sizeof out, 1, &n));
     print_refusal("no room for the end", tarjimp_srl_finish(writer, out, 0, &n));
     print_refusal("kp 300", tarjimp_srl_decode(out, 0, impossible, component, 4096, 1, 1, &missing));
+    print_refusal("numbers of zero signs of the other layout",
+                  tarjimp_tile_reconstruct_to_rgba(all, sign, zero_signs, rows, rows, true, pixels, sizeof pixels));
     printf("after them: kp %" PRIu64 ", pending zeros %" PRIu64 ", %zu bytes written, %" PRIu64 " bits missing\n",
            writer[0], writer[1], n, missing);
 }

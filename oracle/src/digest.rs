@@ -18,7 +18,10 @@ pub fn with_values(digest: u64, values: impl IntoIterator<Item = i16>) -> u64 {
 
 /// A digest with bytes more.
 pub fn with_bytes(digest: u64, bytes: &[u8]) -> u64 {
-    bytes
-        .iter()
-        .fold(digest, |digest, &byte| mixed(digest, u64::from(byte)))
+    with_words(digest, bytes.iter().map(|&byte| byte.into()))
+}
+
+/// A digest with words more.
+pub fn with_words(digest: u64, words: impl IntoIterator<Item = u64>) -> u64 {
+    words.into_iter().fold(digest, mixed)
 }

@@ -322,6 +322,7 @@ pub fn colours(random: &mut Random, notes: &mut Notes) {
 fn note_tile(notes: &mut Notes, tile: &TileState) {
     notes.note("coefficients", tile.coefficients);
     notes.note("signs", tile.sign);
+    notes.note("zero signs", tile.zero_signs());
     notes.note("positions", tile.prog_quant);
     notes.note("quantizers", (tile.quant_idx, tile.base_quant));
     notes.note("pass", (tile.pass, tile.is_difference, tile.quality));
@@ -345,6 +346,7 @@ pub fn tiles_upgraded(random: &mut Random, notes: &mut Notes) {
     tile.pass = random.pick(&[1, 2, 65534, 65535]);
     tile.is_difference = random.one_in(2);
     tile.use_reduce_extrapolate = use_reduce_extrapolate;
+    tile.count_zero_signs();
 
     let written = random.one_in(2);
     for _ in 0..random.within(0..=4) {
@@ -427,6 +429,7 @@ pub fn short_slices(random: &mut Random, notes: &mut Notes) {
     });
     let mut tile = TileState::new();
     tile.use_reduce_extrapolate = true;
+    tile.count_zero_signs();
     let mut pixels = vec![1; random.within(0..=64 * 64 * TILE_BYTES_PER_PIXEL - 1)];
     notes.no_answer("reconstruct_to_rgba", "SliceTooShort", || {
         tile.reconstruct_to_rgba(&mut pixels)

@@ -1,6 +1,6 @@
 //! `calls.rs` is built twice, with the items of the crate `tarjimp` and with those of the source, which
-//! `oracle` builds unchanged. Only the `use` lines differ. Both run with the same random numbers and must
-//! note the same.
+//! `oracle` builds unchanged. Only the `use` lines differ, and that the source's tile has no numbers of zero
+//! signs. Both run with the same random numbers and must note the same.
 
 #![cfg(test)]
 
@@ -28,12 +28,27 @@ mod port {
 mod source {
     use oracle::codecs::rfx::progressive::ComponentCodecQuant;
     use oracle::dwt_extrapolate::{self, BandInfo, band_layout};
+    use oracle::kinds::progressive::zero_signs;
     use oracle::progressive::reach::{dequantize_component_ccq, ycbcr_to_rgb};
     use oracle::progressive::{
         COEFFICIENTS_PER_COMPONENT, NUM_BANDS, SIGN_NEGATIVE, SIGN_POSITIVE, SIGN_ZERO,
         TILE_BYTES_PER_PIXEL, TILE_DIM, TileState, decode_upgrade_pass, encode_upgrade_pass,
     };
     use oracle::srl::{SrlDecoder, SrlEncoder, SrlError, decode_srl, encode_srl};
+
+    /// The numbers of zero signs, which the source's tile does not keep: the oracle counts them.
+    trait ZeroSigns {
+        fn zero_signs(&self) -> zero_signs::ZeroSigns;
+        fn count_zero_signs(&mut self);
+    }
+
+    impl ZeroSigns for TileState {
+        fn zero_signs(&self) -> zero_signs::ZeroSigns {
+            zero_signs::of(self)
+        }
+
+        fn count_zero_signs(&mut self) {}
+    }
 
     include!("calls.rs");
 }

@@ -28,7 +28,9 @@ pub enum Error {
     ZeroRunTooLong,
     /// 7: the answer exceeds an output slice. No call of this crate gives it: their outputs grow.
     OutputTooShort,
-    /// 8: the state of a coder is impossible. No call of this crate gives it: no such state can be made.
+    /// 8: a tile's numbers of zero signs are not those of its signs: `sign` or `use_reduce_extrapolate` were set, and
+    /// [`count_zero_signs`](crate::progressive::TileState::count_zero_signs) was not called. The C functions give it for
+    /// an impossible state of a coder too; here no such state can be made.
     ImpossibleState,
 }
 
@@ -73,7 +75,9 @@ impl fmt::Display for Error {
             ),
             Self::ZeroRunTooLong => f.write_str("more than 4096 zeros are pending"),
             Self::OutputTooShort => f.write_str("the answer does not fit the output slice"),
-            Self::ImpossibleState => f.write_str("the coder state is impossible"),
+            Self::ImpossibleState => f.write_str(
+                "the coder state is impossible, or the tile's numbers of zero signs are wrong",
+            ),
         }
     }
 }

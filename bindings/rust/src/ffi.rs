@@ -13,6 +13,9 @@ pub type Coefficients = [[i16; COEFFICIENTS_PER_COMPONENT]; 3];
 /// The signs of a tile.
 pub type Signs = [[i8; COEFFICIENTS_PER_COMPONENT]; 3];
 
+/// How many signs of each band of each component are 0.
+pub type ZeroSigns = [[u16; 10]; 3];
+
 unsafe extern "C" {
     fn tarjimp_srl_decode(
         data: *const u8,
@@ -90,9 +93,12 @@ unsafe extern "C" {
 
     fn tarjimp_ycbcr_to_rgb(y: i16, cb: i16, cr: i16, rgb: *mut u8);
 
+    fn tarjimp_tile_zero_signs(sign: *const i8, use_reduce_extrapolate: bool, zero_signs: *mut u16);
+
     fn tarjimp_tile_decode_upgrade(
         coefficients: *mut i16,
         sign: *mut i8,
+        zero_signs: *mut u16,
         prog_quant: *mut u8,
         base_quant: *const u8,
         use_reduce_extrapolate: bool,
@@ -117,6 +123,8 @@ unsafe extern "C" {
 
     fn tarjimp_tile_reconstruct_to_rgba(
         coefficients: *const i16,
+        sign: *const i8,
+        zero_signs: *const u16,
         prog_quant: *const u8,
         base_quant: *const u8,
         use_reduce_extrapolate: bool,
@@ -276,10 +284,23 @@ pub fn ycbcr_to_rgb(y: i16, cb: i16, cr: i16, rgb: &mut [u8; 3]) {
     unsafe { tarjimp_ycbcr_to_rgb(y, cb, cr, rgb.as_mut_ptr()) }
 }
 
+pub fn tile_zero_signs(sign: &Signs, use_reduce_extrapolate: bool, zero_signs: &mut ZeroSigns) {
+    // SAFETY: signs are three times 4,096 that lie one after another, and `zero_signs` has the thirty numbers that the
+    // function writes.
+    unsafe {
+        tarjimp_tile_zero_signs(
+            sign.as_flattened().as_ptr(),
+            use_reduce_extrapolate,
+            zero_signs.as_flattened_mut().as_mut_ptr(),
+        )
+    }
+}
+
 /// The fields of a tile that an upgrade reads or sets.
 pub struct Tile<'a> {
     pub coefficients: &'a mut Coefficients,
     pub sign: &'a mut Signs,
+    pub zero_signs: &'a mut ZeroSigns,
     pub prog_quant: &'a mut [Row; 3],
     pub base_quant: &'a [Row; 3],
     pub use_reduce_extrapolate: bool,
@@ -295,13 +316,14 @@ pub fn tile_decode_upgrade(
     [y_raw, cb_raw, cr_raw]: [&[u8]; 3],
     missing: &mut [u32; 2],
 ) -> u8 {
-    // SAFETY: coefficients and signs are three times 4,096 that lie one after another, rows three times ten
-    // numbers, `pass` and `quality` one number each, `missing` two; the streams come with their lengths, and
-    // what is written through is borrowed by this call alone.
+    // SAFETY: coefficients and signs are three times 4,096 that lie one after another, rows and numbers of zero
+    // signs three times ten numbers, `pass` and `quality` one number each, `missing` two; the streams come with
+    // their lengths, and what is written through is borrowed by this call alone.
     unsafe {
         tarjimp_tile_decode_upgrade(
             tile.coefficients.as_flattened_mut().as_mut_ptr(),
             tile.sign.as_flattened_mut().as_mut_ptr(),
+            tile.zero_signs.as_flattened_mut().as_mut_ptr(),
             tile.prog_quant.as_flattened_mut().as_mut_ptr(),
             tile.base_quant.as_flattened().as_ptr(),
             tile.use_reduce_extrapolate,
@@ -328,16 +350,20 @@ pub fn tile_decode_upgrade(
 
 pub fn tile_reconstruct_to_rgba(
     coefficients: &Coefficients,
+    sign: &Signs,
+    zero_signs: &ZeroSigns,
     prog_quant: &[Row; 3],
     base_quant: &[Row; 3],
     use_reduce_extrapolate: bool,
     pixels: &mut [u8],
 ) -> u8 {
-    // SAFETY: coefficients are three times 4,096 that lie one after another, rows three times ten numbers,
-    // and `pixels` comes with its length and is borrowed by this call alone.
+    // SAFETY: coefficients and signs are three times 4,096 that lie one after another, rows and numbers of zero
+    // signs three times ten numbers, and `pixels` comes with its length and is borrowed by this call alone.
     unsafe {
         tarjimp_tile_reconstruct_to_rgba(
             coefficients.as_flattened().as_ptr(),
+            sign.as_flattened().as_ptr(),
+            zero_signs.as_flattened().as_ptr(),
             prog_quant.as_flattened().as_ptr(),
             base_quant.as_flattened().as_ptr(),
             use_reduce_extrapolate,

@@ -315,7 +315,12 @@ pub struct TileState {
     pub quality: u8,
     /// Whether the layout is reduce-extrapolate.
     pub use_reduce_extrapolate: bool,
+    /// How many signs of each band of each component are 0.
+    zero_signs: [[u16; NUM_BANDS]; 3],
 }
+
+/// The numbers of zero signs of a fresh tile: every sign is 0, and the layout is the standard one.
+const FRESH_ZERO_SIGNS: [u16; NUM_BANDS] = [1024, 1024, 1024, 256, 256, 256, 64, 64, 64, 64];
 
 impl TileState {
     /// The fresh tile: zeros, base quantizers 6, in the standard layout.
@@ -330,6 +335,7 @@ impl TileState {
             is_difference: false,
             quality: 0,
             use_reduce_extrapolate: false,
+            zero_signs: [FRESH_ZERO_SIGNS; 3],
         }
     }
 
@@ -360,7 +366,53 @@ impl TileState {
         tile.base_quant = base_quants;
         tile.pass = 1;
         tile.use_reduce_extrapolate = use_reduce_extrapolate;
+        tile.count_zero_signs();
         Ok(tile)
+    }
+
+    /// How many signs of each band are 0, a row for each component: how much of the tile is still undecided. LL3's
+    /// signs are counted too, though no pass looks at them. They are right after [`new`](Self::new),
+    /// [`load`](Self::load) and each pass.
+    ///
+    /// ```
+    /// use tarjimp::ComponentCodecQuant;
+    /// use tarjimp::progressive::TileState;
+    ///
+    /// let rows = |number| [ComponentCodecQuant::of_bands([number; 10]); 3];
+    /// let (coefficients, sign): ([&[i16]; 3], [&[i8]; 3]) = ([&[0; 4096]; 3], [&[0; 4096]; 3]);
+    /// let mut tile = TileState::load(coefficients, sign, rows(1), rows(6), true)?;
+    /// let all = [1023, 1023, 961, 272, 272, 256, 72, 72, 64, 81];
+    /// assert_eq!(tile.zero_signs(), &[all; 3]);
+    /// // The first coefficient of Y becomes 1.
+    /// tile.decode_upgrade([&[0x80], &[], &[]], [&[]; 3], rows(0), 100)?;
+    /// assert_eq!(tile.sign[0][0], 1);
+    /// assert_eq!(tile.zero_signs()[0][0], 1022);
+    /// # Ok::<(), tarjimp::Error>(())
+    /// ```
+    pub const fn zero_signs(&self) -> &[[u16; NUM_BANDS]; 3] {
+        &self.zero_signs
+    }
+
+    /// Counts the zero signs anew, after `sign` or `use_reduce_extrapolate` were set. Until then the calls refuse a
+    /// tile whose numbers are no longer right, with [`SrlError::ImpossibleState`].
+    ///
+    /// ```
+    /// use tarjimp::Error;
+    /// use tarjimp::progressive::TileState;
+    ///
+    /// let mut tile = TileState::new();
+    /// let mut pixels = [0; 16384];
+    /// tile.use_reduce_extrapolate = true;
+    /// assert_eq!(tile.reconstruct_to_rgba(&mut pixels), Err(Error::ImpossibleState));
+    /// tile.count_zero_signs();
+    /// assert_eq!(tile.reconstruct_to_rgba(&mut pixels), Ok(()));
+    /// ```
+    pub fn count_zero_signs(&mut self) {
+        ffi::tile_zero_signs(
+            &self.sign,
+            self.use_reduce_extrapolate,
+            &mut self.zero_signs,
+        );
     }
 
     /// Reads an upgrade pass over the tile, from its positions to `prog_quants`.
@@ -368,8 +420,9 @@ impl TileState {
     ///
     /// # Errors
     ///
-    /// [`SrlError::OutOfDomain`] if a position or quantizer is above 15, given or in the tile, which is as
-    /// it was then.
+    /// [`SrlError::ImpossibleState`] if the numbers of zero signs are not those of the signs (see
+    /// [`count_zero_signs`](Self::count_zero_signs)), [`SrlError::OutOfDomain`] if a position or quantizer is above
+    /// 15, given or in the tile. The tile is as it was then.
     pub fn decode_upgrade(
         &mut self,
         srl_data: [&[u8]; 3],
@@ -413,6 +466,7 @@ impl TileState {
             ffi::Tile {
                 coefficients: &mut self.coefficients,
                 sign: &mut self.sign,
+                zero_signs: &mut self.zero_signs,
                 prog_quant: &mut prog_quant,
                 base_quant: &self.base_quant.map(|quant| quant.bands()),
                 use_reduce_extrapolate: self.use_reduce_extrapolate,
@@ -429,6 +483,7 @@ impl TileState {
         match number {
             0 => Ok(MissingBits::of_numbers(missing)),
             2 => Err(SrlError::OutOfDomain),
+            8 => Err(SrlError::ImpossibleState),
             number => defect("tarjimp_tile_decode_upgrade", number),
         }
     }
@@ -438,12 +493,15 @@ impl TileState {
     ///
     /// # Errors
     ///
-    /// [`SrlError::SliceTooShort`] if `pixels` has fewer than 16,384 bytes, [`SrlError::OutOfDomain`] if a
-    /// position or quantizer of the tile is above 15, [`SrlError::StandardLayout`] if the tile is in the
-    /// standard layout, of which no pixels are made.
+    /// [`SrlError::ImpossibleState`] if the numbers of zero signs are not those of the signs (see
+    /// [`count_zero_signs`](Self::count_zero_signs)), [`SrlError::SliceTooShort`] if `pixels` has fewer than 16,384
+    /// bytes, [`SrlError::OutOfDomain`] if a position or quantizer of the tile is above 15,
+    /// [`SrlError::StandardLayout`] if the tile is in the standard layout, of which no pixels are made.
     pub fn reconstruct_to_rgba(&self, pixels: &mut [u8]) -> Result<(), SrlError> {
         let number = ffi::tile_reconstruct_to_rgba(
             &self.coefficients,
+            &self.sign,
+            &self.zero_signs,
             &self.prog_quant.map(|quant| quant.bands()),
             &self.base_quant.map(|quant| quant.bands()),
             self.use_reduce_extrapolate,
@@ -454,6 +512,7 @@ impl TileState {
             1 => Err(SrlError::SliceTooShort),
             2 => Err(SrlError::OutOfDomain),
             3 => Err(SrlError::StandardLayout),
+            8 => Err(SrlError::ImpossibleState),
             number => defect("tarjimp_tile_reconstruct_to_rgba", number),
         }
     }
@@ -669,9 +728,105 @@ mod tests {
             base_quant: [all(7); 3],
             pass: 1,
             use_reduce_extrapolate: true,
+            zero_signs: [[0; 10]; 3],
             ..TileState::default()
         };
         assert_eq!(tile, Ok(expected));
+    }
+
+    /// Counted place by place.
+    fn counted(tile: &TileState) -> [[u16; NUM_BANDS]; 3] {
+        let mut numbers = [[0; NUM_BANDS]; 3];
+        for (numbers, sign) in numbers.iter_mut().zip(&tile.sign) {
+            let mut place = 0;
+            for (index, band) in get_band_layout(tile.use_reduce_extrapolate)
+                .iter()
+                .enumerate()
+            {
+                for _ in 0..band.count() {
+                    numbers[index] += u16::from(sign[place] == 0);
+                    place += 1;
+                }
+            }
+        }
+        numbers
+    }
+
+    #[test]
+    fn zero_signs_are_right_after_new_load_and_upgrade() {
+        let fresh = TileState::new();
+        assert_eq!(fresh.zero_signs(), &counted(&fresh));
+        for use_reduce_extrapolate in LAYOUTS {
+            let coefficients: Vec<i16> = (0..4096).map(|place| place % 7 * 8).collect();
+            // Any sign but 0 counts as one that is known.
+            let sign: Vec<i8> = (0..4096)
+                .map(|place| [0, 1, 0, 5, -1, -128, 0][place % 7])
+                .collect();
+            let mut tile = TileState::load(
+                [&coefficients; 3].map(|list| &list[..]),
+                [&sign; 3].map(|list| &list[..]),
+                [all(3); 3],
+                [all(6); 3],
+                use_reduce_extrapolate,
+            )
+            .unwrap();
+            let loaded = *tile.zero_signs();
+            assert_eq!(loaded, counted(&tile));
+            let streams: [&[u8]; 3] = [&[0x35; 900], &[], &[0xC7; 200]];
+            tile.decode_upgrade(streams, streams, [all(1); 3], 9)
+                .unwrap();
+            assert_eq!(tile.zero_signs(), &counted(&tile));
+            let [before, after] =
+                [&loaded, tile.zero_signs()].map(|numbers| numbers.as_flattened());
+            assert!(
+                before
+                    .iter()
+                    .zip(after)
+                    .all(|(before, after)| before >= after)
+            );
+            assert_ne!(before, after);
+            // The signs of the bottom are counted, and no pass sets one.
+            assert!(
+                loaded
+                    .iter()
+                    .zip(tile.zero_signs())
+                    .all(|(a, b)| a[9] == b[9] && a[9] > 0)
+            );
+        }
+    }
+
+    #[test]
+    fn zero_signs_are_counted_anew_or_the_tile_is_refused() {
+        let mut tile = TileState::new();
+        let mut pixels = vec![1; 16384];
+        for k in 0..3 {
+            for (index, band) in get_band_layout(false).iter().enumerate() {
+                let place = band.offset + band.count() - 1;
+                tile.sign[k][place] = 5;
+                let before = tile.clone();
+                // 8 comes before 2, 1 and 3.
+                let refused = tile.decode_upgrade([&[]; 3], [&[]; 3], [all(16); 3], 9);
+                assert_eq!(refused, Err(SrlError::ImpossibleState));
+                for length in [16383, 16384] {
+                    let refused = tile.reconstruct_to_rgba(&mut pixels[..length]);
+                    assert_eq!(refused, Err(SrlError::ImpossibleState));
+                }
+                assert_eq!(tile, before);
+                tile.count_zero_signs();
+                assert_eq!(tile.zero_signs()[k][index], FRESH_ZERO_SIGNS[index] - 1);
+                assert_eq!(tile.zero_signs(), &counted(&tile));
+            }
+        }
+        assert!(pixels.iter().all(|&byte| byte == 1));
+        assert_eq!(
+            tile.decode_upgrade([&[]; 3], [&[]; 3], [all(0); 3], 9),
+            Ok(())
+        );
+        tile.use_reduce_extrapolate = true;
+        let refused = tile.reconstruct_to_rgba(&mut pixels);
+        assert_eq!(refused, Err(SrlError::ImpossibleState));
+        tile.count_zero_signs();
+        assert_eq!(tile.reconstruct_to_rgba(&mut pixels), Ok(()));
     }
 
     #[test]
@@ -740,6 +895,7 @@ mod tests {
         assert!(pixels.iter().all(|&byte| byte == 1));
         tile.prog_quant[2].ll3 = 15;
         tile.use_reduce_extrapolate = true;
+        tile.count_zero_signs();
         assert_eq!(tile.reconstruct_to_rgba(&mut pixels), Ok(()));
         assert_eq!(pixels, [128, 128, 128, 255].repeat(4096));
     }

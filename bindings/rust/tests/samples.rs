@@ -129,10 +129,9 @@ fn pictures() {
     (buffer[4015], buffer[3807]) = (-32768, 1);
     assert_eq!(dwt_extrapolate::decode(&mut buffer, &mut [0; 4096]), Ok(()));
     assert_eq!(buffer[0], 32767);
-    let tile = TileState {
-        use_reduce_extrapolate: true,
-        ..TileState::new()
-    };
+    let mut tile = TileState::new();
+    tile.use_reduce_extrapolate = true;
+    tile.count_zero_signs();
     let mut pixels = [0; 16384];
     assert_eq!(tile.reconstruct_to_rgba(&mut pixels), Ok(()));
     assert!(pixels.chunks(4).all(|pixel| pixel == [128, 128, 128, 255]));

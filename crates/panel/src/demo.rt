@@ -53,13 +53,13 @@ fn figures(
 ) -> report::Figures
     requires { ⌜ (length (now pixels) ≡ 16384) × (length (now reference) ≡ 16384) ⌝ }
 {
-    let signs = t.sign;
-    let rows = t.prog_quant;
+    let zero_signs = t.zero_signs;
+    let positions = t.prog_quant;
     report::Figures {
         bits,
         all_bits,
         missing,
-        undecided: measure::undecided_in_tile(&signs, rows),
+        undecided: measure::undecided(zero_signs, positions),
         stroke: measure::grey(pixels, drawing::MINUS_LEFT, drawing::MINUS_TOP),
         ground: measure::grey(pixels, drawing::MINUS_LEFT, drawing::MINUS_TOP - 12),
         difference: measure::largest_difference(pixels, reference) as u64,

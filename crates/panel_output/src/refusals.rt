@@ -14,7 +14,9 @@ fn meaning(refusal: u8) {
         5 => report::error(b"a magnitude is above the maximum of its width"),
         6 => report::error(b"more than 4096 zeros are pending"),
         7 => report::error(b"the answer does not fit the output slice"),
-        8 => report::error(b"the coder state is impossible"),
+        8 => report::error(
+            b"the coder state is impossible, or the tile's numbers of zero signs are wrong",
+        ),
         _ => report::error(b"a refusal that this program does not know"),
     }
 }

@@ -1,75 +1,38 @@
 // What the report says of a tile and of its pixels.
-use bands::span;
-ghost use mathlib.Core.Path.{_≡_};
-ghost use Prim.Native.Nat.{_+_, _≤_};
+ghost use Prim.Native.Nat.{_+_, _≤_, _<_};
 ghost use lib.ListN.{length};
 
 // ---- places of which nothing is known yet
 
-// The zero signs from `from` up to `to`.
-fn zero_signs(signs: &[i8], from: usize, to: usize) -> u64
-    requires { ⌜ (to ≤ length (now signs)) × (to ≤ 4096) ⌝ }
-    ensures { λ r. ⌜ r ≤ 4096 ⌝ }
+// The undecided places of a band, by its place among the thirty: its zero signs, if it lies above the bottom and has bits to come.
+fn undecided_in(zero_signs: [u16; 30], positions: [u8; 30], place: usize) -> u64
+    requires { ⌜ place < 30 ⌝ }
+    ensures { λ r. ⌜ r ≤ 65535 ⌝ }
 {
-    let mut n: u64 = 0;
-    let mut i = from;
-    while i < to {
-        n += one_if_zero(signs[i]);
-        i += 1;
-    }
-    n
-}
-
-fn one_if_zero(sign: i8) -> u64
-    ensures { λ r. ⌜ r ≤ 1 ⌝ }
-{
-    if fixed::is_zero_sign(sign) {
-        return 1;
-    }
-    0
-}
-
-// The undecided places of a band: a zero sign, and bits that have not arrived.
-fn undecided_in(signs: &[i8], b: usize, position: u8) -> u64
-    requires { ⌜ 4096 ≤ length (now signs) ⌝ }
-    ensures { λ r. ⌜ r ≤ 4096 ⌝ }
-{
-    if position == 0 {
+    if place % 10 == 9 {
         return 0;
     }
-    let at = span::band_span(true, b);
-    zero_signs(signs, at.from, at.to)
+    if positions[place] == 0 {
+        return 0;
+    }
+    wide_number(zero_signs[place])
 }
 
-// The undecided places of a component, outside its bottom band.
-fn undecided(signs: &[i8], positions: [u8; 10]) -> u64
-    requires { ⌜ 4096 ≤ length (now signs) ⌝ }
-    ensures { λ r. ⌜ r ≤ 36864 ⌝ }
+fn wide_number(number: u16) -> u64
+    ensures { λ r. ⌜ r ≤ 65535 ⌝ }
 {
+    number as u64
+}
+
+// The undecided places of a tile, by its numbers of zero signs and its positions.
+pub fn undecided(zero_signs: [u16; 30], positions: [u8; 30]) -> u64 {
     let mut n: u64 = 0;
-    let mut b: usize = 0;
-    while b < 9 {
-        n += undecided_in(signs, b, positions[b]);
-        b += 1;
+    let mut place: usize = 0;
+    while place < 30 {
+        n += undecided_in(zero_signs, positions, place);
+        place += 1;
     }
     n
-}
-
-// The undecided places of the component with a number.
-fn undecided_at(signs: &[i8], rows: [u8; 30], k: usize) -> u64
-    requires { ⌜ (k ≤ 2) × (length (now signs) ≡ 12288) ⌝ }
-    ensures { λ r. ⌜ r ≤ 36864 ⌝ }
-{
-    let from = bands::COEFFICIENTS_PER_COMPONENT * k;
-    let to = from + bands::COEFFICIENTS_PER_COMPONENT;
-    undecided(&signs[from..to], planes::row_at(rows, 10 * k))
-}
-
-// The undecided places of a tile, by its signs and its rows of positions.
-pub fn undecided_in_tile(signs: &[i8], rows: [u8; 30]) -> u64
-    requires { ⌜ length (now signs) ≡ 12288 ⌝ }
-{
-    undecided_at(signs, rows, 0) + undecided_at(signs, rows, 1) + undecided_at(signs, rows, 2)
 }
 
 // ---- pixels of four bytes: red, green, blue and 255

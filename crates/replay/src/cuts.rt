@@ -12,9 +12,12 @@ ghost use lib.ListN.{length};
 
 // The loaded tile of zeros with positions 15.
 fn zeros(extrapolate: bool) -> tile::TileState {
+    let sign = [0i8; 12288];
+    let numbers = zero_signs::count(&sign, extrapolate);
     tile::TileState {
         coefficients: [0; 12288],
-        sign: [0; 12288],
+        sign,
+        zero_signs: numbers,
         prog_quant: [15; 30],
         quant_idx: [0; 3],
         base_quant: [6; 30],

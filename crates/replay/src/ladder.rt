@@ -84,18 +84,18 @@ fn step(c: &[u8], at: usize, i: usize, t: tile::TileState) -> Stepped
 // Whether the port agrees with a case.
 pub fn agrees(c: &[u8]) -> bool {
     let steps = number::u8_at(c, 81) as usize;
-    if c.len() != 91 + 21 * steps {
+    if c.len() != 94 + 21 * steps {
         return false;
     }
     let begun = tiles::start(c);
     let answer = begun.answer;
     let mut t = begun.tile;
-    if !tiles::same_answer(c, 82, answer, t) {
+    if !tiles::same_answer(c, 85, answer, t) {
         return false;
     }
     let mut i: usize = 0;
     while i < steps {
-        let done = step(c, 91 + 21 * i, i, t);
+        let done = step(c, 94 + 21 * i, i, t);
         if !done.same {
             return false;
         }

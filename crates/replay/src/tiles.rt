@@ -5,7 +5,7 @@ use replay_input::digests;
 use replay_input::number;
 use replay_input::outputs;
 use replay_passes::upgrade;
-ghost use Prim.Native.Nat.{_≤_};
+ghost use Prim.Native.Nat.{_≤_, _<_};
 ghost use lib.ListN.{length};
 
 // The three rows at a place.
@@ -111,14 +111,39 @@ fn loaded(
     )
 }
 
+// Thirty numbers, so much more at one place, modulo 65,536.
+fn with_more(numbers: [u16; 30], place: usize, by: u16) -> [u16; 30]
+    requires { ⌜ place < 30 ⌝ }
+{
+    let mut changed = numbers;
+    changed[place] = std::num::wrapping_add_u16(numbers[place], by);
+    changed
+}
+
+// The numbers of zero signs that the case's tile has: the right ones, one of them wrong, or those of the other layout.
+fn zero_signs_of(c: &[u8], sign: &[i8; 12288]) -> [u16; 30] {
+    let extrapolate = number::flag_at(c, 79);
+    let wrong = number::u8_at(c, 82) as usize;
+    if wrong > 30 {
+        return zero_signs::count(sign, !extrapolate);
+    }
+    let right = zero_signs::count(sign, extrapolate);
+    if wrong == 0 {
+        return right;
+    }
+    with_more(right, wrong - 1, number::u16_at(c, 83))
+}
+
 // The tile with all fields of the case, whatever they are.
 fn built(c: &[u8]) -> tile::TileState {
     let start = loaded(c, [4096; 6], [[0; 10]; 3], [[0; 10]; 3]).tile;
     let coefficients = start.coefficients;
     let sign = start.sign;
+    let numbers = zero_signs_of(c, &sign);
     tile::TileState {
         coefficients,
         sign,
+        zero_signs: numbers,
         prog_quant: thirty_at(c, 12),
         quant_idx: [
             number::u8_at(c, 42),
@@ -156,7 +181,7 @@ fn with_flag(digest: u64, flag: bool) -> u64 {
     digests::mixed(digest, 0)
 }
 
-// A digest with what a tile has beside its coefficients and signs.
+// A digest with what a tile has beside its coefficients, signs and numbers of zero signs.
 fn with_fields(digest: u64, t: tile::TileState) -> u64 {
     let positions = t.prog_quant;
     let a = digests::with_bytes(digest, &positions);
@@ -175,7 +200,9 @@ pub fn digest(t: tile::TileState) -> u64 {
     let coefficients = t.coefficients;
     let d = digests::with_values(0, &coefficients, 12288);
     let sign = t.sign;
-    with_fields(digests::with_signs(d, &sign), t)
+    let e = digests::with_signs(d, &sign);
+    let numbers = t.zero_signs;
+    with_fields(digests::with_numbers(e, &numbers), t)
 }
 
 // Whether an answer and the tile are those at a place.
@@ -219,13 +246,13 @@ fn paint(c: &[u8], t: tile::TileState, pixels: &mut [u8]) -> u8 {
 
 // Kind 45: whether the port agrees with a case.
 pub fn pixels_agrees(c: &[u8]) -> bool {
-    if c.len() != 91 {
+    if c.len() != 94 {
         return false;
     }
     let mut pixels = [0u8; 16640];
     outputs::fill(&mut pixels);
-    if paint(c, built(c), &mut pixels) != number::u8_at(c, 82) {
+    if paint(c, built(c), &mut pixels) != number::u8_at(c, 85) {
         return false;
     }
-    digests::with_bytes(0, &pixels) == number::u64_at(c, 83)
+    digests::with_bytes(0, &pixels) == number::u64_at(c, 86)
 }

@@ -54,3 +54,19 @@ pub fn with_bytes(digest: u64, bytes: &[u8]) -> u64 {
     }
     d
 }
+
+// A digest with one number more.
+fn with_number(digest: u64, number: u16) -> u64 {
+    mixed(digest, number as u64)
+}
+
+// A digest with numbers more.
+pub fn with_numbers(digest: u64, numbers: &[u16]) -> u64 {
+    let mut d = digest;
+    let mut i: usize = 0;
+    while i < numbers.len() {
+        d = with_number(d, numbers[i]);
+        i += 1;
+    }
+    d
+}

@@ -114,9 +114,8 @@ fn cut(target: &Component, position: u8) -> Component {
 fn show(tile: &TileState) -> Result<(), Error> {
     let mut pixels = [0; 64 * 64 * 4];
     tile.reconstruct_to_rgba(&mut pixels)?;
-    let bottom = band_layout()[9].offset;
-    let undecided = tile.sign[0][..bottom].iter().filter(|&&sign| sign == 0);
-    let undecided = undecided.count();
+    // The bottom band, which is the last one, is sent without signs.
+    let undecided: u16 = tile.zero_signs()[0][..9].iter().sum();
     let down = (0..64).step_by(6).map(|y| pixels[4 * (64 * y + 32)]);
     let down: Vec<String> = down.map(|red| format!("{red:>3}")).collect();
     println!(

@@ -3,6 +3,7 @@
 
 use oracle::codecs::rfx::progressive::ComponentCodecQuant;
 use oracle::kinds::missing;
+use oracle::kinds::progressive::zero_signs::{self, ZeroSigns};
 use oracle::kinds::srl::decode::START;
 use oracle::port::Row;
 use oracle::progressive::{self, COEFFICIENTS_PER_COMPONENT, TileState};
@@ -57,16 +58,18 @@ pub struct Input {
     pub raw: Vec<u8>,
 }
 
-/// A tile in the form of the text, whose coefficients lie one after another, as the port takes them; and its base
-/// quantizers in band order.
+/// A tile in the form of the text, whose coefficients and signs lie one after another, as the port takes them; its
+/// numbers of zero signs, which the text does not have; and its base quantizers in band order.
 pub struct Tile {
     pub state: TileState,
+    pub zero_signs: ZeroSigns,
     pub base_quant: [Row; 3],
 }
 
-/// A tile before a pass, and the streams of each component.
+/// A tile before a pass, with its numbers of zero signs, and the streams of each component.
 pub struct Upgrade {
     pub before: TileState,
+    pub zero_signs: ZeroSigns,
     /// The positions of all components before the pass and after it.
     pub prev: Row,
     pub curr: Row,
@@ -79,12 +82,14 @@ pub struct Upgrade {
 impl Upgrade {
     /// A tile of zeros, and streams of no bytes.
     fn of_nothing(prev: Row, curr: Row, missing: [u32; 2]) -> Self {
+        let before = TileState {
+            prog_quant: [ComponentCodecQuant::of_bands(prev); 3],
+            use_reduce_extrapolate: USE_REDUCE_EXTRAPOLATE,
+            ..TileState::new()
+        };
         Self {
-            before: TileState {
-                prog_quant: [ComponentCodecQuant::of_bands(prev); 3],
-                use_reduce_extrapolate: USE_REDUCE_EXTRAPOLATE,
-                ..TileState::new()
-            },
+            zero_signs: zero_signs::of(&before),
+            before,
             prev,
             curr,
             srl: Default::default(),
@@ -115,6 +120,7 @@ pub fn upgrades(sort: Sort) -> Vec<Upgrade> {
             upgrade.before.sign[k].copy_from_slice(&input.sign);
             (upgrade.srl[k], upgrade.raw[k]) = (input.srl, input.raw);
         }
+        upgrade.zero_signs = zero_signs::of(&upgrade.before);
         upgrades.push(upgrade);
     }
     upgrades
@@ -201,15 +207,18 @@ pub fn tiles(sort: Sort, quant: Row) -> Vec<Tile> {
 }
 
 fn tile(random: &mut Random, sort: Sort, quant: Row) -> Tile {
+    let coefficients = [[(); COEFFICIENTS_PER_COMPONENT]; 3]
+        .map(|component| component.map(|()| coefficient(random, sort)));
     let state = TileState {
-        coefficients: [[(); COEFFICIENTS_PER_COMPONENT]; 3]
-            .map(|component| component.map(|()| coefficient(random, sort))),
+        coefficients,
+        sign: coefficients.map(|component| component.map(|value| value.signum() as i8)),
         prog_quant: [ComponentCodecQuant::of_bands(CURR); 3],
         base_quant: [ComponentCodecQuant::of_bands(quant); 3],
         use_reduce_extrapolate: USE_REDUCE_EXTRAPOLATE,
         ..TileState::new()
     };
     Tile {
+        zero_signs: zero_signs::of(&state),
         state,
         base_quant: [quant; 3],
     }

@@ -9,6 +9,7 @@ use std::time::Instant;
 
 use oracle::codecs::rfx::progressive::ComponentCodecQuant;
 use oracle::dwt_extrapolate;
+use oracle::kinds::progressive::zero_signs;
 use oracle::port;
 use oracle::progressive::{self, COEFFICIENTS_PER_COMPONENT, TileState, reach};
 
@@ -40,6 +41,8 @@ struct Work {
     pixels: Vec<u8>,
     values: Vec<i16>,
     tile: Box<TileState>,
+    /// The tile's numbers of zero signs, which the port alone has.
+    zero_signs: port::ZeroSigns,
 }
 
 impl Work {
@@ -54,11 +57,12 @@ impl Work {
             pixels: vec![0; PIXELS],
             values: Vec::new(),
             tile: Box::default(),
+            zero_signs: zero_signs::of(&TileState::new()),
         }
     }
 
-    /// Whether a call of the other side left the same.
-    fn is_as(&self, other: &Self) -> bool {
+    /// Whether a call of the port left the same, and the right numbers of zero signs.
+    fn is_as(&self, port: &Self) -> bool {
         let lists = |work: &Self| {
             let [srl, raw] = work.written;
             let streams = [&work.srl[..srl], &work.raw[..raw], &work.pixels].map(<[u8]>::to_vec);
@@ -75,7 +79,8 @@ impl Work {
                 tile.quality,
             )
         };
-        lists(self) == lists(other) && tile(self) == tile(other)
+        let numbers = zero_signs::of(&port.tile);
+        lists(self) == lists(port) && tile(self) == tile(port) && port.zero_signs == numbers
     }
 }
 
@@ -361,6 +366,8 @@ fn rust_reconstruct(tile: &Tile, work: &mut Work) {
 fn port_reconstruct(tile: &Tile, work: &mut Work) {
     let number = port::tile_reconstruct_to_rgba(
         &tile.state.coefficients,
+        &tile.state.sign,
+        &tile.zero_signs,
         &[CURR; 3],
         &tile.base_quant,
         USE_REDUCE_EXTRAPOLATE,
@@ -394,6 +401,7 @@ fn rust_upgrade(upgrade: &Upgrade, work: &mut Work) {
 
 fn port_upgrade(upgrade: &Upgrade, work: &mut Work) {
     refresh_tile(upgrade, work);
+    work.zero_signs = upgrade.zero_signs;
     let tile = &mut *work.tile;
     let mut prog_quant = [upgrade.prev; 3];
     let mut missing = [u32::MAX; 2];
@@ -401,6 +409,7 @@ fn port_upgrade(upgrade: &Upgrade, work: &mut Work) {
         port::Tile {
             coefficients: &mut tile.coefficients,
             sign: &mut tile.sign,
+            zero_signs: &mut work.zero_signs,
             prog_quant: &mut prog_quant,
             base_quant: &[[6; 10]; 3],
             use_reduce_extrapolate: USE_REDUCE_EXTRAPOLATE,

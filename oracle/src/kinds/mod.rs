@@ -90,9 +90,10 @@ pub fn is_wrong(kind: u8) -> bool {
     [wrong::WRONG_ANSWER.number, wrong::WRONG_CASE].contains(&kind)
 }
 
-/// The port's refusal of an output that is too short. The text has nothing like it: README.md has
-/// the rule.
+/// The port's refusals of an output that is too short, and of a state that cannot be: of a coder, or of a
+/// tile whose numbers of zero signs are wrong. The text has nothing like them: README.md has the rule.
 const NO_ROOM: u8 = 7;
+const IMPOSSIBLE_STATE: u8 = 8;
 
 /// Records the cases of every kind.
 pub fn record_all(recording: &mut Recording<'_>) -> io::Result<()> {

@@ -10,10 +10,11 @@ pub mod ladder;
 mod load;
 pub mod pixels;
 pub mod tile;
+pub mod zero_signs;
 
 use std::io;
 
-use super::{NO_ROOM, record_kind, short};
+use super::{IMPOSSIBLE_STATE, NO_ROOM, record_kind, short};
 use crate::record::{Case, Recording};
 use component::{Before, Given, Row, Shape, Signs};
 pub use component::{PLACES, next, with_sign};

@@ -6,7 +6,7 @@ pub mod exhaustive;
 
 use std::io;
 
-use super::{NO_ROOM, record_kind, short};
+use super::{IMPOSSIBLE_STATE, NO_ROOM, record_kind, short};
 use crate::record::{Case, Recording};
 use oracle::random::Random;
 
@@ -18,9 +18,6 @@ const MAX_KP: u8 = 80;
 
 /// Widths that no value can have.
 const BAD_WIDTHS: [u8; 5] = [0, 16, 17, 128, 255];
-
-/// A refusal that the port adds to those of the text: README.md has the rule.
-const IMPOSSIBLE_STATE: u8 = 8;
 
 /// Records the cases of these kinds; the answer is cases that stand for all sorts of answers, each
 /// with its kind.

@@ -1,35 +1,37 @@
-//! `tarjimp_tile_decode_upgrade` and `tarjimp_tile_reconstruct_to_rgba`.
+//! `tarjimp_tile_decode_upgrade`, `tarjimp_tile_reconstruct_to_rgba` and `tarjimp_tile_zero_signs`.
 
 use oracle::codecs::rfx::progressive::ComponentCodecQuant;
 use oracle::digest::with_bytes;
 use oracle::kinds::missing::{self, Missing};
 use oracle::kinds::progressive::ladder::{From, Step, Upgrade, answer_fields};
 use oracle::kinds::progressive::pixels;
-use oracle::kinds::progressive::tile::{self, Start};
+use oracle::kinds::progressive::tile::{self, Start, Tile};
+use oracle::kinds::progressive::zero_signs::{self, Wrong};
 use oracle::port;
-use oracle::progressive::TileState;
 use oracle::record::Fields;
 
 use super::{Agrees, same, same_answer, same_places};
 
 /// Has the port upgrade a tile: the refusal, or 0, and the bits that were missing.
-fn upgrade(tile: &mut TileState, given: &Upgrade) -> (u8, Missing) {
+fn upgrade(tile: &mut Tile, given: &Upgrade) -> (u8, Missing) {
+    let Tile { state, zero_signs } = tile;
     let tile::Fields {
         mut prog_quant,
         base_quant,
         use_reduce_extrapolate,
         ..
-    } = tile::Fields::of(tile);
+    } = tile::Fields::of(state);
     let mut missing = [u32::MAX; 2];
     let number = port::tile_decode_upgrade(
         port::Tile {
-            coefficients: &mut tile.coefficients,
-            sign: &mut tile.sign,
+            coefficients: &mut state.coefficients,
+            sign: &mut state.sign,
+            zero_signs,
             prog_quant: &mut prog_quant,
             base_quant: &base_quant,
             use_reduce_extrapolate,
-            pass: &mut tile.pass,
-            quality: &mut tile.quality,
+            pass: &mut state.pass,
+            quality: &mut state.quality,
         },
         &given.rows,
         given.quality,
@@ -37,25 +39,41 @@ fn upgrade(tile: &mut TileState, given: &Upgrade) -> (u8, Missing) {
         given.raw.each_ref().map(Vec::as_slice),
         &mut missing,
     );
-    tile.prog_quant = prog_quant.map(ComponentCodecQuant::of_bands);
+    state.prog_quant = prog_quant.map(ComponentCodecQuant::of_bands);
     (number, missing)
 }
 
-fn same_tile(port: &TileState, text: &TileState) -> Agrees {
+fn same_tile(port: &Tile, text: &Tile) -> Agrees {
+    let [port_numbers, text_numbers] = [port, text].map(|tile| tile.zero_signs.as_flattened());
+    let [port, text] = [port, text].map(|tile| &tile.state);
     same_places(
         "coefficients",
         port.coefficients.as_flattened(),
         text.coefficients.as_flattened(),
     )?;
     same_places("signs", port.sign.as_flattened(), text.sign.as_flattened())?;
+    same_places("zero signs", port_numbers, text_numbers)?;
     let [port, text] = [port, text].map(|tile| tile::Fields::of(tile).bytes());
     same_places("other fields", &port, &text)
 }
 
+/// Whether the port counts the zero signs of a tile as the oracle does.
+fn same_count(tile: &Tile) -> Agrees {
+    let state = &tile.state;
+    let mut numbers = [[u16::MAX; 10]; 3];
+    port::tile_zero_signs(&state.sign, state.use_reduce_extrapolate, &mut numbers);
+    let text = zero_signs::of(state);
+    same_places(
+        "count of zero signs",
+        numbers.as_flattened(),
+        text.as_flattened(),
+    )
+}
+
 /// Has both upgrade a tile, and gives the refusal, or 0, and the bits that were missing.
 pub fn same_upgrade(
-    tile: &mut TileState,
-    text: &mut TileState,
+    tile: &mut Tile,
+    text: &mut Tile,
     given: &Upgrade,
 ) -> Result<(u8, Missing), String> {
     let (text_number, text_missing) = given.apply(text);
@@ -68,14 +86,16 @@ pub fn same_upgrade(
 
 /// A tile and upgrades one after another. No function makes or loads a tile: the text's is taken.
 pub fn upgrade_ladder(fields: &mut Fields<'_>) -> Agrees {
-    let start = Start::read(fields);
+    let mut start = Start::read(fields);
     let from = From::read(fields);
     let steps = fields.u8();
+    start.wrong = Wrong::read(fields);
     let (number, mut text) = from.tile(&start);
     let (_, mut tile) = from.tile(&start);
+    same_count(&tile)?;
     same_answer(fields, &answer_fields(number, &tile))?;
     for index in 0..usize::from(steps) {
-        let given = Step::read(fields).upgrade(&start, index, &text);
+        let given = Step::read(fields).upgrade(&start, index, &text.state);
         let (number, missing) = same_upgrade(&mut tile, &mut text, &given)
             .map_err(|what| format!("upgrade {index}, {what}"))?;
         same_answer(fields, &answer_fields(number, &tile))?;
@@ -86,13 +106,17 @@ pub fn upgrade_ladder(fields: &mut Fields<'_>) -> Agrees {
 
 /// The pixels of a tile, which stays as it is.
 pub fn tile_pixels(fields: &mut Fields<'_>) -> Agrees {
-    let start = Start::read(fields);
+    let mut start = Start::read(fields);
     let length = fields.short();
+    start.wrong = Wrong::read(fields);
     let (text_number, text) = pixels::pixels(&start, length);
     let tile = start.built();
+    same_count(&tile)?;
     let mut pixels = pixels::before();
     let number = port::tile_reconstruct_to_rgba(
-        &tile.coefficients,
+        &tile.state.coefficients,
+        &tile.state.sign,
+        &tile.zero_signs,
         &start.fields.prog_quant,
         &start.fields.base_quant,
         start.fields.use_reduce_extrapolate,

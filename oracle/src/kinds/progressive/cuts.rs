@@ -11,6 +11,7 @@ use oracle::srl::reach;
 
 use super::component::{self, Made, Row};
 use super::ladder::Upgrade;
+use super::tile::Tile;
 use super::{COMPONENT, GREATEST, LAYOUTS, decode, next, tile, typical, with_sign};
 use crate::digest::mixed;
 use crate::kinds::missing::Missing;
@@ -211,13 +212,13 @@ impl Given {
     }
 
     /// A loaded tile of zeros.
-    pub fn tile(&self) -> TileState {
-        TileState {
+    pub fn tile(&self) -> Tile {
+        Tile::of(TileState {
             prog_quant: [ComponentCodecQuant::of_bands(PREV); 3],
             pass: 1,
             use_reduce_extrapolate: self.use_reduce_extrapolate,
             ..TileState::new()
-        }
+        })
     }
 }
 

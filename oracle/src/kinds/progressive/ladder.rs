@@ -7,9 +7,11 @@ use oracle::progressive::TileState;
 use oracle::random::Random;
 
 use super::component::{Made, Row, next, shifted};
-use super::tile::{Fields, Start, bad_fields, digest, random_start, typical};
+use super::tile::{Fields, Start, Tile, bad_fields, digest, random_start, typical, wrong_numbers};
+use super::zero_signs::{self, Wrong};
 use super::{
-    Before, COMPONENT, GREATEST, LAYOUTS, Shape, Signs, encode, load, record_kind, refusal,
+    Before, COMPONENT, GREATEST, IMPOSSIBLE_STATE, LAYOUTS, Shape, Signs, encode, load,
+    record_kind, refusal,
 };
 use crate::kinds::missing::{self, Missing};
 use crate::record::{self, Case, Recording};
@@ -78,6 +80,7 @@ pub fn record_all(recording: &mut Recording<'_>) -> io::Result<Vec<(u8, Case)>> 
         short_streams(),
         empty(),
         cuts(),
+        right_and_wrong_numbers(),
     ];
     record_kind(
         recording,
@@ -94,23 +97,27 @@ fn case(start: Start, from: From, steps: &[Step]) -> Case {
     let mut case = Case::default();
     case.given(&start.bytes());
     case.given(&[from as u8, steps.len() as u8]);
+    case.given(&start.wrong.bytes());
     add_answer(&mut case, number, &tile);
+    let is_right = tile.is_right();
     for (index, step) in steps.iter().enumerate() {
         case.given(&step.bytes());
-        let upgrade = step.upgrade(&start, index, &tile);
+        let upgrade = step.upgrade(&start, index, &tile.state);
         let (number, missing) = upgrade.apply(&mut tile);
+        // No upgrade of a tile with right numbers has this refusal, and each of another tile.
+        assert_eq!(number == IMPOSSIBLE_STATE, !is_right);
         add_answer(&mut case, number, &tile);
         case.answer(&missing::fields(missing));
     }
     case
 }
 
-fn add_answer(case: &mut Case, number: u8, tile: &TileState) {
+fn add_answer(case: &mut Case, number: u8, tile: &Tile) {
     case.answer(&answer_fields(number, tile));
 }
 
 /// An answer as fields of a case.
-pub fn answer_fields(number: u8, tile: &TileState) -> Vec<u8> {
+pub fn answer_fields(number: u8, tile: &Tile) -> Vec<u8> {
     let mut fields = vec![number];
     fields.extend(digest(tile).to_le_bytes());
     fields
@@ -123,9 +130,9 @@ impl From {
     }
 
     /// The refusal, or 0, and the tile that a ladder begins with.
-    pub fn tile(self, start: &Start) -> (u8, TileState) {
+    pub fn tile(self, start: &Start) -> (u8, Tile) {
         match self {
-            Self::New => (0, TileState::new()),
+            Self::New => (0, Tile::of(TileState::new())),
             Self::Loaded => load::load(start, [COMPONENT; 6]),
             Self::Built => (0, start.built()),
         }
@@ -143,25 +150,32 @@ pub struct Upgrade {
 impl Upgrade {
     /// Upgrades a tile: the refusal, or 0, and the bits that were missing. The text gives no refusal, and
     /// takes no number above 15 from the wire: it is asked only where there is none.
-    pub fn apply(&self, tile: &mut TileState) -> (u8, Missing) {
-        let Fields {
-            prog_quant,
-            base_quant,
-            ..
-        } = Fields::of(tile);
-        let number = refusal(&[], &[self.rows, prog_quant, base_quant].concat());
+    pub fn apply(&self, tile: &mut Tile) -> (u8, Missing) {
+        let number = self.refusal(tile);
         if number != 0 {
             return (number, [0; 2]);
         }
-        let missing = self.missing(tile);
-        tile.decode_upgrade(
-            self.srl.each_ref().map(Vec::as_slice),
-            self.raw.each_ref().map(Vec::as_slice),
-            self.rows.map(ComponentCodecQuant::of_bands),
-            self.quality,
-        )
-        .expect("a stream causes no refusal");
+        let missing = self.missing(&tile.state);
+        tile.state
+            .decode_upgrade(
+                self.srl.each_ref().map(Vec::as_slice),
+                self.raw.each_ref().map(Vec::as_slice),
+                self.rows.map(ComponentCodecQuant::of_bands),
+                self.quality,
+            )
+            .expect("a stream causes no refusal");
+        tile.zero_signs = zero_signs::of(&tile.state);
         (number, missing)
+    }
+
+    /// 8 comes before 2.
+    fn refusal(&self, tile: &Tile) -> u8 {
+        if !tile.is_right() {
+            return IMPOSSIBLE_STATE;
+        }
+        let fields = Fields::of(&tile.state);
+        let rows = [self.rows, fields.prog_quant, fields.base_quant];
+        refusal(&[], &rows.concat())
     }
 
     /// The bits that are missing in all three components.
@@ -338,6 +352,14 @@ fn models() -> Vec<Case> {
         ),
         case(typical(2), From::Loaded, &[down, bad(down, 17)]),
         case(typical(3), From::Built, &[any]),
+        case(
+            Start {
+                wrong: Wrong::At(29, 1),
+                ..typical(4)
+            },
+            From::Built,
+            &[bad(any, 5)],
+        ),
     ]
 }
 
@@ -510,6 +532,41 @@ fn cuts() -> Vec<Case> {
     cases
 }
 
+/// Right and wrong numbers of zero signs, in both layouts: a wrong one at each of the thirty places, first in an upgrade
+/// that would be accepted and then with a number above 15 given; with one in the tile; all of the other layout, which
+/// are right where no sign is 0; and right ones with signs of all sorts, also after a refusal.
+fn right_and_wrong_numbers() -> Vec<Case> {
+    let down = step(Rows::Down(3), Streams::Any);
+    let mut cases = Vec::new();
+    for use_reduce_extrapolate in LAYOUTS {
+        let mut start = typical(110);
+        start.fields.use_reduce_extrapolate = use_reduce_extrapolate;
+        for (place, wrong) in (0..30).zip(wrong_numbers(start)) {
+            cases.push(case(wrong, From::Built, &[down, bad(down, 29 - place)]));
+        }
+        let mut wrong = start;
+        wrong.wrong = Wrong::At(9, u16::MAX);
+        for fields in bad_fields(start.fields).into_iter().step_by(7) {
+            cases.push(case(Start { fields, ..wrong }, From::Built, &[down]));
+        }
+        for (before, signs) in [
+            (Before::Cut, Signs::Before),
+            (Before::Cut, Signs::Any),
+            (Before::Cut, Signs::Zero),
+            (Before::Cut, Signs::Later),
+            (Before::Extreme, Signs::Before),
+        ] {
+            start.shape.before = before;
+            start.shape.signs = signs;
+            let mut other = start;
+            other.wrong = Wrong::OtherLayout;
+            cases.push(case(other, From::Built, &[down]));
+            cases.push(case(start, From::Built, &[down, bad(down, 12), down]));
+        }
+    }
+    cases
+}
+
 fn random_case(random: &mut Random) -> Case {
     let mut start = random_start(random);
     let from = match random.below(8) {
@@ -519,6 +576,9 @@ fn random_case(random: &mut Random) -> Case {
     };
     if random.one_in(32) {
         start.fields = random.pick(&bad_fields(start.fields));
+    }
+    if matches!(from, From::Built) && random.one_in(6) {
+        start.wrong = Wrong::random(random);
     }
     let written = random.one_in(2);
     let mut steps: Vec<Step> = (0..random.within(1..=8))

@@ -5,7 +5,7 @@ use std::io;
 use oracle::progressive::TileState;
 use oracle::random::Random;
 
-use super::tile::{Start, bad_fields, digest, random_start, typical};
+use super::tile::{Start, Tile, bad_fields, digest, random_start, typical};
 use super::{COMPONENT, GREATEST, PLACES, record_kind, refusal, short};
 use crate::record::{Case, Recording};
 
@@ -37,11 +37,11 @@ fn case(start: Start, lengths: Lengths) -> Case {
 }
 
 /// The refusal, or 0, and the tile: a fresh one where it is refused.
-pub fn load(start: &Start, lengths: Lengths) -> (u8, TileState) {
+pub fn load(start: &Start, lengths: Lengths) -> (u8, Tile) {
     let rows = [start.fields.prog_quant, start.fields.base_quant].concat();
     match refusal(&lengths, &rows) {
         0 => (0, start.loaded()),
-        number => (number, TileState::new()),
+        number => (number, Tile::of(TileState::new())),
     }
 }
 

@@ -4,8 +4,12 @@ use std::io;
 
 use oracle::random::Random;
 
-use super::tile::{Start, bad_fields, random_start, typical};
-use super::{Before, COMPONENT, GREATEST, Shape, TOO_SHORT, record_kind, refusal, short};
+use super::tile::{Fields, Start, Tile, bad_fields, random_start, typical, wrong_numbers};
+use super::zero_signs::Wrong;
+use super::{
+    Before, COMPONENT, GREATEST, IMPOSSIBLE_STATE, LAYOUTS, Shape, Signs, TOO_SHORT, record_kind,
+    refusal, short,
+};
 use crate::digest::with_bytes;
 use crate::record::{Case, Recording};
 
@@ -28,6 +32,7 @@ pub fn record_all(recording: &mut Recording<'_>) -> io::Result<Vec<(u8, Case)>> 
         lengths(),
         bad_numbers(),
         several_refusals(),
+        right_and_wrong_numbers(),
     ];
     record_kind(
         recording,
@@ -44,6 +49,7 @@ fn case(start: Start, length: usize) -> Case {
     let mut case = Case::default();
     case.given(&start.bytes());
     case.given(&short(length));
+    case.given(&start.wrong.bytes());
     case.answer(&[number]);
     case.answer(&with_bytes(0, &pixels).to_le_bytes());
     case
@@ -53,9 +59,10 @@ fn case(start: Start, length: usize) -> Case {
 /// there is no refusal.
 pub fn pixels(start: &Start, length: usize) -> (u8, Vec<u8>) {
     let mut pixels = before();
-    let number = refusal_of(start, length);
+    let tile = start.built();
+    let number = refusal_of(&tile, length);
     if number == 0 {
-        start.built().reconstruct_to_rgba(&mut pixels[..length]);
+        tile.state.reconstruct_to_rgba(&mut pixels[..length]);
     }
     (number, pixels)
 }
@@ -65,9 +72,12 @@ pub fn before() -> Vec<u8> {
     (0..BYTES).map(|i| (i % 200) as u8 + 55).collect()
 }
 
-/// 1 comes before 2, and 2 before 3.
-fn refusal_of(start: &Start, length: usize) -> u8 {
-    let fields = start.fields;
+/// 8 comes before 1, 1 before 2, and 2 before 3.
+fn refusal_of(tile: &Tile, length: usize) -> u8 {
+    if !tile.is_right() {
+        return IMPOSSIBLE_STATE;
+    }
+    let fields = Fields::of(&tile.state);
     if length < PIXELS {
         return TOO_SHORT;
     }
@@ -98,6 +108,13 @@ fn models() -> Vec<Case> {
         case(plain(1), PIXELS - 1),
         case(bad, PIXELS),
         case(standard, PIXELS),
+        case(
+            Start {
+                wrong: Wrong::At(0, 1),
+                ..plain(5)
+            },
+            PIXELS,
+        ),
     ]
 }
 
@@ -204,6 +221,36 @@ fn several_refusals() -> Vec<Case> {
     cases
 }
 
+/// A wrong number of zero signs at each of the thirty places: with pixels, and beside each of the three refusals, which
+/// come after; numbers of the other layout, which are right where no sign is 0; and right ones with signs of all sorts.
+fn right_and_wrong_numbers() -> Vec<Case> {
+    let mut cases = Vec::new();
+    for use_reduce_extrapolate in LAYOUTS {
+        let mut start = plain(50);
+        start.fields.use_reduce_extrapolate = use_reduce_extrapolate;
+        for (length, quantizer) in [(PIXELS, 6), (PIXELS - 1, 6), (PIXELS, 16)] {
+            start.fields.base_quant[2][9] = quantizer;
+            let wrong = wrong_numbers(start).into_iter();
+            cases.extend(wrong.map(|wrong| case(wrong, length)));
+        }
+        start.fields.base_quant[2][9] = 6;
+        for (before, signs) in [
+            (Before::Cut, Signs::Before),
+            (Before::Cut, Signs::Any),
+            (Before::Cut, Signs::Zero),
+            (Before::Cut, Signs::Later),
+            (Before::Extreme, Signs::Before),
+        ] {
+            start.shape.before = before;
+            start.shape.signs = signs;
+            let mut other = start;
+            other.wrong = Wrong::OtherLayout;
+            cases.extend([start, other].map(|start| case(start, PIXELS)));
+        }
+    }
+    cases
+}
+
 /// Tiles of all sorts, half of them with sensible coefficients, most of them with pixels.
 fn random_case(random: &mut Random) -> Case {
     let mut start = random_start(random);
@@ -217,6 +264,9 @@ fn random_case(random: &mut Random) -> Case {
     }
     if random.one_in(16) {
         start.fields = random.pick(&bad_fields(start.fields));
+    }
+    if random.one_in(8) {
+        start.wrong = Wrong::random(random);
     }
     let length = match random.below(8) {
         0 => random.within(PIXELS..=BYTES),

@@ -6,11 +6,33 @@ use oracle::progressive::TileState;
 use oracle::random::Random;
 
 use super::component::{Made, Row};
+use super::zero_signs::{self, Wrong, ZeroSigns};
 use super::{Before, COMPONENT, GREATEST, Given, Shape, Signs, random_shape};
-use crate::digest::{mixed, with_bytes, with_values};
+use crate::digest::{mixed, with_bytes, with_values, with_words};
 use crate::record;
 
-/// What a tile has beside its coefficients and signs.
+/// A tile of the text, and the numbers of zero signs beside it, which the text does not have.
+pub struct Tile {
+    pub state: TileState,
+    pub zero_signs: ZeroSigns,
+}
+
+impl Tile {
+    /// A tile with the right numbers.
+    pub fn of(state: TileState) -> Self {
+        Self {
+            zero_signs: zero_signs::of(&state),
+            state,
+        }
+    }
+
+    /// Whether each number is that of the signs.
+    pub fn is_right(&self) -> bool {
+        self.zero_signs == zero_signs::of(&self.state)
+    }
+}
+
+/// What a tile has beside its coefficients, signs and numbers of zero signs.
 #[derive(Clone, Copy)]
 pub struct Fields {
     pub prog_quant: [Row; 3],
@@ -22,11 +44,13 @@ pub struct Fields {
     pub use_reduce_extrapolate: bool,
 }
 
-/// What a case of both kinds begins with.
+/// What a case of these kinds begins with, and which numbers of zero signs its tile has if it is handed in
+/// with all its fields. Cases of kinds 40 and 45 have that later.
 #[derive(Clone, Copy)]
 pub struct Start {
     pub shape: Shape,
     pub fields: Fields,
+    pub wrong: Wrong,
 }
 
 impl Start {
@@ -43,6 +67,7 @@ impl Start {
                 quality: fields.u8(),
                 use_reduce_extrapolate: fields.flag(),
             },
+            wrong: Wrong::No,
         }
     }
 
@@ -78,7 +103,16 @@ impl Start {
     }
 
     /// The tile with all of these fields.
-    pub fn built(&self) -> TileState {
+    pub fn built(&self) -> Tile {
+        let state = self.state();
+        Tile {
+            zero_signs: self.wrong.numbers(&state),
+            state,
+        }
+    }
+
+    /// The same in the form of the text.
+    pub fn state(&self) -> TileState {
         let Fields {
             prog_quant,
             quant_idx,
@@ -103,14 +137,14 @@ impl Start {
     }
 
     /// The tile that a loading call makes, by docs/SCOPE.md. The text has no such call.
-    pub fn loaded(&self) -> TileState {
-        TileState {
+    pub fn loaded(&self) -> Tile {
+        Tile::of(TileState {
             quant_idx: [0; 3],
             pass: 1,
             is_difference: false,
             quality: 0,
-            ..self.built()
-        }
+            ..self.state()
+        })
     }
 }
 
@@ -154,10 +188,17 @@ fn first<T: Copy>(places: &[T]) -> [T; COMPONENT] {
 }
 
 /// A whole tile as one number.
-pub fn digest(tile: &TileState) -> u64 {
-    let coefficients = with_values(0, tile.coefficients.iter().flatten().copied());
-    let signs = tile.sign.iter().flatten().map(|&sign| sign.into());
-    with_bytes(with_values(coefficients, signs), &Fields::of(tile).bytes())
+pub fn digest(tile: &Tile) -> u64 {
+    let state = &tile.state;
+    let coefficients = with_values(0, state.coefficients.iter().flatten().copied());
+    let signs = state.sign.iter().flatten().map(|&sign| sign.into());
+    let numbers = tile
+        .zero_signs
+        .iter()
+        .flatten()
+        .map(|&number| number.into());
+    let digest = with_words(with_values(coefficients, signs), numbers);
+    with_bytes(digest, &Fields::of(state).bytes())
 }
 
 /// A tile with about a fifth of the coefficients known, which fits its positions.
@@ -181,6 +222,7 @@ pub fn typical(seed: u64) -> Start {
             quality: 25,
             use_reduce_extrapolate: seed.is_multiple_of(2),
         },
+        wrong: Wrong::No,
     }
 }
 
@@ -205,6 +247,7 @@ pub fn random_start(random: &mut Random) -> Start {
             quality: random.word() as u8,
             use_reduce_extrapolate: random.one_in(2),
         },
+        wrong: Wrong::No,
     }
 }
 
@@ -222,4 +265,31 @@ pub fn bad_fields(fields: Fields) -> Vec<Fields> {
         }
     }
     bad
+}
+
+/// Tiles with a wrong number at each of the thirty places, and signs of all sorts. It is 1, 256 or 32768 more, 1 less,
+/// 0, the greatest, or that of the other layout; 1 more where that is the right one.
+pub fn wrong_numbers(start: Start) -> Vec<Start> {
+    let sorts = [Signs::Before, Signs::Any, Signs::Zero, Signs::Later];
+    (0..30)
+        .map(|place: u8| {
+            let index = usize::from(place);
+            let mut wrong = start;
+            wrong.shape.signs = sorts[index % sorts.len()];
+            let state = wrong.state();
+            let right = zero_signs::of(&state).as_flattened()[index];
+            let other = zero_signs::of_other_layout(&state).as_flattened()[index];
+            let differences = [
+                1,
+                u16::MAX,
+                256,
+                32768,
+                right.wrapping_neg(),
+                u16::MAX - right,
+                other.wrapping_sub(right),
+            ];
+            wrong.wrong = Wrong::At(place, differences[index % differences.len()].max(1));
+            wrong
+        })
+        .collect()
 }

@@ -5,10 +5,10 @@ use Rattle.panel_picture.proofs.measure.undecided.Statement.{statement}
 use Rattle.panel_picture.proofs.measure.undecided.Tie as tie
 
 abbrev Inv-loop : tie.InvT-loop
-Inv-loop signs positions n₀ b₀ n b = (b ≤ 9) × (n ≤ 4096 * b)
+Inv-loop zero_signs positions n₀ place₀ n place = (place ≤ 30) × (n ≤ 65535 * place)
 
 abbrev μ-loop : tie.MeasureT-loop
-μ-loop signs positions n₀ b₀ n b = 9 - b
+μ-loop zero_signs positions n₀ place₀ n place = 30 - place
 
 pub undecided-spec : {M : Type 1} → statement M
-undecided-spec = tie.close (tie.spec Inv-loop μ-loop (λ c. search needs) (λ c. search needs) (λ c κs. search needs) (λ c. search needs) (λ c. search needs) (λ c. search needs) (λ c. search needs) (λ c. search needs))
+undecided-spec = tie.close (tie.spec Inv-loop μ-loop (λ c. search needs) (λ c κs. search needs) (λ c. search needs) (λ c. search needs) (λ c. search needs) (λ c. search needs) (λ c. search needs))
