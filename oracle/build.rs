@@ -2,6 +2,7 @@
 //! module of its name, followed by one child module, `reach`, that opens its private functions.
 
 use std::path::{Path, PathBuf};
+use std::process::Command;
 use std::{env, fs, io};
 
 /// Names the folder that holds the source. A relative path counts from the repository's root.
@@ -54,8 +55,32 @@ fn link_port() {
     let folder = env::var("CARGO_MANIFEST_DIR").expect("cargo names the package's folder");
     let library = Path::new(&folder).join("..").join(PORT);
     println!("cargo::rerun-if-changed={}", library.display());
+    link_place();
     for program in ["compare", "bench"] {
         println!("cargo::rustc-link-arg-bin={program}={}", library.display());
+    }
+}
+
+/// Has the library of `bench` begin 32 bytes past a multiple of 64, whatever stands before it: where a function begins
+/// moves its row by up to a tenth, and two libraries are compared at the same place.
+fn link_place() {
+    let out = PathBuf::from(env::var_os("OUT_DIR").expect("cargo names the build folder"));
+    let (text, object) = (out.join("place.s"), out.join("place.o"));
+    let lines = ".text\n.balign 64\n.globl tarjimp_place\ntarjimp_place:\n.skip 32\n";
+    fs::write(&text, lines).expect("the build folder is writable");
+    let status = Command::new("cc")
+        .arg("-c")
+        .arg(&text)
+        .arg("-o")
+        .arg(&object)
+        .status();
+    assert!(
+        status.is_ok_and(|status| status.success()),
+        "cc cannot assemble {}",
+        text.display()
+    );
+    for argument in ["-Wl,-u,tarjimp_place", &object.display().to_string()] {
+        println!("cargo::rustc-link-arg-bin=bench={argument}");
     }
 }
 
