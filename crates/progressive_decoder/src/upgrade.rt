@@ -262,7 +262,8 @@ fn upgrade_band(
 
 // ---- all bands
 
-// The ten bands, with both readers at the start of their streams; where the readers end.
+// The ten bands, with both readers at the start of their streams; where the readers end. The tables are at hand before the loop, since the compiler
+// builds one at each use.
 fn upgrade_bands(
     srl_data: &[u8],
     raw_data: &[u8],
@@ -277,6 +278,7 @@ fn upgrade_bands(
         (now (coefficients .entry)) (now (sign .entry)) (now (coefficients .exit)) (now (sign .exit)) r ⌝ }
 {
     let rows = places::place_rows();
+    let layout = bands::get_band_layout(use_reduce_extrapolate);
     let mut zeros: [u16; 1024] = [0; 1024];
     let mut others: [u16; 1024] = [0; 1024];
     let mut readers = Readers {
@@ -286,9 +288,9 @@ fn upgrade_bands(
     let mut b: usize = 0;
     while b < bands::NUM_BANDS {
         let t = upgrade_steps::band_step(b, prev[b], curr[b]);
-        let span = bands::span::band_span(use_reduce_extrapolate, b);
-        let from = span.from;
-        let to = span.to;
+        let info = layout[b];
+        let from = info.offset;
+        let to = from + info.width * info.height;
         readers = upgrade_band(
             srl_data,
             raw_data,
