@@ -8,7 +8,7 @@ use native.Mathlib.Decide.{decLt}
 use native.Mathlib.Omega.{arith}
 use lib.Dec.{T, eqb→eq}
 use lib.IntN.{ℤ, pos}
-use lib.ListN.{length, getD, take, drop, replicate, length-replicate, getD-replicate, List·getD-eq-default, length-take, length-drop}
+use lib.ListN.{length, getD, take, replicate, length-replicate, getD-replicate, List·getD-eq-default, length-take, length-drop}
 use lib.Seq.{slice, slice-empty, getD-take, getD-drop, take-all}
 use Rattle.fixed.specs.Fixed.{isZero}
 use Rattle.bands.specs.Bands.{layout, countOf, bandAt, bandsOf, isBottom}
@@ -21,7 +21,7 @@ use Rattle.planes.specs.Planes.{component, rowOf, joined, of, taken}
 use Rattle.planes.proofs.Joined.{row-joined, parts-long}
 use Rattle.zero_signs.specs.ZeroSigns.{zerosIn, signsIn, bandZeros, zeroSigns}
 use Rattle.zero_signs.proofs.Counted.{zeros-parts, same-is, ten-numbers, number-at, uniform-tile}
-use Rattle.tile.specs.Tile.{fresh, loaded, upgraded, upgradeRefusal, rowsRefusal}
+use Rattle.tile.specs.Tile.{fresh, loaded, upgraded, upgradeRefusal}
 use Rattle.tile.specs.declared.TileState.{TileState}
 use Rattle.tile.proofs.Accepted.{numbers-right}
 use Rattle.reach.specs.Reach.{TileFits, Pass, Call, afterCall, answersTo, answersBy, passesOf, AllRows, rowsThen, lastRows, NoRaise, pictureOf, TileGains}

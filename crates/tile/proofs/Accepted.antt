@@ -49,16 +49,11 @@ module _ (t : TileState) (rows : List (List ℕ)) (e : upgradeRefusal t rows ≡
   neither : (numbersRefusal t ≡ 0) × (rowsRefusal (t .«prog_quant») (t .«base_quant») rows ≡ 0)
   neither = first-none (numbersRefusal t) (rowsRefusal (t .«prog_quant») (t .«base_quant») rows) e
 
-  low : (rowsInDomain rows ≡ true) × ((rowInDomain (t .«prog_quant») && rowInDomain (t .«base_quant»)) ≡ true)
-  low = both-true (rowsInDomain rows) (rowInDomain (t .«prog_quant») && rowInDomain (t .«base_quant»)) (unless-none _ 1 (neither .1))
-
-  -- no position that is given is above 15
-  pub given-low : rowsInDomain rows ≡ true
-  given-low = low .0
-
-  -- and none of the tile
+  -- no position of the tile is above 15
   pub positions-low : rowInDomain (t .«prog_quant») ≡ true
-  positions-low = both-true (rowInDomain (t .«prog_quant»)) (rowInDomain (t .«base_quant»)) (low .1) .0
+  positions-low =
+      let low = both-true (rowsInDomain rows) (rowInDomain (t .«prog_quant») && rowInDomain (t .«base_quant»)) (unless-none _ 1 (neither .1)) in
+      both-true (rowInDomain (t .«prog_quant»)) (rowInDomain (t .«base_quant»)) (low .1) .0
 
   -- its numbers are right
   pub numbers-right : areRight (t .«use_reduce_extrapolate») (t .sign) (t .«zero_signs») ≡ true

@@ -47,6 +47,15 @@ module _ (l : List ℤ) (f t : ℕ) where
       ∙ ap zerosIn (drop-append-le f (take m l) (drop m (take t l)) (omega (arith, length-take-le m l (omega arith))))
       ∙ zeros-append (slice f m l) (slice m t l)
 
+-- ════ counted by a loop ════
+
+-- the zeros of a part are counted up to i
+abbrev pub Counting : List ℤ → ℕ → ℕ → ℕ → ℕ → Type 0
+Counting l from to n i = (from ≤ i) × (i ≤ to) × (n + from ≤ i) × (n + zerosIn (slice i to l) ≡ zerosIn (slice from to l))
+
+pub count-starts : (l : List ℤ) (from to : ℕ) → from ≤ to → Counting l from to 0 from
+count-starts l from to h = (omega arith, h, omega arith, omega arith)
+
 -- ════ the same numbers ════
 
 -- by what the first that is left of each says

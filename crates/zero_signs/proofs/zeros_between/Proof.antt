@@ -1,23 +1,19 @@
 -- `zero_signs::zeros_between` meets its contract. Assumes nothing.
-use mathlib.Core.Path.{_≡_}
-use Prim.Native.Nat.{_+_, _-_, _≤_}
+use Prim.Native.Nat.{_+_, _-_}
 use native.Mathlib.Omega.{arith}
-use lib.Seq.{slice}
 use borrow.Author.Needs.{needs}
-use Rattle.zero_signs.specs.ZeroSigns.{zerosIn}
-use Rattle.zero_signs.proofs.Counted.{zeros-parts}
+use Rattle.zero_signs.proofs.Counted.{zeros-parts, Counting, count-starts}
 use Rattle.zero_signs.proofs.zeros_between.Statement.{statement}
 use Rattle.zero_signs.proofs.zeros_between.Tie as tie
 
--- the zeros up to i are counted
 abbrev Inv-loop : tie.InvT-loop
-Inv-loop signs from to n₀ i₀ n i = (from ≤ i) × (i ≤ to) × (n + from ≤ i) × (n + zerosIn (slice i to signs) ≡ zerosIn (slice from to signs))
+Inv-loop signs from to n₀ i₀ n i = Counting signs from to n i
 
 abbrev μ-loop : tie.MeasureT-loop
 μ-loop signs from to n₀ i₀ n i = to - i
 
 loop-holds : tie.Need-loop-holds Inv-loop μ-loop
-loop-holds c = (omega arith, omega (arith, c .pre .0), omega arith, omega arith)
+loop-holds c = count-starts (c .args .signs .now) (c .args .from) (c .args .to) (c .pre .0)
 
 loop-again : tie.Need-loop-again Inv-loop μ-loop
 loop-again c =
