@@ -5,9 +5,10 @@ use mathlib.Core.List.{List, _++_}
 use Prim.Native.Nat.{ℕ, _+_, _-_, _≤_, _<_}
 use native.Mathlib.Omega.{arith}
 use borrow.Rule.Slice.PartMut.{midOf}
-use lib.ListN.{length, drop, replicate, length-append, length-drop, length-replicate}
+use lib.ListN.{length, getD, drop, replicate, length-append, length-drop, length-replicate}
 use lib.Seq.{length-take-le}
-use Rattle.bands.specs.Bands.{countOf, bandAt}
+use Rattle.bands.specs.Bands.{layout, countOf, bandAt, none}
+use Rattle.bands.specs.declared.BandInfo.{BandInfo}
 use Rattle.bands.proofs.Laid.{band-within}
 use Rattle.bands.proofs.Spread.{perPlaceTo, place-next}
 
@@ -32,3 +33,20 @@ more-length e f b from to p =
     ap length (place-more e f b from to p)
     ∙ length-append (perPlaceTo e f b) (replicate (to - from) (f b))
     ∙ ap (λ (n : ℕ). length (perPlaceTo e f b) + n) (length-replicate (to - from) (f b))
+
+-- ════ a layout at hand ════
+
+module _ (l : List BandInfo) (e : Bool) (b : ℕ) (is : l ≡ layout e) where
+  pub at-hand : getD l b none ≡ bandAt e b
+  at-hand = ap (λ (l : List BandInfo). getD l b none) is
+
+  -- where its bands lie
+  pub hand-lies : b < 10 → Lies e b (getD l b none .offset) (getD l b none .offset + countOf (getD l b none))
+  hand-lies h = record {
+    number = h;
+    begins = ap (λ (i : BandInfo). i .offset) at-hand;
+    ends = ap (λ (i : BandInfo). getD l b none .offset + countOf i) at-hand;
+  }
+
+  pub hand-within : getD l b none .offset + countOf (getD l b none) ≤ 4096
+  hand-within = rw at-hand (band-within e b)

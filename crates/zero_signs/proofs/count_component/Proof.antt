@@ -8,7 +8,7 @@ use lib.Seq.{take-all}
 use borrow.Author.Needs.{needs}
 use Rattle.bands.specs.Bands.{countOf, bandAt, none}
 use Rattle.bands.specs.declared.BandInfo.{BandInfo}
-use Rattle.bands.proofs.Laid.{band-within}
+use Rattle.bands.proofs.Spans.{at-hand, hand-within}
 use Rattle.planes.proofs.Copies.{Copying, copy-starts, copy-next, copy-ends}
 use Rattle.zero_signs.specs.ZeroSigns.{zerosIn, signsIn, bandZeros}
 use Rattle.zero_signs.proofs.Counted.{ten-numbers, number-at}
@@ -39,11 +39,11 @@ abbrev band : tie.After-struct-known Inv-loop μ-loop → BandInfo
 band c = getD (c .before .before .before .before .get-band-layout .result) (c .before .before .before .loop .b) none
 
 is-band : (c : tie.After-struct-known Inv-loop μ-loop) → band c ≡ bandAt (c .before .before .before .before .before .before .args .use-reduce-extrapolate) (c .before .before .before .loop .b)
-is-band c = ap (λ (l : List BandInfo). getD l (c .before .before .before .loop .b) none) (c .before .before .before .before .get-band-layout .ensures)
+is-band c = at-hand (c .before .before .before .before .get-band-layout .result) (c .before .before .before .before .before .before .args .use-reduce-extrapolate) (c .before .before .before .loop .b) (c .before .before .before .before .get-band-layout .ensures)
 
 -- it lies within the component
 within : (c : tie.After-struct-known Inv-loop μ-loop) → band c .offset + countOf (band c) ≤ 4096
-within c = rw (is-band c) (band-within (c .before .before .before .before .before .before .args .use-reduce-extrapolate) (c .before .before .before .loop .b))
+within c = hand-within (c .before .before .before .before .get-band-layout .result) (c .before .before .before .before .before .before .args .use-reduce-extrapolate) (c .before .before .before .loop .b) (c .before .before .before .before .get-band-layout .ensures)
 
 mul-zeros-between : tie.Need-mul-zeros-between Inv-loop μ-loop
 mul-zeros-between c = record { fits = omega (arith, within c) }

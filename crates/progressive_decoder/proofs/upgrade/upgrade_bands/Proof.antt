@@ -1,5 +1,4 @@
 -- `progressive_decoder::upgrade::upgrade_bands` meets its contract: after b bands both slices and both readers are those of a walk over the places of these bands. Assumes nothing.
-use mathlib.Core.List.{List}
 use mathlib.Core.Path.{_≡_, refl, sym, ap, ap₂, _∙_, subst}
 use Prim.Native.Nat.{ℕ, _+_, _-_, _*_, _^_, _≤_, _<_}
 use native.Mathlib.Omega.{arith}
@@ -7,9 +6,9 @@ use borrow.Rule.Slice.PartMut.{midOf}
 use lib.ListN.{length, getD, replicate}
 use Rattle.bits.specs.Bits.{bitsRead}
 use Rattle.bands.proofs.Every.{low-position}
-use Rattle.bands.specs.Bands.{countOf, bandAt, none}
+use Rattle.bands.specs.Bands.{countOf, none}
 use Rattle.bands.specs.declared.BandInfo.{BandInfo}
-use Rattle.bands.proofs.Laid.{band-within, band-small}
+use Rattle.bands.proofs.Laid.{band-small}
 use Rattle.bands.proofs.Spread.{spreadTo, perPlaceTo, place-count, place-all, place-whole}
 use Rattle.srl_decoder.specs.Srl.{start}
 use Rattle.srl_decoder.specs.Decode.{opened}
@@ -17,7 +16,7 @@ use Rattle.srl_decoder.specs.declared.SrlState.{SrlState}
 use Rattle.upgrade_steps.specs.Steps.{Step, stepOf, steps}
 use Rattle.upgrade_steps.specs.Inner.{bandStep}
 use Rattle.progressive_decoder.specs.Inner.{Walked, walk, walkedBy, Early}
-use Rattle.bands.proofs.Spans.{Lies, part-length, more-length}
+use Rattle.bands.proofs.Spans.{Lies, part-length, more-length, hand-lies, hand-within}
 use Rattle.progressive_decoder.proofs.Bandwise.{band-turn}
 use Rattle.progressive_decoder.proofs.Walks.{walk-coefficients, walk-signs, walk-reader, walk-count}
 use borrow.Author.Needs.{needs}
@@ -58,16 +57,13 @@ loop-holds c =
 abbrev band : tie.After-struct-known Inv-loop μ-loop → BandInfo
 band c = getD (c .before .before .before .before .before .before .get-band-layout .result) (c .before .before .before .before .loop .b) none
 
-is-band : (c : tie.After-struct-known Inv-loop μ-loop) → band c ≡ bandAt (c .before .before .before .before .before .before .before .before .before .before .args .use-reduce-extrapolate) (c .before .before .before .before .loop .b)
-is-band c = ap (λ (l : List BandInfo). getD l (c .before .before .before .before .loop .b) none) (c .before .before .before .before .before .before .get-band-layout .ensures)
-
 -- where it lies
 lies : (c : tie.After-struct-known Inv-loop μ-loop) → Lies (c .before .before .before .before .before .before .before .before .before .before .args .use-reduce-extrapolate) (c .before .before .before .before .loop .b) (band c .offset) (band c .offset + countOf (band c))
-lies c = record { number = c .before .before .before .loop-test .taken; begins = ap (λ (i : BandInfo). i .offset) (is-band c); ends = ap (λ (i : BandInfo). band c .offset + countOf i) (is-band c) }
+lies c = hand-lies (c .before .before .before .before .before .before .get-band-layout .result) (c .before .before .before .before .before .before .before .before .before .before .args .use-reduce-extrapolate) (c .before .before .before .before .loop .b) (c .before .before .before .before .before .before .get-band-layout .ensures) (c .before .before .before .loop-test .taken)
 
 -- within the component
 within : (c : tie.After-struct-known Inv-loop μ-loop) → band c .offset + countOf (band c) ≤ 4096
-within c = rw (is-band c) (band-within (c .before .before .before .before .before .before .before .before .before .before .args .use-reduce-extrapolate) (c .before .before .before .before .loop .b))
+within c = hand-within (c .before .before .before .before .before .before .get-band-layout .result) (c .before .before .before .before .before .before .before .before .before .before .args .use-reduce-extrapolate) (c .before .before .before .before .loop .b) (c .before .before .before .before .before .before .get-band-layout .ensures)
 
 mul-to : tie.Need-mul-to Inv-loop μ-loop
 mul-to c = record { fits = omega (arith, within c) }
