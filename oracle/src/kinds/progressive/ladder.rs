@@ -7,7 +7,10 @@ use oracle::progressive::TileState;
 use oracle::random::Random;
 
 use super::component::{Made, Row, next, shifted};
-use super::tile::{Fields, Start, Tile, bad_fields, digest, random_start, typical, wrong_numbers};
+use super::tile::{
+    Fields, Start, Tile, bad_fields, digest, numbers_of_layouts, random_start, typical,
+    wrong_numbers,
+};
 use super::zero_signs::{self, Wrong};
 use super::{
     Before, COMPONENT, GREATEST, IMPOSSIBLE_STATE, LAYOUTS, Shape, Signs, encode, load,
@@ -549,19 +552,9 @@ fn right_and_wrong_numbers() -> Vec<Case> {
         for fields in bad_fields(start.fields).into_iter().step_by(7) {
             cases.push(case(Start { fields, ..wrong }, From::Built, &[down]));
         }
-        for (before, signs) in [
-            (Before::Cut, Signs::Before),
-            (Before::Cut, Signs::Any),
-            (Before::Cut, Signs::Zero),
-            (Before::Cut, Signs::Later),
-            (Before::Extreme, Signs::Before),
-        ] {
-            start.shape.before = before;
-            start.shape.signs = signs;
-            let mut other = start;
-            other.wrong = Wrong::OtherLayout;
+        for [right, other] in numbers_of_layouts(start) {
             cases.push(case(other, From::Built, &[down]));
-            cases.push(case(start, From::Built, &[down, bad(down, 12), down]));
+            cases.push(case(right, From::Built, &[down, bad(down, 12), down]));
         }
     }
     cases

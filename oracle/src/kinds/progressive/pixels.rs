@@ -4,11 +4,13 @@ use std::io;
 
 use oracle::random::Random;
 
-use super::tile::{Fields, Start, Tile, bad_fields, random_start, typical, wrong_numbers};
+use super::tile::{
+    Fields, Start, Tile, bad_fields, numbers_of_layouts, random_start, typical, wrong_numbers,
+};
 use super::zero_signs::Wrong;
 use super::{
-    Before, COMPONENT, GREATEST, IMPOSSIBLE_STATE, LAYOUTS, Shape, Signs, TOO_SHORT, record_kind,
-    refusal, short,
+    Before, COMPONENT, GREATEST, IMPOSSIBLE_STATE, LAYOUTS, Shape, TOO_SHORT, record_kind, refusal,
+    short,
 };
 use crate::digest::with_bytes;
 use crate::record::{Case, Recording};
@@ -234,18 +236,8 @@ fn right_and_wrong_numbers() -> Vec<Case> {
             cases.extend(wrong.map(|wrong| case(wrong, length)));
         }
         start.fields.base_quant[2][9] = 6;
-        for (before, signs) in [
-            (Before::Cut, Signs::Before),
-            (Before::Cut, Signs::Any),
-            (Before::Cut, Signs::Zero),
-            (Before::Cut, Signs::Later),
-            (Before::Extreme, Signs::Before),
-        ] {
-            start.shape.before = before;
-            start.shape.signs = signs;
-            let mut other = start;
-            other.wrong = Wrong::OtherLayout;
-            cases.extend([start, other].map(|start| case(start, PIXELS)));
+        for tiles in numbers_of_layouts(start) {
+            cases.extend(tiles.map(|start| case(start, PIXELS)));
         }
     }
     cases

@@ -293,3 +293,25 @@ pub fn wrong_numbers(start: Start) -> Vec<Start> {
         })
         .collect()
 }
+
+/// Tiles with right numbers and signs of all sorts, each with the one that has the numbers of the other layout. These are
+/// right where no sign is 0.
+pub fn numbers_of_layouts(start: Start) -> Vec<[Start; 2]> {
+    [
+        (Before::Cut, Signs::Before),
+        (Before::Cut, Signs::Any),
+        (Before::Cut, Signs::Zero),
+        (Before::Cut, Signs::Later),
+        (Before::Extreme, Signs::Before),
+    ]
+    .into_iter()
+    .map(|(before, signs)| {
+        let mut right = start;
+        right.shape.before = before;
+        right.shape.signs = signs;
+        let mut other = right;
+        other.wrong = Wrong::OtherLayout;
+        [right, other]
+    })
+    .collect()
+}
