@@ -90,18 +90,18 @@ ends-within at (i ∷ is) end zero t h = omega (arith, first i is at end t, orde
 ends-within at (i ∷ is) end (suc b) t h = ends-within (at + countOf i) is end b (rest i is at end t) (omega arith)
 
 -- ---- enclosing
-enclosed : (i : BandInfo) (p : ℕ) → T (encloses i p) → (i .offset ≤ p) × (p < i .offset + countOf i)
+pub enclosed : (i : BandInfo) (p : ℕ) → T (encloses i p) → (i .offset ≤ p) × (p < i .offset + countOf i)
 enclosed i p t =
     let both = and-yes (leb (i .offset) p) (ltb p (i .offset + countOf i)) t in
     (leb→le (i .offset) p (both .0), ltb→lt p (i .offset + countOf i) (both .1))
 
-within : (i : BandInfo) (p : ℕ) → i .offset ≤ p → p < i .offset + countOf i → encloses i p ≡ true
+pub within : (i : BandInfo) (p : ℕ) → i .offset ≤ p → p < i .offset + countOf i → encloses i p ≡ true
 within i p h k = rw (le-leb (i .offset) p h, lt-ltb p (i .offset + countOf i) k)
 
 past : (i : BandInfo) (p : ℕ) → i .offset + countOf i ≤ p → encloses i p ≡ false
 past i p h = rw (le-leb (i .offset) p (omega arith), le-ltb p (i .offset + countOf i) h)
 
-is-yes : (b : Bool) → b ≡ true → T b
+pub is-yes : (b : Bool) → b ≡ true → T b
 is-yes b e = rw e tt
 
 -- a band encloses no place before the first band
@@ -132,6 +132,14 @@ only-band at (i ∷ is) end (suc b) p t h k =
     let later : at + countOf i ≤ p = no-earlier (at + countOf i) is end b p (rest i is at end t) (omega arith) k in
     rw (past i p (omega (arith, first i is at end t))) (ap suc (only-band (at + countOf i) is end b p (rest i is at end t) (omega arith) k))
 
+-- past the end by none
+none-past : (at : ℕ) (l : List BandInfo) (end p : ℕ) → T (laid at l end) → end ≤ p → bandOfPlace l p ≡ length l
+unfolding bandOfPlace
+none-past at [] end p t h = refl
+none-past at (i ∷ is) end p t h =
+    let r = rest i is at end t in
+    rw (past i p (omega (arith, first i is at end t, ordered (at + countOf i) is end r))) (ap suc (none-past (at + countOf i) is end p r h))
+
 -- ---- the theorem
 ten-more : (e : Bool) {b : ℕ} → b < 10 → b < length (layout e)
 ten-more e h = rw (ten-bands e) h
@@ -144,6 +152,10 @@ place-band e p h =
       in-band = s .1;
       no-other = λ k g t. only-band 0 (layout e) 4096 k p (layout-laid e) (ten-more e g) t;
     }
+
+-- past the last place there is no band
+pub past-all : (e : Bool) (p : ℕ) → 4096 ≤ p → bandOfPlace (layout e) p ≡ 10
+past-all e p h = none-past 0 (layout e) 4096 p (layout-laid e) h ∙ ten-bands e
 
 pub tables : BandTables
 tables = record {

@@ -2,4 +2,5 @@
 pub mod Every
 pub mod Laid
 pub mod Spread
+pub mod Places
 pub mod Spans

@@ -1,18 +1,18 @@
--- What both tables of bands satisfy: the statement that `bands::band_tables` proves.
+-- What both tables of bands and both tables of places satisfy: the statements that `bands::band_tables` and `bands::place_tables` prove.
 use mathlib.Core.Bool.{Bool, true, false, cond, _&&_}
-use mathlib.Core.List.{List, [], _∷_}
+use mathlib.Core.List.{List, [], _∷_, map}
 use mathlib.Core.Path.{_≡_}
-use Prim.Native.Nat.{ℕ, zero, suc, _+_, _<_}
+use Prim.Native.Nat.{ℕ, zero, suc, _+_, _≤_, _<_}
 use lib.Dec.{T, leb, ltb}
-use lib.ListN.{length}
+use lib.ListN.{length, getD}
 use Rattle.bands.specs.declared.BandInfo.{BandInfo}
-use Rattle.bands.specs.Bands.{layout, countOf, bandAt, bottomOffset}
+use Rattle.bands.specs.Bands.{layout, countOf, bandAt, bottomOffset, perPlace, bandsOf, positionOf}
 
--- a place belongs to the band whose offset and count enclose it
+-- "a place belongs to the row whose offset and count enclose it"
 abbrev pub encloses : BandInfo → ℕ → Bool
 encloses i p = leb (i .offset) p && ltb p (i .offset + countOf i)
 
--- the number of the first band that encloses a place
+-- the number of the first band that encloses a place; where none does, how many bands there are
 unfoldable pub bandOfPlace : List BandInfo → ℕ → ℕ
 bandOfPlace [] p = 0
 bandOfPlace (i ∷ is) p = cond (encloses i p) 0 (suc (bandOfPlace is p))
@@ -42,3 +42,18 @@ pub record BandTables : Type 0 where
   pub bottom-standard : bottomOffset false ≡ 4032
   -- each place belongs to exactly one band
   pub one-band : (e : Bool) (p : ℕ) → p < 4096 → OnlyBand e p (bandOfPlace (layout e) p)
+
+-- where each band of a layout ends
+abbrev pub bandEnds : Bool → List ℕ
+bandEnds e = map (λ i. i .offset + countOf i) (layout e)
+
+-- what both tables of places are: the statement of `place_tables`
+pub record PlaceTables : Type 0 where
+  -- 4,096 entries in each
+  pub whole : (e : Bool) → length (bandsOf e) ≡ 4096
+  -- each is the number of the band that encloses its place
+  pub entry : (e : Bool) (p : ℕ) → p < 4096 → getD (bandsOf e) p 0 ≡ bandOfPlace (layout e) p
+  -- past them there is no band: the number is 10
+  pub past : (e : Bool) (p : ℕ) → 4096 ≤ p → bandOfPlace (layout e) p ≡ 10
+  -- what a row, of positions or of quantizers, has for each place, it has by the table
+  pub by-table : (e : Bool) (row : List ℕ) → perPlace e (positionOf row) ≡ map (positionOf row) (bandsOf e)

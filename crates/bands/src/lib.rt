@@ -1,15 +1,20 @@
-// The band record: the ten bands of a 64 x 64 component in both layouts, as constant tables, and the check of positions and quantizers.
+// The band record: the ten bands of a 64 x 64 component in both layouts, as constant tables, the band of each place, and the check of
+// positions and quantizers.
 ghost use mathlib.Core.Bool.{true, false};
 ghost use mathlib.Core.Path.{_≡_};
 ghost use Prim.Native.Nat.{_*_, _^_, _<_};
-ghost use Rattle.bands.specs.Bands.{layout, countOf, bandAt, bottomOffset};
+ghost use Rattle.bands.specs.Bands.{layout, countOf, bandAt, bottomOffset, bandsOf};
 ghost use Rattle.bands.specs.Positions.{rowInDomain, rowsInDomain};
-ghost use Rattle.bands.specs.Tables.{BandTables};
+ghost use Rattle.bands.specs.Tables.{BandTables, bandOfPlace, bandEnds, PlaceTables};
 
 pub mod span;
+mod tables;
 
 // Bands of a component.
 pub const NUM_BANDS: usize = 10;
+
+// The number that stands for no band.
+pub const NO_BAND: u8 = 10;
 
 // Coefficients of a component.
 pub const COEFFICIENTS_PER_COMPONENT: usize = 4096;
@@ -208,6 +213,51 @@ pub fn ll3_offset(use_reduce_extrapolate: bool) -> usize
 // Offsets are running sums, the counts sum to 4,096, LL3 starts at 4015 or 4032, and each place belongs to exactly one band.
 pub fn band_tables()
     ensures { λ _. ⌜ BandTables ⌝ }
+{}
+
+// ---- places
+
+// The number of the band that a place belongs to, 0 to 9; of a place past the 4,096, which has none, `NO_BAND`. Who asks for many places takes the
+// table: the compiler builds a constant array at each use.
+pub fn band_of_place(use_reduce_extrapolate: bool, place: usize) -> u8
+    ensures { λ r. ⌜ r ≡ bandOfPlace (layout «use_reduce_extrapolate») place ⌝ }
+{
+    if place >= COEFFICIENTS_PER_COMPONENT {
+        return NO_BAND;
+    }
+    if use_reduce_extrapolate {
+        tables::EXTRAPOLATE[place]
+    } else {
+        tables::STANDARD[place]
+    }
+}
+
+// The table of a layout: the number of each place's band.
+pub fn bands_of_places(use_reduce_extrapolate: bool) -> [u8; 4096]
+    ensures { λ r. ⌜ r ≡ bandsOf «use_reduce_extrapolate» ⌝ }
+{
+    if use_reduce_extrapolate {
+        tables::EXTRAPOLATE
+    } else {
+        tables::STANDARD
+    }
+}
+
+// Where each band of a layout ends.
+pub fn band_ends(use_reduce_extrapolate: bool) -> [usize; 10]
+    ensures { λ r. ⌜ r ≡ bandEnds «use_reduce_extrapolate» ⌝ }
+{
+    if use_reduce_extrapolate {
+        [1023, 2046, 3007, 3279, 3551, 3807, 3879, 3951, 4015, 4096]
+    } else {
+        [1024, 2048, 3072, 3328, 3584, 3840, 3904, 3968, 4032, 4096]
+    }
+}
+
+// Each of the 8,192 entries is the number of the band whose offset and count enclose its place, and what each place has of its band it has by the
+// table.
+pub fn place_tables()
+    ensures { λ _. ⌜ PlaceTables ⌝ }
 {}
 
 // ---- positions and quantizers

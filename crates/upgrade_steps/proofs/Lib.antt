@@ -1,3 +1,4 @@
 -- Laws for the reader and the writer of a pass.
 pub mod Sources
 pub mod Counts
+pub mod Stretches

@@ -1,11 +1,15 @@
 // The steps of an upgrade pass: what it does in each band, and from which stream a place has its value. The reader and the writer of a pass
 // share it.
 
+ghost use mathlib.Core.Bool.{Bool};
 ghost use mathlib.Core.Path.{_≡_};
-ghost use Prim.Native.Nat.{_-_};
+ghost use Prim.Native.Nat.{_-_, _<_};
+ghost use lib.ListN.{getD};
+ghost use Rattle.bands.specs.Bands.{bandsOf};
+ghost use Rattle.bands.specs.Tables.{bandEnds};
 ghost use Rattle.upgrade_steps.specs.Steps.{stepAt};
 ghost use Rattle.upgrade_steps.specs.Counts.{FewSrlValues};
-ghost use Rattle.upgrade_steps.specs.Inner.{bandStep, fromSrl};
+ghost use Rattle.upgrade_steps.specs.Inner.{bandStep, fromSrl, SameStep};
 
 pub mod positions;
 
@@ -34,6 +38,31 @@ pub fn band_step(b: usize, prev: u8, curr: u8) -> BandStep
         bottom: b == 9,
         width: band_width(prev, curr),
         position: curr,
+    }
+}
+
+// Places in a row that have the same step: the step, and where they end.
+pub struct Stretch {
+    pub step: BandStep,
+    pub to: usize,
+}
+
+// The places from the one at which a walk stands on to the end of its band, by the table of places and the ends of the bands.
+pub fn stretch_at(
+    table: &[u8; 4096],
+    ends: [usize; 10],
+    prev: [u8; 10],
+    curr: [u8; 10],
+    place: usize,
+) -> Stretch
+    requires { ⌜ (place < 4096) × (getD (now table) place 0 < 10) ⌝ }
+    ensures { λ r. ⌜ ((e : Bool) → now (table .entry) ≡ bandsOf e → ends ≡ bandEnds e
+        → SameStep e prev curr place (r .to) (bandStep (r .step))) ⌝ }
+{
+    let b = table[place] as usize;
+    Stretch {
+        step: band_step(b, prev[b], curr[b]),
+        to: ends[b],
     }
 }
 
