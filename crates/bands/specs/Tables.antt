@@ -8,7 +8,7 @@ use lib.ListN.{length, getD}
 use Rattle.bands.specs.declared.BandInfo.{BandInfo}
 use Rattle.bands.specs.Bands.{layout, countOf, bandAt, bottomOffset, perPlace, bandsOf, positionOf}
 
--- "a place belongs to the row whose offset and count enclose it"
+-- "A place belongs to the row whose offset and count enclose it."
 abbrev pub encloses : BandInfo → ℕ → Bool
 encloses i p = leb (i .offset) p && ltb p (i .offset + countOf i)
 
