@@ -12,8 +12,8 @@ use lib.Seq.{take-suc}
 use mir.Facts.{and-yes}
 use Rattle.bands.specs.declared.BandInfo.{BandInfo}
 use Rattle.bands.specs.Bands.{layout, none, countOf, bandAt, spread, perPlace, bandsOf, positionOf}
-use Rattle.bands.specs.Tables.{encloses, bandOfPlace, bandEnds, OnlyBand, PlaceTables}
-use Rattle.bands.proofs.Laid.{ten-bands, tables, past-all, band-within, band-small, enclosed, within, is-yes}
+use Rattle.bands.specs.Tables.{encloses, bandOfPlace, bandEnds, PlaceTables}
+use Rattle.bands.proofs.Laid.{tables, past-all, band-within, band-small, enclosed, within, is-yes}
 use Rattle.bands.proofs.Spread.{place-map, place-whole, bands-whole, one-of-ten}
 
 -- ════ a rule of a list, at all of its entries ════

@@ -1,24 +1,19 @@
 -- What places give, one after another: a place more, a band more, a band that is skipped; and whatever goes on over places goes on over bands and
--- over a pass. Assumes nothing.
+-- from band to band over a pass. Assumes nothing.
 use mathlib.Core.Path.{_≡_, refl, ap, sym, _∙_, subst}
 use mathlib.Core.Bool.{Bool, true, false}
 use mathlib.Core.List.{List, [], _∷_, _++_, append-assoc}
 use Prim.Native.Nat.{ℕ, zero, suc, _+_, _-_, _≤_, _<_}
+use native.Mathlib.Nat.{add-zero, add-assoc}
 use native.Mathlib.Omega.{arith}
-use borrow.Author.Tests.{ltb-true, ltb-false}
-use lib.Dec.{ltb}
 use lib.IntN.{ℤ, pos}
-use lib.ListN.{length, getD, drop, replicate, length-drop, length-replicate, replicate-append-replicate, List·getD-eq-default}
-use lib.Seq.{drop-cons, drop-drop}
-use Rattle.bands.specs.Positions.{rowInDomain}
-use Rattle.bands.proofs.Every.{low-position}
-use Rattle.bands.proofs.Laid.{band-within}
-use Rattle.bands.proofs.Spread.{perPlaceTo, place-none, place-count, place-all, place-whole}
+use lib.ListN.{length, getD, take, drop, replicate, length-drop, length-replicate, replicate-append-replicate}
+use lib.Seq.{drop-cons, length-take-le, take-all}
+use Rattle.bands.proofs.Spread.{place-whole}
 use Rattle.upgrade_steps.specs.Steps.{Step, Source, skipped, srl, raw, source, stepOf, steps, srlWidth, srlWidths, rawWidth, rawWidths}
-use Rattle.upgrade_steps.specs.Inner.{fromSrl}
+use Rattle.upgrade_steps.specs.Inner.{fromSrl, SameStep}
 use Rattle.progressive_encoder.specs.Encode.{srlDifference, rawDifference, srlGiven, rawGiven, srlDifferences, rawDifferences}
-use Rattle.progressive_encoder.specs.Inner.{Lists, lists, passLists, placeLists, bandLists, Long, Slices, Lent, WentOver}
-use Rattle.bands.proofs.Spans.{Lies, place-more, more-length}
+use Rattle.progressive_encoder.specs.Inner.{Lists, lists, passLists, placeLists, bandLists, Slices, Part, WentOver, GoesOver, GoesOverBand, Before}
 use Rattle.upgrade_steps.proofs.Sources.{source-srl, source-raw, source-none}
 
 -- ════ one place ════
@@ -93,13 +88,25 @@ same-step t P z f (suc n) (c ∷ cs) (p ∷ ps) (s ∷ ss) h j k =
 
 -- the places of a band are such
 pub of-band : (t : Step) (P : ℕ → Lists → Type 0) → P 0 noLists → ((n : ℕ) (c p s : ℤ) (l : Lists) → P n l → P (suc n) (given (source t s) t c p l))
-    → (cs ps ss : List ℤ) (from to : ℕ) → Lent cs ps ss from to → P (to - from) (bandLists t from to cs ps ss)
-of-band t P z f cs ps ss from to h =
-    same-step t P z f (to - from) (drop from cs) (drop from ps) (drop from ss) (omega (arith, length-drop from cs, h .ends, h .slices .coefficients)) (omega (arith, length-drop from ps, h .ends, h .slices .previous)) (omega (arith, length-drop from ss, h .ends, h .slices .sign))
+    → (cs ps ss : List ℤ) → Part cs ps ss → P (length cs) (bandLists t (length cs) cs ps ss)
+of-band t P z f cs ps ss h = same-step t P z f (length cs) cs ps ss (omega arith) (omega (arith, h .previous)) (omega (arith, h .sign))
 
 -- of width 0 they give nothing
-skipped-none : (t : Step) → t .width ≡ 0 → (cs ps ss : List ℤ) (from to : ℕ) → Lent cs ps ss from to → bandLists t from to cs ps ss ≡ noLists
+skipped-none : (t : Step) → t .width ≡ 0 → (cs ps ss : List ℤ) → Part cs ps ss → bandLists t (length cs) cs ps ss ≡ noLists
 skipped-none t e = of-band t (λ n l. l ≡ noLists) refl (λ n c p s l q. ap (λ (x : Source). given x t c p l) (source-none t s e) ∙ q)
+
+-- only as many elements matter as there are steps
+pass-take : (ts : List Step) (n : ℕ) (cs ps ss : List ℤ) → length ts ≤ n → length ts ≤ length cs → length ts ≤ length ps → length ts ≤ length ss
+    → passLists ts (take n cs) (take n ps) (take n ss) ≡ passLists ts cs ps ss
+pass-take [] n cs ps ss g h j k = no-places (take n cs) (take n ps) (take n ss) ∙ sym (no-places cs ps ss)
+pass-take (t ∷ ts) zero cs ps ss g h j k = absurd (omega arith)
+pass-take (t ∷ ts) (suc n) [] ps ss g h j k = absurd (omega arith)
+pass-take (t ∷ ts) (suc n) (c ∷ cs) [] ss g h j k = absurd (omega arith)
+pass-take (t ∷ ts) (suc n) (c ∷ cs) (p ∷ ps) [] g h j k = absurd (omega arith)
+pass-take (t ∷ ts) (suc n) (c ∷ cs) (p ∷ ps) (s ∷ ss) g h j k =
+    place-then t ts c p s (take n cs) (take n ps) (take n ss)
+    ∙ ap (given (source t s) t c p) (pass-take ts n cs ps ss (omega arith) (omega arith) (omega arith) (omega arith))
+    ∙ sym (place-then t ts c p s cs ps ss)
 
 -- a width for each value
 pub same-length : (ts : List Step) (cs ps ss : List ℤ) → length ts ≤ length cs → length ts ≤ length ps → length ts ≤ length ss → length (passLists ts cs ps ss .widths) ≡ length (passLists ts cs ps ss .values)
@@ -115,45 +122,6 @@ same-length (t ∷ ts) (c ∷ cs) (p ∷ ps) (s ∷ ss) h j k = by (source t s) 
     by skipped e = e
     by srl e = ap suc e
     by raw e = e
-
--- ════ bands, as the code has them ════
-
--- a band's places and its step
-pub record Next (e : Bool) (prev curr : List ℕ) (b from to : ℕ) (t : Step) : Type 0 where
-  pub lies : Lies e b from to
-  pub step : t ≡ stepOf prev curr b
-
--- its places lie in slices that are long enough
-pub lent : {e : Bool} {prev curr : List ℕ} {b from to : ℕ} {t : Step} → Next e prev curr b from to t → (cs ps ss : List ℤ) → Slices cs ps ss → Lent cs ps ss from to
-lent {e = e} {b = b} p cs ps ss h = record {
-  begins = omega (arith, p .lies .ends);
-  ends = omega (arith, p .lies .begins, p .lies .ends, band-within e b);
-  slices = h;
-}
-
--- how many places come before it, and with it
-before : {e : Bool} {prev curr : List ℕ} {b from to : ℕ} {t : Step} → Next e prev curr b from to t → length (perPlaceTo e (stepOf prev curr) b) ≡ from
-before {e = e} {prev = prev} {curr = curr} {b = b} p = place-count e (stepOf prev curr) b (p .lies .number) ∙ sym (p .lies .begins)
-
-with-it : {e : Bool} {prev curr : List ℕ} {b from to : ℕ} {t : Step} → Next e prev curr b from to t → to ≡ length (perPlaceTo e (stepOf prev curr) (b + 1))
-with-it {e = e} {prev = prev} {curr = curr} {b = b} {from = from} {to = to} p =
-    omega (arith, more-length e (stepOf prev curr) b from to (p .lies), before p, p .lies .ends)
-
--- a row in the domain has low positions, and past its end they are 0
-low : (row : List ℕ) (b : ℕ) → rowInDomain row ≡ true → getD row b 0 ≤ 15
-low row b e = by (ltb b (length row)) refl
-  where
-    by : (q : Bool) → ltb b (length row) ≡ q → getD row b 0 ≤ 15
-    by true q = low-position row b e (ltb-true b (length row) q)
-    by false q = rw (List·getD-eq-default row 0 (ltb-false b (length row) q)) (omega arith)
-
--- so the next band has a width of at most 15
-pub narrow : {e : Bool} {prev curr : List ℕ} {b from to : ℕ} {t : Step} → Next e prev curr b from to t → rowInDomain prev ≡ true → t .width ≤ 15
-narrow {prev = prev} {b = b} p h = omega (arith, ap (λ (u : Step). u .width) (p .step), low prev b h)
-
--- and a position of at most 15
-pub low-step : {e : Bool} {prev curr : List ℕ} {b from to : ℕ} {t : Step} → Next e prev curr b from to t → rowInDomain curr ≡ true → t .position ≤ 15
-low-step {curr = curr} {b = b} p h = omega (arith, ap (λ (u : Step). u .position) (p .step), low curr b h)
 
 -- ════ what goes on over places ════
 
@@ -171,90 +139,114 @@ pub record Placewise {X : Type 0} (R : Lists → X → X → Type 0) : Type 0 wh
 
 module _ {X : Type 0} (R : Lists → X → X → Type 0) (o : Placewise R) (cs ps ss : List ℤ) where
   -- before the first place of a band
-  pub band-none : (t : Step) (from : ℕ) (x : X) → R (bandLists t from from cs ps ss) x x
-  band-none t from x =
-      let n : from - from ≡ 0 = omega arith in
-      subst (λ (l : Lists). R l x x) (sym (ap (λ (k : ℕ). passLists (replicate k t) (drop from cs) (drop from ps) (drop from ss)) n ∙ no-places (drop from cs) (drop from ps) (drop from ss))) (o .none x)
-
-  -- a skipped band
-  pub band-skip : (t : Step) (from to : ℕ) → Lent cs ps ss from to → t .width ≡ 0 → (x : X) → R (bandLists t from to cs ps ss) x x
-  band-skip t from to h e x = subst (λ (l : Lists). R l x x) (sym (skipped-none t e cs ps ss from to h)) (o .none x)
+  pub band-none : (t : Step) (x : X) → R (bandLists t 0 cs ps ss) x x
+  band-none t x = subst (λ (l : Lists). R l x x) (sym (no-places cs ps ss)) (o .none x)
 
   -- a place more
-  pub place-next : (t : Step) (from i to : ℕ) → Lent cs ps ss from to → from ≤ i → i < to → (x y z : X) → R (bandLists t from i cs ps ss) x y
-      → {c p s : ℤ} → c ≡ getD cs i (pos 0) → p ≡ getD ps i (pos 0) → s ≡ getD ss i (pos 0) → R (placeLists t c p s) y z → R (bandLists t from (i + 1) cs ps ss) x z
+  pub place-next : (t : Step) (i : ℕ) → Part cs ps ss → i < length cs → (x y z : X) → R (bandLists t i cs ps ss) x y
+      → {c p s : ℤ} → c ≡ getD cs i (pos 0) → p ≡ getD ps i (pos 0) → s ≡ getD ss i (pos 0) → R (placeLists t c p s) y z → R (bandLists t (i + 1) cs ps ss) x z
   unfolding srlDifferences srlWidths rawDifferences rawWidths
-  place-next t from i to h j k x y z before {c = c} {p = p} {s = s} u v w now = subst (λ (l : Lists). R l x z) (sym more) (o .then (bandLists t from i cs ps ss) (placeLists t c p s) x y z before now)
+  place-next t i h k x y z before {c = c} {p = p} {s = s} u v w now = subst (λ (l : Lists). R l x z) (sym more) (o .then (bandLists t i cs ps ss) (placeLists t c p s) x y z before now)
     where
-      n : length (replicate (i - from) t) ≡ i - from
-      n = length-replicate (i - from) t
+      n : length (replicate i t) ≡ i
+      n = length-replicate i t
 
-      -- a slice from there on
-      here : (l : List ℤ) (a : ℤ) → Long l → a ≡ getD l i (pos 0) → drop (length (replicate (i - from) t)) (drop from l) ≡ a ∷ drop (suc i) l
-      here l a g q =
-          let e : from + length (replicate (i - from) t) ≡ i = omega (arith, n) in
-          drop-drop (length (replicate (i - from) t)) from l ∙ ap (λ (m : ℕ). drop m l) e ∙ drop-cons l i (pos 0) (omega (arith, h .ends)) ∙ ap (λ (b : ℤ). b ∷ drop (suc i) l) (sym q)
-
-      short : (l : List ℤ) → Long l → length (replicate (i - from) t) ≤ length (drop from l)
-      short l g = omega (arith, n, length-drop from l, h .ends)
+      -- a part from there on
+      here : (l : List ℤ) (a : ℤ) → i < length l → a ≡ getD l i (pos 0) → drop (length (replicate i t)) l ≡ a ∷ drop (suc i) l
+      here l a g q = ap (λ (m : ℕ). drop m l) n ∙ drop-cons l i (pos 0) g ∙ ap (λ (b : ℤ). b ∷ drop (suc i) l) (sym q)
 
       one : (a b d a′ b′ d′ : List ℤ) → a ≡ a′ → b ≡ b′ → d ≡ d′ → passLists (t ∷ []) a b d ≡ passLists (t ∷ []) a′ b′ d′
       one a b d a′ b′ d′ e f g = λ m. passLists (t ∷ []) (e m) (f m) (g m)
 
-      more : bandLists t from (i + 1) cs ps ss ≡ joined (bandLists t from i cs ps ss) (placeLists t c p s)
+      more : bandLists t (i + 1) cs ps ss ≡ joined (bandLists t i cs ps ss) (placeLists t c p s)
       more =
-          let m : i + 1 - from ≡ i - from + 1 = omega arith in
-          ap (λ (k : ℕ). passLists (replicate k t) (drop from cs) (drop from ps) (drop from ss)) m
-          ∙ ap (λ (ts : List Step). passLists ts (drop from cs) (drop from ps) (drop from ss)) (sym (replicate-append-replicate (i - from) 1 t))
-          ∙ pass-append (replicate (i - from) t) (t ∷ []) (drop from cs) (drop from ps) (drop from ss) (short cs (h .slices .coefficients)) (short ps (h .slices .previous)) (short ss (h .slices .sign))
-          ∙ ap (joined (bandLists t from i cs ps ss)) (one _ _ _ _ _ _ (here cs c (h .slices .coefficients) u) (here ps p (h .slices .previous) v) (here ss s (h .slices .sign) w))
+          ap (λ (ts : List Step). passLists ts cs ps ss) (sym (replicate-append-replicate i 1 t))
+          ∙ pass-append (replicate i t) (t ∷ []) cs ps ss (omega (arith, n)) (omega (arith, n, h .previous)) (omega (arith, n, h .sign))
+          ∙ ap (joined (bandLists t i cs ps ss)) (one _ _ _ _ _ _ (here cs c k u) (here ps p (omega (arith, h .previous)) v) (here ss s (omega (arith, h .sign)) w))
 
--- ════ band by band ════
+-- ════ with a bound, in a band ════
 
--- a walk that went over the places of the first b bands
-abbrev pub WentOverBands : {X : Type 0} (R : Lists → X → X → Type 0) (B : X → ℕ → Type 0) (cs ps ss : List ℤ) (e : Bool) (prev curr : List ℕ) (b : ℕ) (x y : X) → Type 0
-WentOverBands R B cs ps ss e prev curr b x y =
-    WentOver R B (passLists (perPlaceTo e (stepOf prev curr) b) cs ps ss) (length (perPlaceTo e (stepOf prev curr) b)) x y
+module _ {X : Type 0} (R : Lists → X → X → Type 0) (o : Placewise R) (B : X → ℕ → Type 0) (cs ps ss : List ℤ) (t : Step) (h : Part cs ps ss) where
+  -- before its first place
+  pub band-begins : (x : X) → GoesOver R B (bandLists t 0 cs ps ss) 0 x x
+  band-begins x = record { over = band-none R o cs ps ss t x; bound = λ n b. subst (B x) (sym (add-zero n)) b }
+
+  -- a place more
+  pub band-goes-on : (i : ℕ) → i < length cs → (x y z : X) → GoesOver R B (bandLists t i cs ps ss) i x y
+      → {c p s : ℤ} → c ≡ getD cs i (pos 0) → p ≡ getD ps i (pos 0) → s ≡ getD ss i (pos 0) → GoesOver R B (placeLists t c p s) 1 y z → GoesOver R B (bandLists t (i + 1) cs ps ss) (i + 1) x z
+  band-goes-on i k x y z before u v w now = record {
+    over = place-next R o cs ps ss t i h k x y z (before .over) u v w (now .over);
+    bound = λ n b. subst (B z) (add-assoc n i 1) (now .bound (n + i) (before .bound n b));
+  }
+
+  -- all of them, where the band is skipped: what can have come to some places can have come to more
+  pub band-skip : ((x : X) (i j : ℕ) → i ≤ j → B x i → B x j) → t .width ≡ 0 → (x : X) → GoesOverBand R B t cs ps ss x x
+  band-skip on e x = record {
+    over = subst (λ (l : Lists). R l x x) (sym (skipped-none t e cs ps ss h)) (o .none x);
+    bound = λ n b. on x n (n + length cs) (omega arith) b;
+  }
+
+  -- a walk that can go over all of them has room for one behind the first i
+  pub room-for-one : (i : ℕ) → i < length cs → (x y : X) → Before B x (length cs) → GoesOver R B (bandLists t i cs ps ss) i x y → Before B y 1
+  room-for-one i k x y p g = record { done = p .done + i; bound = g .bound (p .done) (p .bound); left = omega (arith, p .left) }
+
+-- ════ from band to band ════
+
+-- the places of a band in a slice
+abbrev pub partOf : ℕ → ℕ → List ℤ → List ℤ
+partOf from to l = take (to - from) (drop from l)
+
+part-length : (from to : ℕ) (l : List ℤ) → to ≤ length l → length (partOf from to l) ≡ to - from
+part-length from to l h = length-take-le (to - from) (drop from l) (omega (arith, length-drop from l))
+
+-- a walk that went over the first i places of a pass
+abbrev pub WentTo : {X : Type 0} (R : Lists → X → X → Type 0) (B : X → ℕ → Type 0) (cs ps ss : List ℤ) (e : Bool) (prev curr : List ℕ) (i : ℕ) (x y : X) → Type 0
+WentTo R B cs ps ss e prev curr i x y = WentOver R B (passLists (take i (steps e prev curr)) cs ps ss) i x y
 
 module _ {X : Type 0} (R : Lists → X → X → Type 0) (o : Placewise R) (B : X → ℕ → Type 0) (cs ps ss : List ℤ) (e : Bool) (prev curr : List ℕ) where
   -- before the first
-  pub bands-none : (x : X) → B x 0 → WentOverBands R B cs ps ss e prev curr 0 x x
-  bands-none x h =
-      let n = place-none e (stepOf prev curr) in
-      record {
-        over = subst (λ (l : Lists). R l x x) (sym (ap (λ (ts : List Step). passLists ts cs ps ss) n ∙ no-places cs ps ss)) (o .none x);
-        bound = subst (B x) (sym (ap length n)) h;
-      }
+  pub walk-begins : (x : X) → B x 0 → WentTo R B cs ps ss e prev curr 0 x x
+  walk-begins x h = record { over = subst (λ (l : Lists). R l x x) (sym (no-places cs ps ss)) (o .none x); bound = h }
 
-  -- the bound, by where the next band begins
-  pub bound-before : (b from to : ℕ) (t : Step) (x y : X) → Next e prev curr b from to t → WentOverBands R B cs ps ss e prev curr b x y → B y from
-  bound-before b from to t x y p r = subst (B y) (before p) (r .bound)
+  module _ (i to : ℕ) (t : Step) (p : SameStep e prev curr i to t) (h : Slices cs ps ss) where
+    -- the next band's parts
+    pub next-part : Part (partOf i to cs) (partOf i to ps) (partOf i to ss)
+    next-part =
+        let n : length (partOf i to cs) ≡ to - i = part-length i to cs (omega (arith, p .ends, h .coefficients)) in
+        record {
+          previous = part-length i to ps (omega (arith, p .ends, h .previous)) ∙ sym n;
+          sign = part-length i to ss (omega (arith, p .ends, h .sign)) ∙ sym n;
+          few = omega (arith, n, p .few);
+        }
 
-  -- a band more
-  pub bands-next : (b from to : ℕ) (t : Step) (x y z : X) → Next e prev curr b from to t → Slices cs ps ss → WentOverBands R B cs ps ss e prev curr b x y
-      → WentOver R B (bandLists t from to cs ps ss) to y z → WentOverBands R B cs ps ss e prev curr (b + 1) x z
-  bands-next b from to t x y z p h r now =
-      let f = stepOf prev curr in
-      let ts = perPlaceTo e f b in
-      let us = replicate (to - from) (f b) in
-      let n : length ts ≡ from = before p in
-      let m : length ts ≤ 4096 = omega (arith, n, p .lies .begins, band-within e b) in
-      record {
-        over = subst (λ (l : Lists). R l x z)
-            (sym
-            (ap (λ (l : List Step). passLists l cs ps ss) (place-more e f b from to (p .lies))
-            ∙ pass-append ts us cs ps ss (omega (arith, h .coefficients)) (omega (arith, h .previous)) (omega (arith, h .sign))
-            ∙ ap (λ (i : ℕ). joined (passLists ts cs ps ss) (passLists us (drop i cs) (drop i ps) (drop i ss))) n
-            ∙ ap (λ (u : Step). joined (passLists ts cs ps ss) (bandLists u from to cs ps ss)) (sym (p .step))))
-            (o .then (passLists ts cs ps ss) (bandLists t from to cs ps ss) x y z (r .over) (now .over));
-        bound = subst (B z) (with-it p) (now .bound);
-      }
+    -- and room for them
+    pub next-room : (x y : X) → WentTo R B cs ps ss e prev curr i x y → Before B y (length (partOf i to cs))
+    next-room x y r = record { done = i; bound = r .bound; left = omega (arith, part-length i to cs (omega (arith, p .ends, h .coefficients)), p .begins, p .ends) }
+
+    -- that band more
+    pub walk-on : (x y z : X) → WentTo R B cs ps ss e prev curr i x y
+        → GoesOverBand R B t (partOf i to cs) (partOf i to ps) (partOf i to ss) y z
+        → WentTo R B cs ps ss e prev curr to x z
+    walk-on x y z r now =
+        let ts = steps e prev curr in
+        let us = replicate (to - i) t in
+        let k : length (partOf i to cs) ≡ to - i = part-length i to cs (omega (arith, p .ends, h .coefficients)) in
+        let m : length (take i ts) ≡ i = length-take-le i ts (omega (arith, place-whole e (stepOf prev curr), p .begins, p .ends)) in
+        let n : length us ≡ to - i = length-replicate (to - i) t in
+        let first = passLists (take i ts) cs ps ss in
+        let all : passLists (take to ts) cs ps ss ≡ joined first (bandLists t (length (partOf i to cs)) (partOf i to cs) (partOf i to ps) (partOf i to ss)) =
+        ap (λ (l : List Step). passLists l cs ps ss) (p .more)
+        ∙ pass-append (take i ts) us cs ps ss (omega (arith, m, p .begins, p .ends, h .coefficients)) (omega (arith, m, p .begins, p .ends, h .previous)) (omega (arith, m, p .begins, p .ends, h .sign))
+        ∙ ap (λ (j : ℕ). joined first (passLists us (drop j cs) (drop j ps) (drop j ss))) m
+        ∙ ap (joined first) (sym (pass-take us (to - i) (drop i cs) (drop i ps) (drop i ss) (omega (arith, n)) (omega (arith, n, length-drop i cs, p .ends, h .coefficients)) (omega (arith, n, length-drop i ps, p .ends, h .previous)) (omega (arith, n, length-drop i ss, p .ends, h .sign))))
+        ∙ ap (λ (j : ℕ). joined first (bandLists t j (partOf i to cs) (partOf i to ps) (partOf i to ss))) (sym k) in
+        record {
+          over = subst (λ (l : Lists). R l x z) (sym all) (o .then first (bandLists t (length (partOf i to cs)) (partOf i to cs) (partOf i to ps) (partOf i to ss)) x y z (r .over) (now .over));
+          bound = subst (B z) {x = i + length (partOf i to cs)} {y = to} (omega (arith, k, p .begins)) (now .bound i (r .bound));
+        }
 
   -- all bands are the pass
-  pub bands-all : (b : ℕ) (x y : X) → b ≡ 10 → WentOverBands R B cs ps ss e prev curr b x y → WentOver R B (passLists (steps e prev curr) cs ps ss) 4096 x y
-  bands-all b x y n r =
-      let all = ap (perPlaceTo e (stepOf prev curr)) n ∙ place-all e (stepOf prev curr) in
-      record {
-        over = subst (λ (ts : List Step). R (passLists ts cs ps ss) x y) all (r .over);
-        bound = subst (B y) (ap length all ∙ place-whole e (stepOf prev curr)) (r .bound);
-      }
+  pub walk-ends : (i : ℕ) (x y : X) → i ≡ 4096 → WentTo R B cs ps ss e prev curr i x y → WentOver R B (passLists (steps e prev curr) cs ps ss) 4096 x y
+  walk-ends i x y n r =
+      let all : take i (steps e prev curr) ≡ steps e prev curr = take-all i (steps e prev curr) (omega (arith, n, place-whole e (stepOf prev curr))) in
+      record { over = subst (λ (ts : List Step). R (passLists ts cs ps ss) x y) all (r .over); bound = subst (B y) n (r .bound) }

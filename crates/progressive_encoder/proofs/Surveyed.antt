@@ -17,7 +17,7 @@ use Rattle.srl_encoder.specs.Inner.{largest}
 use Rattle.upgrade_steps.specs.Steps.{Step, Source, skipped, srl, raw, sourceOf, source}
 use Rattle.upgrade_steps.specs.Inner.{fromSrl}
 use Rattle.progressive_encoder.specs.Encode.{srlDifference, rawDifference, srlGiven, rawGiven, rawStream, anyTooLarge}
-use Rattle.progressive_encoder.specs.Inner.{Lists, placeLists, bandLists, Lent, oneIf, onlyIf, magnitudes, surveyOf, Counts, Surveys, noTotal, Few}
+use Rattle.progressive_encoder.specs.Inner.{Lists, placeLists, bandLists, Part, oneIf, onlyIf, magnitudes, surveyOf, Counts, Surveys, noTotal, Few}
 use Rattle.progressive_encoder.specs.declared.writer.Survey.{Survey}
 use Rattle.progressive_encoder.specs.declared.writer.Total.{Total}
 use Rattle.progressive_encoder.proofs.Placewise.{Placewise, given, chain, of-band, place-srl, place-raw}
@@ -88,7 +88,7 @@ surveys-placewise = record {
 -- ════ a band that is not skipped: its values are as many as the places that have no number, and all have one width ════
 
 -- each place has a value or a number
-band-count : (t : Step) → 1 ≤ t .width → (cs ps ss : List ℤ) (from to : ℕ) → Lent cs ps ss from to → length (bandLists t from to cs ps ss .values) + length (bandLists t from to cs ps ss .numbers) ≡ to - from
+band-count : (t : Step) → 1 ≤ t .width → (cs ps ss : List ℤ) → Part cs ps ss → length (bandLists t (length cs) cs ps ss .values) + length (bandLists t (length cs) cs ps ss .numbers) ≡ length cs
 band-count t h = of-band t (λ n l. length (l .values) + length (l .numbers) ≡ n) refl (λ n c p s l e. by (t .bottom) (t .width) (isZero s) h (srlDifference (t .position) c p) (rawDifference (t .position) c p) (l .values) (l .numbers) n e)
   where
     by : (b : Bool) (w : ℕ) (z : Bool) → 1 ≤ w → (v : ℤ) (m : ℕ) (vs : List ℤ) (ms : List ℕ) (n : ℕ) → length vs + length ms ≡ n → length (srlGiven (sourceOf b w z) v vs) + length (rawGiven (sourceOf b w z) m ms) ≡ suc n
@@ -98,8 +98,8 @@ band-count t h = of-band t (λ n l. length (l .values) + length (l .numbers) ≡
     by false (suc w) false h v m vs ms n e = omega (arith, e)
 
 -- so many numbers take so many bits
-band-bits : (t : Step) (cs ps ss : List ℤ) (from to : ℕ) → Lent cs ps ss from to → (ns ms : List ℕ)
-    → length (bitsOfAll (bandLists t from to cs ps ss .numberWidths ++ ns) (bandLists t from to cs ps ss .numbers ++ ms)) ≡ length (bandLists t from to cs ps ss .numbers) * t .width + length (bitsOfAll ns ms)
+band-bits : (t : Step) (cs ps ss : List ℤ) → Part cs ps ss → (ns ms : List ℕ)
+    → length (bitsOfAll (bandLists t (length cs) cs ps ss .numberWidths ++ ns) (bandLists t (length cs) cs ps ss .numbers ++ ms)) ≡ length (bandLists t (length cs) cs ps ss .numbers) * t .width + length (bitsOfAll ns ms)
 unfolding bitsOfAll
 band-bits t = of-band t Good (λ ns ms. omega arith) (λ n c p s l g. by (source t s) c p l g)
   where
@@ -123,8 +123,8 @@ max-ltb m a b = by (ltb m a) refl (ltb m b) refl
     by false e false f = le-ltb m (max a b) (omega (arith, ltb-false m a e, ltb-false m b f))
 
 -- none is too large if the largest is not
-band-large : (t : Step) (cs ps ss : List ℤ) (from to : ℕ) → Lent cs ps ss from to → (ws : List ℕ) (us : List ℤ)
-    → anyTooLarge (bandLists t from to cs ps ss .widths ++ ws) (bandLists t from to cs ps ss .values ++ us) ≡ (ltb (2 ^ t .width - 1) (largest (bandLists t from to cs ps ss .values)) || anyTooLarge ws us)
+band-large : (t : Step) (cs ps ss : List ℤ) → Part cs ps ss → (ws : List ℕ) (us : List ℤ)
+    → anyTooLarge (bandLists t (length cs) cs ps ss .widths ++ ws) (bandLists t (length cs) cs ps ss .values ++ us) ≡ (ltb (2 ^ t .width - 1) (largest (bandLists t (length cs) cs ps ss .values)) || anyTooLarge ws us)
 unfolding anyTooLarge
 band-large t = of-band t Good (λ ws us. ap (λ (b : Bool). b || anyTooLarge ws us) (sym (le-ltb (2 ^ t .width - 1) 0 (omega arith)))) (λ n c p s l g. by (source t s) c p l g)
   where
@@ -142,34 +142,32 @@ band-large t = of-band t Good (λ ws us. ap (λ (b : Bool). b || anyTooLarge ws 
         ∙ ap (λ (b : Bool). b || anyTooLarge ws us) (sym (max-ltb m a (largest (l .values))))
 
 -- so a band is surveyed by its values: s is what was counted of them, d what was before and r what is then
-pub band-surveys : (t : Step) (cs ps ss : List ℤ) (from to : ℕ) → Lent cs ps ss from to → 1 ≤ t .width → (s : Survey) → Counts (bandLists t from to cs ps ss) (surveyOf 0 0 0) s
-    → (d r : Total) → r .count ≡ d .count + s .count → r .sum ≡ d .sum + s .sum → r .«raw_bits» ≡ d .«raw_bits» + (to - from - s .count) * t .width
-    → r .bad ≡ (d .bad || ltb (2 ^ t .width - 1) (s .largest)) → Surveys (bandLists t from to cs ps ss) d r
-band-surveys t cs ps ss from to h w s k d r a b e f =
-    let l = bandLists t from to cs ps ss in
+pub band-surveys : (t : Step) (cs ps ss : List ℤ) → Part cs ps ss → 1 ≤ t .width → (s : Survey) → Counts (bandLists t (length cs) cs ps ss) (surveyOf 0 0 0) s
+    → (d r : Total) → r .count ≡ d .count + s .count → r .sum ≡ d .sum + s .sum → r .«raw_bits» ≡ d .«raw_bits» + (length cs - s .count) * t .width
+    → r .bad ≡ (d .bad || ltb (2 ^ t .width - 1) (s .largest)) → Surveys (bandLists t (length cs) cs ps ss) d r
+band-surveys t cs ps ss h w s k d r a b e f =
+    let l = bandLists t (length cs) cs ps ss in
     let most : s .largest ≡ largest (l .values) = omega (arith, k .most) in
-    let left : to - from - s .count ≡ length (l .numbers) = omega (arith, k .count, band-count t w cs ps ss from to h) in
+    let left : length cs - s .count ≡ length (l .numbers) = omega (arith, k .count, band-count t w cs ps ss h) in
     record {
       count = omega (arith, a, k .count);
       sum = omega (arith, b, k .sum);
-      bits = λ ns ms. omega (arith, band-bits t cs ps ss from to h ns ms, e, ap (λ n. n * t .width) left);
+      bits = λ ns ms. omega (arith, band-bits t cs ps ss h ns ms, e, ap (λ n. n * t .width) left);
       bad = λ ws us.
-          ap (λ (x : Bool). d .bad || x) (band-large t cs ps ss from to h ws us)
+          ap (λ (x : Bool). d .bad || x) (band-large t cs ps ss h ws us)
           ∙ sym (or-assoc (d .bad) (ltb (2 ^ t .width - 1) (largest (l .values))) (anyTooLarge ws us))
           ∙ ap (λ n. (d .bad || ltb (2 ^ t .width - 1) n) || anyTooLarge ws us) (sym most)
           ∙ ap (λ (x : Bool). x || anyTooLarge ws us) (sym f);
     }
 
 -- and adds no more than its places can
-pub band-few : (from to w : ℕ) (s : Survey) (d r : Total) → from ≤ to → w ≤ 15 → s .count ≤ to - from → s .sum ≤ 32768 * (to - from) → Few d from
-    → r .count ≡ d .count + s .count → r .sum ≡ d .sum + s .sum → r .«raw_bits» ≡ d .«raw_bits» + (to - from - s .count) * w → Few r to
-band-few from to w s d r h j m n k a b e =
-    let x : to - from - s .count ≤ to - from = omega arith in
-    record {
-      count = omega (arith, a, k .count);
-      sum = omega (arith, b, k .sum);
-      bits = omega (arith, e, k .bits, mul-le-mul-left (to - from - s .count) j);
-    }
+pub band-few : (k w : ℕ) (s : Survey) (d r : Total) → w ≤ 15 → s .count ≤ k → s .sum ≤ 32768 * k
+    → r .count ≡ d .count + s .count → r .sum ≡ d .sum + s .sum → r .«raw_bits» ≡ d .«raw_bits» + (k - s .count) * w → (n : ℕ) → Few d n → Few r (n + k)
+band-few k w s d r j m h a b e n f = record {
+  count = omega (arith, a, f .count);
+  sum = omega (arith, b, f .sum);
+  bits = omega (arith, e, f .bits, mul-le-mul-left (k - s .count) j);
+}
 
 -- what some places can amount to, more places can
 pub few-on : (d : Total) (i j : ℕ) → i ≤ j → Few d i → Few d j

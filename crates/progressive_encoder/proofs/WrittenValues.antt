@@ -30,8 +30,7 @@ use Rattle.srl_encoder.proofs.Sizes.{value-length}
 use Rattle.upgrade_steps.specs.Steps.{Step}
 use Rattle.upgrade_steps.specs.Inner.{fromSrl}
 use Rattle.progressive_encoder.specs.Encode.{srlDifference, rawDifference, srlStream, rawStream}
-use Rattle.progressive_encoder.specs.Inner.{Lists, placeLists, magnitudes, measuredOf, endCount, Measures, Measurable, freshSinks, streamAfter, streamWrite, endLength, endOut, Outputs, outputs, Stores, Writable}
-use Rattle.progressive_encoder.specs.declared.writer.Sinks.{Sinks}
+use Rattle.progressive_encoder.specs.Inner.{Lists, placeLists, GoesOver, magnitudes, measuredOf, endCount, Measures, Measurable, freshSinks, streamAfter, streamWrite, endLength, endOut, Outputs, outputs, Stores, Writable, Ready}
 use Rattle.progressive_encoder.proofs.Placewise.{Placewise, chain, place-srl, place-raw}
 
 -- ════ how large ════
@@ -196,7 +195,7 @@ module _ (t : Step) (c p s : ℤ) (h : 1 ≤ t .width) where
   measures-raw q x = subst (λ (l : Lists). Measures l x x) (sym (place-raw t c p s h q)) (record { count = λ ws us. refl })
 
 -- a value 0 takes no bits, and one more zero is pending
-pub measured-zero : (w : ℕ) (p : Measured) → p .«bit_count» ≤ 7 → measuredOf (p .at) (p .«bit_count») (p .kp) (p .zeros + 1) ≡ valueMeasure w p (pos 0)
+measured-zero : (w : ℕ) (p : Measured) → p .«bit_count» ≤ 7 → measuredOf (p .at) (p .«bit_count») (p .kp) (p .zeros + 1) ≡ valueMeasure w p (pos 0)
 measured-zero w p h = ap (λ (n : BitCount). measuredOf (n .at) (n .«bit_count») (p .kp) (p .zeros + 1)) (counted-none (bitCountOf p) h)
 
 -- what is measured can go on
@@ -209,6 +208,13 @@ measurable-value w i x y q c p e m =
       early = omega (arith, value-length w (x .kp) (x .zeros) v (m .good .1), difference-small q c p, m .good .0, m .early);
       few = omega (arith, m .few, value-zeros (x .zeros) v);
     })
+
+-- a place whose value is 0
+pub measures-zero : (t : Step) (c p s : ℤ) → 1 ≤ t .width → fromSrl t s ≡ true → srlDifference (t .position) c p ≡ pos 0 → (x : Measured) → x .«bit_count» ≤ 7
+    → GoesOver Measures Measurable (placeLists t c p s) 1 x (measuredOf (x .at) (x .«bit_count») (x .kp) (x .zeros + 1))
+measures-zero t c p s h f z x b =
+    let e = measured-zero (t .width) x b ∙ ap (valueMeasure (t .width) x) (sym z) in
+    record { over = measures-srl t c p s h f x _ e; bound = λ n. measurable-value (t .width) n x _ (t .position) c p e }
 
 -- what can go on after some places can go on after more
 pub measurable-on : (p : Measured) (i j : ℕ) → i ≤ j → Measurable p i → Measurable p j
@@ -269,6 +275,17 @@ writable-value w i x y k q c p e m =
       raw-early = omega (arith, m .raw-early);
     })
 
+-- a place whose value is 0: one more zero is pending
+pub stores-zero : (t : Step) (c p s : ℤ) → 1 ≤ t .width → fromSrl t s ≡ true → srlDifference (t .position) c p ≡ pos 0 → (x : CallState) (k : BitWriter) (out rawOut : List ℕ)
+    → GoesOver Stores Ready (placeLists t c p s) 1 (outputs out rawOut (record { srl = x; raw = k }))
+    (outputs out rawOut (record { srl = record { sink = x .sink; kp = x .kp; zeros = x .zeros + 1 }; raw = k }))
+stores-zero t c p s h f z x k out rawOut =
+    let e = ap (valueState (t .width) x) (sym z) in
+    record {
+      over = stores-srl t c p s h f x k out rawOut _ out e (ap (valueWrite (t .width) out x) (sym z));
+      bound = λ n. writable-value (t .width) n x _ k (t .position) c p e;
+    }
+
 -- after a number too: l is the raw writer then
 pub writable-number : (w n i : ℕ) (x : CallState) (k l : BitWriter) → w ≤ 15 → l ≡ after k (bitsOf w n) → Writable (record { srl = x; raw = k }) i → Writable (record { srl = x; raw = l }) (i + 1)
 writable-number w n i x k l h e m = record {
@@ -279,5 +296,5 @@ writable-number w n i x k l h e m = record {
 }
 
 -- writers that can go on after some places can go on after more
-pub writable-on : (k : Sinks) (i j : ℕ) → i ≤ j → Writable k i → Writable k j
-writable-on k i j h m = record { good = m .good; early = omega (arith, m .early); sound = m .sound; raw-early = omega (arith, m .raw-early) }
+pub ready-on : (o : Outputs) (i j : ℕ) → i ≤ j → Ready o i → Ready o j
+ready-on o i j h m = record { good = m .good; early = omega (arith, m .early); sound = m .sound; raw-early = omega (arith, m .raw-early) }

@@ -4,9 +4,9 @@
 use mathlib.Core.Path.{_≡_}
 use mathlib.Core.Bool.{Bool, true, false, _||_}
 use mathlib.Core.List.{List, [], _∷_, _++_}
-use Prim.Native.Nat.{ℕ, zero, suc, _+_, _-_, _*_, _≤_, max}
+use Prim.Native.Nat.{ℕ, zero, suc, _+_, _*_, _≤_, max}
 use lib.IntN.{ℤ, natAbs}
-use lib.ListN.{length, drop, set, replicate}
+use lib.ListN.{length, set, replicate}
 use lib.Seq.{sets}
 use Rattle.bits.specs.Written.{bitsOfAll, writer, after}
 use Rattle.bits.specs.Inner.{Sound, write, padCount, padOut, counted}
@@ -45,9 +45,9 @@ passLists ts cs ps ss = lists (srlDifferences ts cs ps ss) (srlWidths ts ss) (ra
 abbrev pub placeLists : Step → ℤ → ℤ → ℤ → Lists
 placeLists t c p s = passLists (t ∷ []) (c ∷ []) (p ∷ []) (s ∷ [])
 
--- of the places of a band
-abbrev pub bandLists : Step → ℕ → ℕ → List ℤ → List ℤ → List ℤ → Lists
-bandLists t from to cs ps ss = passLists (replicate (to - from) t) (drop from cs) (drop from ps) (drop from ss)
+-- of the first n places of a band
+abbrev pub bandLists : Step → ℕ → List ℤ → List ℤ → List ℤ → Lists
+bandLists t n cs ps ss = passLists (replicate n t) cs ps ss
 
 -- a slice has an element for each place of a component
 abbrev pub Long : {A : Type 0} → List A → Type 0
@@ -59,16 +59,31 @@ pub record Slices (cs ps ss : List ℤ) : Type 0 where
   pub previous : Long ps
   pub sign : Long ss
 
--- some places lie in them
-pub record Lent (cs ps ss : List ℤ) (from to : ℕ) : Type 0 where
-  pub begins : from ≤ to
-  pub ends : to ≤ 4096
-  pub slices : Slices cs ps ss
+-- a band's part of each
+pub record Part (cs ps ss : List ℤ) : Type 0 where
+  pub previous : length ps ≡ length cs
+  pub sign : length ss ≡ length cs
+  pub few : length cs ≤ 1024
 
 -- a walk over what places give: R is what it does from x to y, and B what y can amount to after the first n places
 pub record WentOver {X : Type 0} (R : Lists → X → X → Type 0) (B : X → ℕ → Type 0) (l : Lists) (n : ℕ) (x y : X) : Type 0 where
   pub over : R l x y
   pub bound : B y n
+
+-- the same for k places more, after however many: they come behind any n
+pub record GoesOver {X : Type 0} (R : Lists → X → X → Type 0) (B : X → ℕ → Type 0) (l : Lists) (k : ℕ) (x y : X) : Type 0 where
+  pub over : R l x y
+  pub bound : (n : ℕ) → B x n → B y (n + k)
+
+-- all places of a band's part
+abbrev pub GoesOverBand : {X : Type 0} (R : Lists → X → X → Type 0) (B : X → ℕ → Type 0) (t : Step) (cs ps ss : List ℤ) (x y : X) → Type 0
+GoesOverBand R B t cs ps ss x y = GoesOver R B (bandLists t (length cs) cs ps ss) (length cs) x y
+
+-- x is what a walk can have come to, with k places and perhaps others still before it
+pub record Before {X : Type 0} (B : X → ℕ → Type 0) (x : X) (k : ℕ) : Type 0 where
+  pub done : ℕ
+  pub bound : B x done
+  pub left : done + k ≤ 4096
 
 -- ════ surveying ════
 
@@ -98,10 +113,10 @@ pub record Counts (l : Lists) (x y : Survey) : Type 0 where
   pub most : y .largest ≡ max (x .largest) (largest (l .values))
 
 -- those of a band that is not skipped, from none on: there are no more than its places, and each has sixteen bits
-pub record CountsBand (t : Step) (from to : ℕ) (cs ps ss : List ℤ) (r : Survey) : Type 0 where
-  pub counts : Counts (bandLists t from to cs ps ss) (surveyOf 0 0 0) r
-  pub few : r .count ≤ to - from
-  pub small : r .sum ≤ 32768 * (to - from)
+pub record CountsBand (t : Step) (cs ps ss : List ℤ) (r : Survey) : Type 0 where
+  pub counts : Counts (bandLists t (length cs) cs ps ss) (surveyOf 0 0 0) r
+  pub few : r .count ≤ length cs
+  pub small : r .sum ≤ 32768 * length cs
 
 -- the same, with the raw bits and whether a value is too large
 pub record Surveys (l : Lists) (x y : Total) : Type 0 where

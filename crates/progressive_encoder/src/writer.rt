@@ -1,18 +1,20 @@
 // The writer of a pass. A refusal alters nothing, so all places are surveyed before a byte is stored, and measured where the survey does not
-// show that there is room. Each of the three is a walk over the places, band by band.
+// show that there is room. Each of the three is a walk over the places, from band to band by the table of places; a band is lent as a part of each
+// slice.
 ghost use mathlib.Core.Path.{_≡_};
 ghost use mathlib.Core.Bool.{true, false, _||_};
-ghost use Prim.Native.Nat.{_+_, _-_, _*_, _/_, _^_, _≤_, _<_};
+ghost use Prim.Native.Nat.{_+_, _-_, _*_, _/_, _^_, _≤_};
 ghost use lib.Dec.{ltb};
 ghost use lib.IntN.{pos};
 ghost use lib.ListN.{length};
+ghost use Rattle.bands.specs.Bands.{bandsOf};
 ghost use Rattle.bands.specs.Positions.{rowInDomain};
 ghost use Rattle.srl_rules.specs.Inner.{Width};
 ghost use Rattle.srl_encoder.specs.Inner.{Good};
 ghost use Rattle.upgrade_steps.specs.Steps.{steps};
-ghost use Rattle.upgrade_steps.specs.Inner.{bandStep};
+ghost use Rattle.upgrade_steps.specs.Inner.{bandStep, fromSrl};
 ghost use Rattle.progressive_encoder.specs.Encode.{srlDifference, rawDifference, srlDifferences, srlBytes};
-ghost use Rattle.progressive_encoder.specs.Inner.{passLists, placeLists, bandLists, Slices, Lent, WentOver, oneIf, onlyIf, CountsBand, Surveys, noTotal, Few, measuredOf, Measures, Measurable, sinksOf, freshSinks, outputs, Stores, Writable, Ready, endLength, endOut, StoresStreams, WritesStreams};
+ghost use Rattle.progressive_encoder.specs.Inner.{passLists, placeLists, Slices, Part, WentOver, GoesOver, GoesOverBand, Before, oneIf, onlyIf, CountsBand, Surveys, noTotal, Few, measuredOf, Measures, Measurable, sinksOf, freshSinks, outputs, Stores, Writable, Ready, endLength, endOut, StoresStreams, WritesStreams};
 use crate::Written;
 
 // What a band has for the SRL stream: how many values, the sum of their magnitudes, and the largest.
@@ -53,6 +55,16 @@ fn alike(c: i16, p: i16, position: u8) -> bool
     ensures { λ r. ⌜ (r ≡ true → srlDifference position c p ≡ pos 0) ⌝ }
 {
     fixed::shift_right_floor(c, position) == fixed::shift_right_floor(p, position)
+}
+
+// Whether a place of a band that is not skipped has the SRL value 0, as most have.
+fn zero_value(t: upgrade_steps::BandStep, c: i16, p: i16, s: i8) -> bool
+    ensures { λ r. ⌜ (r ≡ true → (fromSrl (bandStep t) s ≡ true) × (srlDifference (t .position) c p ≡ pos 0)) ⌝ }
+{
+    if !upgrade_steps::from_srl(t, s) {
+        return false;
+    }
+    alike(c, p, t.position)
 }
 
 // The number for the raw stream.
@@ -101,17 +113,15 @@ fn survey_band(
     prev_coefficients: &[i16],
     sign: &[i8],
     t: upgrade_steps::BandStep,
-    from: usize,
-    to: usize,
 ) -> Survey
-    requires { ⌜ Lent (now coefficients) (now «prev_coefficients») (now sign) from to × (1 ≤ t .width) ⌝ }
-    ensures { λ r. ⌜ CountsBand (bandStep t) from to (now (coefficients .entry)) (now («prev_coefficients» .entry)) (now (sign .entry)) r ⌝ }
+    requires { ⌜ Part (now coefficients) (now «prev_coefficients») (now sign) × (1 ≤ t .width) ⌝ }
+    ensures { λ r. ⌜ CountsBand (bandStep t) (now (coefficients .entry)) (now («prev_coefficients» .entry)) (now (sign .entry)) r ⌝ }
 {
     let mut count: u32 = 0;
     let mut sum: u32 = 0;
     let mut largest: u16 = 0;
-    let mut i = from;
-    while i < to {
+    let mut i: usize = 0;
+    while i < coefficients.len() {
         let v = srl_difference(coefficients[i], prev_coefficients[i], t.position);
         let given = upgrade_steps::from_srl(t, sign[i]);
         let m = only_if(given, fixed::magnitude(v));
@@ -133,24 +143,22 @@ fn survey_next(
     prev_coefficients: &[i16],
     sign: &[i8],
     t: upgrade_steps::BandStep,
-    from: usize,
-    to: usize,
     done: Total,
 ) -> Total
-    requires { ⌜ Lent (now coefficients) (now «prev_coefficients») (now sign) from to × (t .width ≤ 15) × Few done from ⌝ }
-    ensures { λ r. ⌜ WentOver Surveys Few
-        (bandLists (bandStep t) from to (now (coefficients .entry)) (now («prev_coefficients» .entry)) (now (sign .entry)))
-        to done r ⌝ }
+    requires { ⌜ Part (now coefficients) (now «prev_coefficients») (now sign) × (t .width ≤ 15) × Before Few done (length (now coefficients)) ⌝ }
+    ensures { λ r. ⌜ GoesOverBand Surveys Few (bandStep t)
+        (now (coefficients .entry)) (now («prev_coefficients» .entry)) (now (sign .entry))
+        done r ⌝ }
 {
     if t.width == 0 {
         return done;
     }
-    let s = survey_band(coefficients, prev_coefficients, sign, t, from, to);
+    let s = survey_band(coefficients, prev_coefficients, sign, t);
     let n = s.count as usize;
     Total {
         count: done.count + n,
         sum: done.sum + (s.sum as usize),
-        raw_bits: done.raw_bits + (to - from - n) * (t.width as usize),
+        raw_bits: done.raw_bits + (coefficients.len() - n) * (t.width as usize),
         bad: either(done.bad, too_large(s.largest, t.width)),
     }
 }
@@ -163,8 +171,11 @@ fn survey_bands(
     curr: [u8; 10],
     sign: &[i8],
     use_reduce_extrapolate: bool,
+    table: &[u8; 4096],
 ) -> Total
-    requires { ⌜ (rowInDomain prev ≡ true) × Slices (now coefficients) (now «prev_coefficients») (now sign) ⌝ }
+    requires { ⌜ (now table ≡ bandsOf «use_reduce_extrapolate»)
+        × (rowInDomain prev ≡ true)
+        × Slices (now coefficients) (now «prev_coefficients») (now sign) ⌝ }
     ensures { λ r. ⌜ WentOver Surveys Few
         (passLists (steps «use_reduce_extrapolate» prev curr) (now (coefficients .entry)) (now («prev_coefficients» .entry)) (now (sign .entry)))
         4096 noTotal r ⌝ }
@@ -175,14 +186,20 @@ fn survey_bands(
         raw_bits: 0,
         bad: false,
     };
-    let mut b: usize = 0;
-    while b < bands::NUM_BANDS {
-        let t = upgrade_steps::band_step(b, prev[b], curr[b]);
-        let span = bands::span::band_span(use_reduce_extrapolate, b);
-        let from = span.from;
-        let to = span.to;
-        done = survey_next(coefficients, prev_coefficients, sign, t, from, to, done);
-        b += 1;
+    let ends = bands::band_ends(use_reduce_extrapolate);
+    let mut i: usize = 0;
+    while i < bands::COEFFICIENTS_PER_COMPONENT {
+        let stretch = upgrade_steps::stretch_at(table, ends, prev, curr, i);
+        let t = stretch.step;
+        let to = stretch.to;
+        done = survey_next(
+            &coefficients[i..to],
+            &prev_coefficients[i..to],
+            &sign[i..to],
+            t,
+            done,
+        );
+        i = to;
     }
     done
 }
@@ -201,42 +218,36 @@ fn measured_of(at: usize, bit_count: u8, kp: u8, zeros: usize) -> srl_encoder::e
     }
 }
 
-// One place of a band that is not skipped. Most values are 0, so that is looked at first.
+// One place of a band that is not skipped.
 fn measure_place(
     start: srl_encoder::encoder::Measured,
     t: upgrade_steps::BandStep,
     c: i16,
     p: i16,
     s: i8,
-    i: usize,
 ) -> srl_encoder::encoder::Measured
-    requires { ⌜ Width (t .width) × Measurable start i × (i < 4096) ⌝ }
-    ensures { λ r. ⌜ WentOver Measures Measurable (placeLists (bandStep t) c p s) (i + 1) start r ⌝ }
+    requires { ⌜ Width (t .width) × Before Measurable start 1 ⌝ }
+    ensures { λ r. ⌜ GoesOver Measures Measurable (placeLists (bandStep t) c p s) 1 start r ⌝ }
 {
     if !upgrade_steps::from_srl(t, s) {
         return start;
-    }
-    if alike(c, p, t.position) {
-        return measured_of(start.at, start.bit_count, start.kp, start.zeros + 1);
     }
     let v = srl_difference(c, p, t.position);
     srl_encoder::encoder::measure_value(start, v, t.width)
 }
 
-// One band more: of width 0 it is skipped. The loop keeps the parts of what is measured, as the reader's `upgrade_band` does.
+// One band more: of width 0 it is skipped. The loop keeps the parts of what is measured, and looks first whether a value is 0.
 fn measure_band(
     coefficients: &[i16],
     prev_coefficients: &[i16],
     sign: &[i8],
     t: upgrade_steps::BandStep,
-    from: usize,
-    to: usize,
     start: srl_encoder::encoder::Measured,
 ) -> srl_encoder::encoder::Measured
-    requires { ⌜ Lent (now coefficients) (now «prev_coefficients») (now sign) from to × (t .width ≤ 15) × Measurable start from ⌝ }
-    ensures { λ r. ⌜ WentOver Measures Measurable
-        (bandLists (bandStep t) from to (now (coefficients .entry)) (now («prev_coefficients» .entry)) (now (sign .entry)))
-        to start r ⌝ }
+    requires { ⌜ Part (now coefficients) (now «prev_coefficients») (now sign) × (t .width ≤ 15) × Before Measurable start (length (now coefficients)) ⌝ }
+    ensures { λ r. ⌜ GoesOverBand Measures Measurable (bandStep t)
+        (now (coefficients .entry)) (now («prev_coefficients» .entry)) (now (sign .entry))
+        start r ⌝ }
 {
     if t.width == 0 {
         return start;
@@ -245,16 +256,20 @@ fn measure_band(
     let mut bit_count = start.bit_count;
     let mut kp = start.kp;
     let mut zeros = start.zeros;
-    let mut i = from;
-    while i < to {
+    let mut i: usize = 0;
+    while i < coefficients.len() {
         let c = coefficients[i];
         let p = prev_coefficients[i];
         let s = sign[i];
-        let next = measure_place(measured_of(at, bit_count, kp, zeros), t, c, p, s, i);
-        at = next.at;
-        bit_count = next.bit_count;
-        kp = next.kp;
-        zeros = next.zeros;
+        if zero_value(t, c, p, s) {
+            zeros += 1;
+        } else {
+            let next = measure_place(measured_of(at, bit_count, kp, zeros), t, c, p, s);
+            at = next.at;
+            bit_count = next.bit_count;
+            kp = next.kp;
+            zeros = next.zeros;
+        }
         i += 1;
     }
     measured_of(at, bit_count, kp, zeros)
@@ -268,21 +283,30 @@ fn measure_bands(
     curr: [u8; 10],
     sign: &[i8],
     use_reduce_extrapolate: bool,
+    table: &[u8; 4096],
 ) -> srl_encoder::encoder::Measured
-    requires { ⌜ (rowInDomain prev ≡ true) × Slices (now coefficients) (now «prev_coefficients») (now sign) ⌝ }
+    requires { ⌜ (now table ≡ bandsOf «use_reduce_extrapolate»)
+        × (rowInDomain prev ≡ true)
+        × Slices (now coefficients) (now «prev_coefficients») (now sign) ⌝ }
     ensures { λ r. ⌜ WentOver Measures Measurable
         (passLists (steps «use_reduce_extrapolate» prev curr) (now (coefficients .entry)) (now («prev_coefficients» .entry)) (now (sign .entry)))
         4096 (measuredOf 0 0 8 0) r ⌝ }
 {
     let mut cur = measured_of(0, 0, 8, 0);
-    let mut b: usize = 0;
-    while b < bands::NUM_BANDS {
-        let t = upgrade_steps::band_step(b, prev[b], curr[b]);
-        let span = bands::span::band_span(use_reduce_extrapolate, b);
-        let from = span.from;
-        let to = span.to;
-        cur = measure_band(coefficients, prev_coefficients, sign, t, from, to, cur);
-        b += 1;
+    let ends = bands::band_ends(use_reduce_extrapolate);
+    let mut i: usize = 0;
+    while i < bands::COEFFICIENTS_PER_COMPONENT {
+        let stretch = upgrade_steps::stretch_at(table, ends, prev, curr, i);
+        let t = stretch.step;
+        let to = stretch.to;
+        cur = measure_band(
+            &coefficients[i..to],
+            &prev_coefficients[i..to],
+            &sign[i..to],
+            t,
+            cur,
+        );
+        i = to;
     }
     cur
 }
@@ -295,9 +319,11 @@ fn srl_length(
     curr: [u8; 10],
     sign: &[i8],
     use_reduce_extrapolate: bool,
+    table: &[u8; 4096],
     count: usize,
 ) -> usize
-    requires { ⌜ (rowInDomain prev ≡ true)
+    requires { ⌜ (now table ≡ bandsOf «use_reduce_extrapolate»)
+        × (rowInDomain prev ≡ true)
         × Slices (now coefficients) (now «prev_coefficients») (now sign)
         × (count ≡ length (srlDifferences (steps «use_reduce_extrapolate» prev curr) (now coefficients) (now «prev_coefficients») (now sign))) ⌝ }
     ensures { λ r. ⌜ r ≡ length
@@ -313,6 +339,7 @@ fn srl_length(
         curr,
         sign,
         use_reduce_extrapolate,
+        table,
     );
     let n = srl_encoder::encoder::flush_length(m.kp, m.zeros);
     m.at + ((m.bit_count as usize) + n + 7) / 8 + 1
@@ -326,10 +353,12 @@ fn srl_exceeds(
     curr: [u8; 10],
     sign: &[i8],
     use_reduce_extrapolate: bool,
+    table: &[u8; 4096],
     total: Total,
     room: usize,
 ) -> bool
-    requires { ⌜ (rowInDomain prev ≡ true)
+    requires { ⌜ (now table ≡ bandsOf «use_reduce_extrapolate»)
+        × (rowInDomain prev ≡ true)
         × Slices (now coefficients) (now «prev_coefficients») (now sign)
         × WentOver Surveys Few
         (passLists (steps «use_reduce_extrapolate» prev curr) (now coefficients) (now «prev_coefficients») (now sign))
@@ -348,6 +377,7 @@ fn srl_exceeds(
         curr,
         sign,
         use_reduce_extrapolate,
+        table,
         total.count,
     );
     room < n
@@ -386,19 +416,18 @@ fn sinks_of(
     }
 }
 
-// One place of a band that is not skipped. Most values are 0, so that is looked at first.
+// One place of a band that is not skipped.
 fn write_place(
     start: Sinks,
     t: upgrade_steps::BandStep,
     c: i16,
     p: i16,
     s: i8,
-    i: usize,
     srl_out: &mut [u8],
     raw_out: &mut [u8],
 ) -> Sinks
-    requires { ⌜ Width (t .width) × (t .position ≤ 15) × Writable start i × (i < 4096) ⌝ }
-    ensures { λ r. ⌜ WentOver Stores Ready (placeLists (bandStep t) c p s) (i + 1)
+    requires { ⌜ Width (t .width) × (t .position ≤ 15) × Before Writable start 1 ⌝ }
+    ensures { λ r. ⌜ GoesOver Stores Ready (placeLists (bandStep t) c p s) 1
         (outputs (now («srl_out» .entry)) (now («raw_out» .entry)) start)
         (outputs (now («srl_out» .exit)) (now («raw_out» .exit)) r) ⌝ }
 {
@@ -411,17 +440,6 @@ fn write_place(
             raw: bits::writer::put_bits(raw_out, k, m as usize, t.width),
         };
     }
-    if alike(c, p, t.position) {
-        let sink = a.sink;
-        return Sinks {
-            srl: srl_encoder::encoder::CallState {
-                sink,
-                kp: a.kp,
-                zeros: a.zeros + 1,
-            },
-            raw: k,
-        };
-    }
     let v = srl_difference(c, p, t.position);
     Sinks {
         srl: srl_encoder::encoder::put_value(srl_out, a, v, t.width),
@@ -429,22 +447,22 @@ fn write_place(
     }
 }
 
-// One band more: of width 0 it is skipped. The loop keeps the writers' parts, as the reader's `upgrade_band` does.
+// One band more: of width 0 it is skipped. The loop keeps the writers' parts, and looks first whether a value is 0.
 fn write_band(
     coefficients: &[i16],
     prev_coefficients: &[i16],
     sign: &[i8],
     t: upgrade_steps::BandStep,
-    from: usize,
-    to: usize,
     start: Sinks,
     srl_out: &mut [u8],
     raw_out: &mut [u8],
 ) -> Sinks
-    requires { ⌜ Lent (now coefficients) (now «prev_coefficients») (now sign) from to × (t .width ≤ 15) × (t .position ≤ 15) × Writable start from ⌝ }
-    ensures { λ r. ⌜ WentOver Stores Ready
-        (bandLists (bandStep t) from to (now (coefficients .entry)) (now («prev_coefficients» .entry)) (now (sign .entry)))
-        to
+    requires { ⌜ Part (now coefficients) (now «prev_coefficients») (now sign)
+        × (t .width ≤ 15)
+        × (t .position ≤ 15)
+        × Before Writable start (length (now coefficients)) ⌝ }
+    ensures { λ r. ⌜ GoesOverBand Stores Ready (bandStep t)
+        (now (coefficients .entry)) (now («prev_coefficients» .entry)) (now (sign .entry))
         (outputs (now («srl_out» .entry)) (now («raw_out» .entry)) start)
         (outputs (now («srl_out» .exit)) (now («raw_out» .exit)) r) ⌝ }
 {
@@ -462,24 +480,28 @@ fn write_band(
     let mut raw_at = r.at;
     let mut raw_current = r.current;
     let mut raw_n = r.bit_count;
-    let mut i = from;
-    while i < to {
-        let cur = sinks_of(at, current, n, kp, zeros, raw_at, raw_current, raw_n);
+    let mut i: usize = 0;
+    while i < coefficients.len() {
         let c = coefficients[i];
         let p = prev_coefficients[i];
         let s = sign[i];
-        let next = write_place(cur, t, c, p, s, i, srl_out, raw_out);
-        let b = next.srl;
-        let l = b.sink;
-        let q = next.raw;
-        at = l.at;
-        current = l.current;
-        n = l.bit_count;
-        kp = b.kp;
-        zeros = b.zeros;
-        raw_at = q.at;
-        raw_current = q.current;
-        raw_n = q.bit_count;
+        if zero_value(t, c, p, s) {
+            zeros += 1;
+        } else {
+            let cur = sinks_of(at, current, n, kp, zeros, raw_at, raw_current, raw_n);
+            let next = write_place(cur, t, c, p, s, srl_out, raw_out);
+            let b = next.srl;
+            let l = b.sink;
+            let q = next.raw;
+            at = l.at;
+            current = l.current;
+            n = l.bit_count;
+            kp = b.kp;
+            zeros = b.zeros;
+            raw_at = q.at;
+            raw_current = q.current;
+            raw_n = q.bit_count;
+        }
         i += 1;
     }
     sinks_of(at, current, n, kp, zeros, raw_at, raw_current, raw_n)
@@ -493,10 +515,14 @@ fn write_bands(
     curr: [u8; 10],
     sign: &[i8],
     use_reduce_extrapolate: bool,
+    table: &[u8; 4096],
     srl_out: &mut [u8],
     raw_out: &mut [u8],
 ) -> Sinks
-    requires { ⌜ (rowInDomain prev ≡ true) × (rowInDomain curr ≡ true) × Slices (now coefficients) (now «prev_coefficients») (now sign) ⌝ }
+    requires { ⌜ (now table ≡ bandsOf «use_reduce_extrapolate»)
+        × (rowInDomain prev ≡ true)
+        × (rowInDomain curr ≡ true)
+        × Slices (now coefficients) (now «prev_coefficients») (now sign) ⌝ }
     ensures { λ r. ⌜ WentOver Stores Ready
         (passLists (steps «use_reduce_extrapolate» prev curr) (now (coefficients .entry)) (now («prev_coefficients» .entry)) (now (sign .entry)))
         4096
@@ -504,24 +530,22 @@ fn write_bands(
         (outputs (now («srl_out» .exit)) (now («raw_out» .exit)) r) ⌝ }
 {
     let mut cur = sinks_of(0, 0, 0, 8, 0, 0, 0, 0);
-    let mut b: usize = 0;
-    while b < bands::NUM_BANDS {
-        let t = upgrade_steps::band_step(b, prev[b], curr[b]);
-        let span = bands::span::band_span(use_reduce_extrapolate, b);
-        let from = span.from;
-        let to = span.to;
+    let ends = bands::band_ends(use_reduce_extrapolate);
+    let mut i: usize = 0;
+    while i < bands::COEFFICIENTS_PER_COMPONENT {
+        let stretch = upgrade_steps::stretch_at(table, ends, prev, curr, i);
+        let t = stretch.step;
+        let to = stretch.to;
         cur = write_band(
-            coefficients,
-            prev_coefficients,
-            sign,
+            &coefficients[i..to],
+            &prev_coefficients[i..to],
+            &sign[i..to],
             t,
-            from,
-            to,
             cur,
             srl_out,
             raw_out,
         );
-        b += 1;
+        i = to;
     }
     cur
 }
@@ -548,11 +572,13 @@ fn write_streams(
     curr: [u8; 10],
     sign: &[i8],
     use_reduce_extrapolate: bool,
+    table: &[u8; 4096],
     count: usize,
     srl_out: &mut [u8],
     raw_out: &mut [u8],
 ) -> Written
-    requires { ⌜ (rowInDomain prev ≡ true)
+    requires { ⌜ (now table ≡ bandsOf «use_reduce_extrapolate»)
+        × (rowInDomain prev ≡ true)
         × (rowInDomain curr ≡ true)
         × Slices (now coefficients) (now «prev_coefficients») (now sign)
         × (count ≡ length (srlDifferences (steps «use_reduce_extrapolate» prev curr) (now coefficients) (now «prev_coefficients») (now sign))) ⌝ }
@@ -567,6 +593,7 @@ fn write_streams(
         curr,
         sign,
         use_reduce_extrapolate,
+        table,
         srl_out,
         raw_out,
     );
@@ -591,6 +618,7 @@ pub fn write_pass(
         (passLists (steps «use_reduce_extrapolate» prev curr) (now (coefficients .entry)) (now («prev_coefficients» .entry)) (now (sign .entry)))
         (now («srl_out» .entry)) (now («raw_out» .entry)) r (now («srl_out» .exit)) (now («raw_out» .exit)) ⌝ }
 {
+    let table = bands::bands_of_places(use_reduce_extrapolate);
     let total = survey_bands(
         coefficients,
         prev_coefficients,
@@ -598,6 +626,7 @@ pub fn write_pass(
         curr,
         sign,
         use_reduce_extrapolate,
+        &table,
     );
     if total.bad {
         return Written::Refused(answer::MAGNITUDE_OUT_OF_RANGE);
@@ -612,6 +641,7 @@ pub fn write_pass(
         curr,
         sign,
         use_reduce_extrapolate,
+        &table,
         total,
         srl_out.len(),
     ) {
@@ -624,6 +654,7 @@ pub fn write_pass(
         curr,
         sign,
         use_reduce_extrapolate,
+        &table,
         total.count,
         srl_out,
         raw_out,

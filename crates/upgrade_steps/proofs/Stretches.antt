@@ -1,16 +1,16 @@
 -- The places of a pass, from band to band. Assumes nothing.
-use mathlib.Core.Path.{_≡_, refl, ap, _∙_}
+use mathlib.Core.Path.{_≡_, refl, ap}
 use mathlib.Core.Bool.{Bool, true, false}
-use mathlib.Core.List.{List, _++_}
+use mathlib.Core.List.{List}
 use Prim.Native.Nat.{ℕ, _-_, _≤_, _<_}
 use native.Mathlib.Omega.{arith}
 use borrow.Author.Tests.{ltb-true, ltb-false}
 use lib.Dec.{ltb}
-use lib.ListN.{length, getD, take, replicate, List·getD-eq-default}
+use lib.ListN.{length, getD, List·getD-eq-default}
 use Rattle.bands.specs.Positions.{rowInDomain}
 use Rattle.bands.proofs.Every.{low-position}
 use Rattle.bands.proofs.Places.{bandBy, endBy, stretch, stretch-more}
-use Rattle.upgrade_steps.specs.Steps.{Step, stepOf, steps}
+use Rattle.upgrade_steps.specs.Steps.{Step, stepOf}
 use Rattle.upgrade_steps.specs.Inner.{SameStep}
 
 -- a row in the domain has low positions, and past its end they are 0

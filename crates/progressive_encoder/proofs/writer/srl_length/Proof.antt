@@ -16,7 +16,7 @@ returns : tie.Need-returns
 returns c =
     let a = c .before .args in
     let ts = steps (a .use-reduce-extrapolate) (a .prev) (a .curr) in
-    sym (ap length (stream-none (srlWidths ts (a .sign .now)) (srlDifferences ts (a .coefficients .now) (a .prev-coefficients .now) (a .sign .now)) (sym (c .before .pre .2) ∙ c .if1 .taken)))
+    sym (ap length (stream-none (srlWidths ts (a .sign .now)) (srlDifferences ts (a .coefficients .now) (a .prev-coefficients .now) (a .sign .now)) (sym (c .before .pre .3) ∙ c .if1 .taken)))
 
 -- the pending zeros take few bits
 few : (c : tie.After-flush-length) → c .flush-length .result ≤ 4107
@@ -42,7 +42,7 @@ returns-2 c =
     let a = k .args in
     let m = c .before .before .before .measure-bands in
     let l = passLists (steps (a .use-reduce-extrapolate) (a .prev) (a .curr)) (a .coefficients .now) (a .prev-coefficients .now) (a .sign .now) in
-    omega (arith, stream-length l (m .result) (m .ensures .over) (λ e. c .before .before .before .before .if1 .left (k .pre .2 ∙ e)), c .before .before .flush-length .ensures)
+    omega (arith, stream-length l (m .result) (m .ensures .over) (λ e. c .before .before .before .before .if1 .left (k .pre .3 ∙ e)), c .before .before .flush-length .ensures)
 
 pub srl-length-spec : {M : Type 1} → statement M
 srl-length-spec = tie.close (tie.spec returns (λ c κs. search needs) (λ c κs. search needs) (λ c. search needs) add-result add-result-2 add-result-3 add-result-4 returns-2)

@@ -2,7 +2,7 @@
 use mathlib.Core.Path.{_≡_, refl, sym, ap, _∙_}
 use Prim.Native.Nat.{_+_, _-_, _*_, _≤_, max}
 use native.Mathlib.Omega.{arith}
-use lib.ListN.{getD}
+use lib.ListN.{length, getD}
 use lib.IntN.{ℤ, pos, natAbs}
 use mir.Syntax.{w16}
 use Rattle.fixed.proofs.Machine.{got}
@@ -17,17 +17,17 @@ use Rattle.progressive_encoder.proofs.writer.survey_band.Statement.{sta
 use Rattle.progressive_encoder.proofs.writer.survey_band.Tie as tie
 
 abbrev Inv-loop : tie.InvT-loop
-Inv-loop coefficients prev-coefficients sign t from to count₀ sum₀ largest₀ i₀ count sum largest i =
-    (from ≤ i) × (i ≤ to) × (count ≤ i - from) × (sum ≤ 32768 * (i - from))
-    × Counts (bandLists (bandStep t) from i coefficients prev-coefficients sign) (surveyOf 0 0 0) (surveyOf count sum largest)
+Inv-loop coefficients prev-coefficients sign t count₀ sum₀ largest₀ i₀ count sum largest i =
+    (i ≤ length coefficients) × (count ≤ i) × (sum ≤ 32768 * i)
+    × Counts (bandLists (bandStep t) i coefficients prev-coefficients sign) (surveyOf 0 0 0) (surveyOf count sum largest)
 
 abbrev μ-loop : tie.MeasureT-loop
-μ-loop coefficients prev-coefficients sign t from to count₀ sum₀ largest₀ i₀ count sum largest i = to - i
+μ-loop coefficients prev-coefficients sign t count₀ sum₀ largest₀ i₀ count sum largest i = length coefficients - i
 
 loop-holds : tie.Need-loop-holds Inv-loop μ-loop
 loop-holds c =
     let a = c .args in
-    (omega arith, c .pre .0 .begins, omega arith, omega arith, band-none Counts counts-placewise (a .coefficients .now) (a .prev-coefficients .now) (a .sign .now) (bandStep (a .t)) (a .from) (surveyOf 0 0 0))
+    (omega arith, omega arith, omega arith, band-none Counts counts-placewise (a .coefficients .now) (a .prev-coefficients .now) (a .sign .now) (bandStep (a .t)) (surveyOf 0 0 0))
 
 -- the three elements of a place
 first : (c : tie.After-one-if Inv-loop μ-loop) → ℤ
@@ -68,10 +68,10 @@ only-small c =
     omega (arith, only c, only-le (fromSrl (bandStep (c .before .before .before .before .before .before .before .before .before .before .args .t)) (third c)) m, difference-small (c .before .before .before .before .before .before .before .before .before .before .args .t .position) (first c) (second c))
 
 add-count : tie.Need-add-count Inv-loop μ-loop
-add-count c = omega (arith, one-small c, c .before .before .before .before .before .before .before .before .before .loop .inv .2, c .before .before .before .before .before .before .before .before .before .before .pre .0 .ends)
+add-count c = omega (arith, one-small c, c .before .before .before .before .before .before .before .before .before .loop .inv .1, c .before .before .before .before .before .before .before .before .before .before .pre .0 .few)
 
 add-sum : tie.Need-add-sum Inv-loop μ-loop
-add-sum c = omega (arith, only-small c, c .before .before .before .before .before .before .before .before .before .loop .inv .3, c .before .before .before .before .before .before .before .before .before .before .pre .0 .ends)
+add-sum c = omega (arith, only-small c, c .before .before .before .before .before .before .before .before .before .loop .inv .2, c .before .before .before .before .before .before .before .before .before .before .pre .0 .few)
 
 loop-again : tie.Need-loop-again Inv-loop μ-loop
 unfolding first second third
@@ -81,12 +81,11 @@ loop-again c =
     let l = c .before .before .before .before .before .before .before .before .before .before .loop in
     let t = bandStep (a .t) in
     let d = c .before in (
-      omega (arith, l .inv .0),
       omega arith,
-      omega (arith, one-small d, l .inv .2, l .inv .0),
-      omega (arith, only-small d, l .inv .3, l .inv .0),
-      place-next Counts counts-placewise (a .coefficients .now) (a .prev-coefficients .now) (a .sign .now) t (a .from) (l .i) (a .to) (k .pre .0) (l .inv .0) (omega arith)
-          (surveyOf 0 0 0) (surveyOf (l .count) (l .sum) (l .largest)) _ (l .inv .4) refl refl refl
+      omega (arith, one-small d, l .inv .1),
+      omega (arith, only-small d, l .inv .2),
+      place-next Counts counts-placewise (a .coefficients .now) (a .prev-coefficients .now) (a .sign .now) t (l .i) (k .pre .0) (omega arith)
+          (surveyOf 0 0 0) (surveyOf (l .count) (l .sum) (l .largest)) _ (l .inv .3) refl refl refl
           (place-counts t (first d) (second d) (third d) (k .pre .1) (surveyOf (l .count) (l .sum) (l .largest)) _ (ap (λ n. l .count + n) (one d)) (ap (λ n. l .sum + n) (only d)) (c .larger .ensures ∙ ap (max (l .largest)) (only d))),
     )
 
@@ -95,8 +94,8 @@ returns c =
     let k = c .before .before in
     let a = k .args in
     let l = c .before .loop in
-    let e : l .i ≡ a .to = omega (arith, l .inv .1) in
-    record { counts = rw (sym e) (l .inv .4); few = omega (arith, l .inv .2); small = omega (arith, l .inv .3) }
+    let e : l .i ≡ length (a .coefficients .now) = omega (arith, l .inv .0) in
+    record { counts = rw (sym e) (l .inv .3); few = omega (arith, l .inv .1); small = omega (arith, l .inv .2) }
 
 pub survey-band-spec : {M : Type 1} → statement M
 survey-band-spec = tie.close (tie.spec Inv-loop μ-loop loop-holds (λ c. search needs) (λ c. search needs) (λ c. search needs) (λ c. search needs) (λ c κs. search needs) (λ c. search needs) (λ c κs. search needs) (λ c κs. search needs) (λ c κs. search needs) (λ c κs. search needs) add-count (λ c. search needs) add-sum (λ c κs. search needs) (λ c. search needs) (λ c. search needs) loop-again returns)

@@ -21,18 +21,18 @@ returns c =
     let n = c .before .before .before .before .before .before .end-srl .ensures in
     let m = c .before .before .put-pad .ensures in
     let d = w .result .srl in
-    let q = w .last .1 .1 .1 .1 .1 .1 .0 in
+    let q = w .last .1 .1 .1 .1 .1 .1 .1 .0 in
     let ts = steps (a .use-reduce-extrapolate) (a .prev) (a .curr) in
     let cs = a .coefficients .now in
     let ps = a .prev-coefficients .now in
     let ss = a .sign .now in
     let l = passLists ts cs ps ss in
     let all = place-whole (a .use-reduce-extrapolate) (stepOf (a .prev) (a .curr)) in
-    let same = same-length ts cs ps ss (omega (arith, all, k .pre .2 .coefficients)) (omega (arith, all, k .pre .2 .previous)) (omega (arith, all, k .pre .2 .sign)) in
+    let same = same-length ts cs ps ss (omega (arith, all, k .pre .3 .coefficients)) (omega (arith, all, k .pre .3 .previous)) (omega (arith, all, k .pre .3 .sign)) in
     let x = stream-end (l .widths) (l .values) (a .srl-out .now) q d same (s .srl-after []) (s .srl-write []) in
-    let y = raw-end (l .numberWidths) (l .numbers) (a .raw-out .now) (w .last .1 .1 .1 .1 .1 .1 .1 .0) (w .result .raw) (s .raw-after [] []) (s .raw-write [] []) (m .0) (m .1) in
-    let i = n .0 ∙ ap (λ j. endLength j d) (k .pre .3) ∙ x .0 in
-    record { answer = λ j. Bytes (i j) (y .0 j); srl = n .1 ∙ ap (λ j. endOut j q d) (k .pre .3) ∙ x .1; raw = y .1 }
+    let y = raw-end (l .numberWidths) (l .numbers) (a .raw-out .now) (w .last .1 .1 .1 .1 .1 .1 .1 .1 .0) (w .result .raw) (s .raw-after [] []) (s .raw-write [] []) (m .0) (m .1) in
+    let i = n .0 ∙ ap (λ j. endLength j d) (k .pre .4) ∙ x .0 in
+    record { answer = λ j. Bytes (i j) (y .0 j); srl = n .1 ∙ ap (λ j. endOut j q d) (k .pre .4) ∙ x .1; raw = y .1 }
 
 pub write-streams-spec : {M : Type 1} → statement M
 write-streams-spec = tie.close (tie.spec (λ c κs. search needs) (λ c κs. search needs) (λ c κs. search needs) (λ c. search needs) (λ c. search needs) returns)
