@@ -1,7 +1,7 @@
 -- The tables of places: one test, computed over all entries of both, and what a walk from band to band wants of them.
 use mathlib.Core.Bool.{Bool, true, false, _&&_}
 use mathlib.Core.List.{List, [], _∷_, _++_, map, append-nil, append-assoc}
-use mathlib.Core.Path.{_≡_, sym, ap, ap₂, _∙_, subst}
+use mathlib.Core.Path.{_≡_, refl, sym, ap, ap₂, _∙_, subst}
 use Prim.Native.Nat.{ℕ, zero, suc, _+_, _-_, _≤_, _<_}
 use native.Mathlib.Nat.{add-zero, zero-add, add-suc, suc-add}
 use native.Mathlib.Numerals.{add-one}
@@ -29,6 +29,23 @@ from-on f i (x ∷ xs) t zero h = subst (λ (m : ℕ). T (f m x)) (sym (add-zero
 from-on f i (x ∷ xs) t (suc k) h =
     subst (λ (m : ℕ). T (f m (getD xs k 0))) (suc-add i k ∙ sym (add-suc i k))
     (from-on f (suc i) xs (and-yes (f i x) (everyEntry f (suc i) xs) t .1) k (omega arith))
+
+-- ════ two lists, compared ════
+
+abbrev pub sameNumbers : List ℕ → List ℕ → Bool
+sameNumbers [] [] = true
+sameNumbers [] (y ∷ ys) = false
+sameNumbers (x ∷ xs) [] = false
+sameNumbers (x ∷ xs) (y ∷ ys) = eqb x y && sameNumbers xs ys
+
+-- by that test the code's tables are those of the definition
+pub same-is : (xs ys : List ℕ) → T (sameNumbers xs ys) → xs ≡ ys
+same-is [] [] t = refl
+same-is [] (y ∷ ys) t = absurd t
+same-is (x ∷ xs) [] t = absurd t
+same-is (x ∷ xs) (y ∷ ys) t =
+    let p = and-yes (eqb x y) (sameNumbers xs ys) t in
+    ap₂ (λ (z : ℕ) (zs : List ℕ). z ∷ zs) (eqb→eq x y (p .0)) (same-is xs ys (p .1))
 
 -- ════ the tables ════
 

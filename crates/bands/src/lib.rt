@@ -217,21 +217,6 @@ pub fn band_tables()
 
 // ---- places
 
-// The number of the band that a place belongs to, 0 to 9; of a place past the 4,096, which has none, `NO_BAND`. Who asks for many places takes the
-// table: the compiler builds a constant array at each use.
-pub fn band_of_place(use_reduce_extrapolate: bool, place: usize) -> u8
-    ensures { λ r. ⌜ r ≡ bandOfPlace (layout «use_reduce_extrapolate») place ⌝ }
-{
-    if place >= COEFFICIENTS_PER_COMPONENT {
-        return NO_BAND;
-    }
-    if use_reduce_extrapolate {
-        tables::EXTRAPOLATE[place]
-    } else {
-        tables::STANDARD[place]
-    }
-}
-
 // The table of a layout: the number of each place's band.
 pub fn bands_of_places(use_reduce_extrapolate: bool) -> [u8; 4096]
     ensures { λ r. ⌜ r ≡ bandsOf «use_reduce_extrapolate» ⌝ }
@@ -241,6 +226,18 @@ pub fn bands_of_places(use_reduce_extrapolate: bool) -> [u8; 4096]
     } else {
         tables::STANDARD
     }
+}
+
+// The number of the band that a place belongs to, 0 to 9; of a place past the 4,096, which has none, `NO_BAND`. Who asks for many places takes the
+// table: the compiler builds a constant array at each use.
+pub fn band_of_place(use_reduce_extrapolate: bool, place: usize) -> u8
+    ensures { λ r. ⌜ r ≡ bandOfPlace (layout «use_reduce_extrapolate») place ⌝ }
+{
+    if place >= COEFFICIENTS_PER_COMPONENT {
+        return NO_BAND;
+    }
+    let table = bands_of_places(use_reduce_extrapolate);
+    table[place]
 }
 
 // Where each band of a layout ends.
