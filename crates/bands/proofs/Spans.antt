@@ -40,13 +40,5 @@ module _ (l : List BandInfo) (e : Bool) (b : ℕ) (is : l ≡ layout e) where
   pub at-hand : getD l b none ≡ bandAt e b
   at-hand = ap (λ (l : List BandInfo). getD l b none) is
 
-  -- where its bands lie
-  pub hand-lies : b < 10 → Lies e b (getD l b none .offset) (getD l b none .offset + countOf (getD l b none))
-  hand-lies h = record {
-    number = h;
-    begins = ap (λ (i : BandInfo). i .offset) at-hand;
-    ends = ap (λ (i : BandInfo). getD l b none .offset + countOf i) at-hand;
-  }
-
   pub hand-within : getD l b none .offset + countOf (getD l b none) ≤ 4096
   hand-within = rw at-hand (band-within e b)

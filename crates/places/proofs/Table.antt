@@ -7,9 +7,9 @@ use native.Mathlib.Nat.{add-zero, zero-add}
 use native.Mathlib.Numerals.{add-one}
 use native.Mathlib.Omega.{arith}
 use lib.Dec.{eqb}
-use lib.ListN.{length, getD, set, take, drop, replicate, length-append, length-drop, length-replicate, length-map, List·getD-map}
+use lib.ListN.{length, getD, set, take, drop, length-append, length-drop, length-map, List·getD-map}
 use lib.Seq.{paste, paste-suc, take-paste, length-take-le, take-at, take-take, take-append-seam, take-append-add, drop-append-add, getD-take, getD-drop, getD-at}
-use Rattle.places.specs.Inner.{onesOf, onesRow, rowsFrom, placeRows, Listed}
+use Rattle.places.specs.Inner.{onesOf, eightPlaces, onesRow, rowsFrom, placeRows, Listed}
 
 -- at most k of k bits are ones
 pub ones-few : (k m : ℕ) → length (onesOf k m) ≤ k
@@ -24,11 +24,11 @@ ones-few (suc k) m = by (eqb (m % 2) 1) (onesOf k (m / 2)) (ones-few k (m / 2))
 -- ════ a row ════
 
 -- its eight numbers
-eight : (m : ℕ) → length (take 8 (onesOf 8 m ++ replicate 8 0)) ≡ 8
-eight m = length-take-le 8 (onesOf 8 m ++ replicate 8 0) (omega (arith, length-append (onesOf 8 m) (replicate 8 0), length-replicate {A = ℕ} 8 0))
+eight : (m : ℕ) → length (take 8 (onesOf 8 m ++ eightPlaces)) ≡ 8
+eight m = length-take-le 8 (onesOf 8 m ++ eightPlaces) (omega (arith, length-append (onesOf 8 m) eightPlaces))
 
 row-length : (m : ℕ) → length (onesRow m) ≡ 9
-row-length m = length-append (take 8 (onesOf 8 m ++ replicate 8 0)) (length (onesOf 8 m) ∷ []) ∙ ap (λ (l : ℕ). l + 1) (eight m)
+row-length m = length-append (take 8 (onesOf 8 m ++ eightPlaces)) (length (onesOf 8 m) ∷ []) ∙ ap (λ (l : ℕ). l + 1) (eight m)
 
 row-at : (c m n : ℕ) → m < c → take 9 (drop (9 * m) (rowsFrom c n)) ≡ onesRow (n + m)
 unfolding rowsFrom
@@ -53,9 +53,9 @@ row-eight m h = sym (take-take 8 9 (drop (9 * m) placeRows) (omega arith)) ∙ a
 -- the first of them are the ones
 row-ones : (m : ℕ) → take (length (onesOf 8 m)) (take 8 (onesRow m)) ≡ onesOf 8 m
 row-ones m =
-    ap (take (length (onesOf 8 m))) (take-at (take 8 (onesOf 8 m ++ replicate 8 0)) (length (onesOf 8 m) ∷ []) 8 (eight m))
-    ∙ take-take (length (onesOf 8 m)) 8 (onesOf 8 m ++ replicate 8 0) (ones-few 8 m)
-    ∙ take-append-seam (onesOf 8 m) (replicate 8 0)
+    ap (take (length (onesOf 8 m))) (take-at (take 8 (onesOf 8 m ++ eightPlaces)) (length (onesOf 8 m) ∷ []) 8 (eight m))
+    ∙ take-take (length (onesOf 8 m)) 8 (onesOf 8 m ++ eightPlaces) (ones-few 8 m)
+    ∙ take-append-seam (onesOf 8 m) eightPlaces
 
 -- the last number counts them
 pub row-count : (m : ℕ) → m < 256 → getD placeRows (9 * m + 8) 0 ≡ length (onesOf 8 m)
@@ -63,7 +63,7 @@ row-count m h =
     sym (getD-drop (9 * m) placeRows 8 0)
     ∙ sym (getD-take 9 (drop (9 * m) placeRows) 8 0 (omega arith))
     ∙ ap (λ (l : List ℕ). getD l 8 0) (row-is m h)
-    ∙ getD-at (take 8 (onesOf 8 m ++ replicate 8 0)) (length (onesOf 8 m)) [] 0 8 (eight m)
+    ∙ getD-at (take 8 (onesOf 8 m ++ eightPlaces)) (length (onesOf 8 m)) [] 0 8 (eight m)
 
 -- ════ a row stored behind what a list has ════
 

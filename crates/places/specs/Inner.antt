@@ -4,7 +4,7 @@ use mathlib.Core.Bool.{Bool, cond}
 use mathlib.Core.List.{List, [], _∷_, _++_, map}
 use Prim.Native.Nat.{ℕ, zero, suc, _+_, _*_, _/_, _%_}
 use lib.Dec.{eqb}
-use lib.ListN.{length, getD, take, replicate}
+use lib.ListN.{length, getD, take}
 use lib.Seq.{paste}
 
 -- the places of some elements that have a property, in order
@@ -24,9 +24,13 @@ onesOf (suc k) m = cond (eqb (m % 2) 1) (0 ∷ map suc (onesOf k (m / 2))) (map 
 
 -- ════ the table ════
 
--- of a byte, with zeros behind them: eight numbers, and then how many ones there are
+-- what stands behind the places of the ones; any eight numbers would do
+abbrev pub eightPlaces : List ℕ
+eightPlaces = 0 ∷ 1 ∷ 2 ∷ 3 ∷ 4 ∷ 5 ∷ 6 ∷ 7 ∷ []
+
+-- of a byte, with these behind them: eight numbers, and then how many ones there are
 abbrev pub onesRow : ℕ → List ℕ
-onesRow m = take 8 (onesOf 8 m ++ replicate 8 0) ++ (length (onesOf 8 m) ∷ [])
+onesRow m = take 8 (onesOf 8 m ++ eightPlaces) ++ (length (onesOf 8 m) ∷ [])
 
 -- the rows of c bytes from m on, one after another
 unfoldable pub rowsFrom : ℕ → ℕ → List ℕ

@@ -262,8 +262,8 @@ fn upgrade_band(
 
 // ---- all bands
 
-// The ten bands, with both readers at the start of their streams; where the readers end. The tables are at hand before the loop, since the compiler
-// builds one at each use.
+// All places, from band to band by the table of places, with both readers at the start of their streams; where the readers end. The tables are at hand
+// before the loop, since the compiler builds one at each use.
 fn upgrade_bands(
     srl_data: &[u8],
     raw_data: &[u8],
@@ -278,31 +278,31 @@ fn upgrade_bands(
         (now (coefficients .entry)) (now (sign .entry)) (now (coefficients .exit)) (now (sign .exit)) r ⌝ }
 {
     let rows = places::place_rows();
-    let layout = bands::get_band_layout(use_reduce_extrapolate);
+    let table = bands::bands_of_places(use_reduce_extrapolate);
+    let ends = bands::band_ends(use_reduce_extrapolate);
     let mut zeros: [u16; 1024] = [0; 1024];
     let mut others: [u16; 1024] = [0; 1024];
     let mut readers = Readers {
         srl: srl_decoder::SrlState::new(),
         raw: 0,
     };
-    let mut b: usize = 0;
-    while b < bands::NUM_BANDS {
-        let t = upgrade_steps::band_step(b, prev[b], curr[b]);
-        let info = layout[b];
-        let from = info.offset;
-        let to = from + info.width * info.height;
+    let mut i: usize = 0;
+    while i < bands::COEFFICIENTS_PER_COMPONENT {
+        let stretch = upgrade_steps::stretch_at(&table, ends, prev, curr, i);
+        let t = stretch.step;
+        let to = stretch.to;
         readers = upgrade_band(
             srl_data,
             raw_data,
             t,
             readers,
-            &mut coefficients[from..to],
-            &mut sign[from..to],
+            &mut coefficients[i..to],
+            &mut sign[i..to],
             &mut zeros,
             &mut others,
             &rows,
         );
-        b += 1;
+        i = to;
     }
     readers
 }

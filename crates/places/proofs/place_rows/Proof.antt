@@ -1,4 +1,4 @@
--- `places::place_rows` meets its contract: the rule gives each of the 2,048 numbers. Assumes nothing.
+-- `places::place_rows` meets its contract: the rule gives each of the 2,304 numbers. Assumes nothing.
 use mathlib.Core.Path.{refl}
 use Rattle.places.specs.Inner.{onesOf, rowsFrom}
 use Rattle.places.proofs.place_rows.Statement.{statement}

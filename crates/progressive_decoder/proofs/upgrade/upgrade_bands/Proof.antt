@@ -1,22 +1,20 @@
--- `progressive_decoder::upgrade::upgrade_bands` meets its contract: after b bands both slices and both readers are those of a walk over the places of these bands. Assumes nothing.
+-- `progressive_decoder::upgrade::upgrade_bands` meets its contract: when a turn begins, both slices and both readers are those of a walk over the first i places. Assumes nothing.
 use mathlib.Core.Path.{_≡_, refl, sym, ap, ap₂, _∙_, subst}
-use Prim.Native.Nat.{ℕ, _+_, _-_, _*_, _^_, _≤_, _<_}
+use mathlib.Core.List.{List}
+use Prim.Native.Nat.{ℕ, _+_, _-_, _*_, _≤_, _<_}
 use native.Mathlib.Omega.{arith}
-use borrow.Rule.Slice.PartMut.{midOf}
-use lib.ListN.{length, getD, replicate}
+use borrow.Rule.Slice.PartMut.{midOf, mid-len}
+use lib.ListN.{length, getD, take, replicate}
+use lib.Seq.{take-all}
 use Rattle.bits.specs.Bits.{bitsRead}
-use Rattle.bands.proofs.Every.{low-position}
-use Rattle.bands.specs.Bands.{countOf, none}
-use Rattle.bands.specs.declared.BandInfo.{BandInfo}
-use Rattle.bands.proofs.Laid.{band-small}
-use Rattle.bands.proofs.Spread.{spreadTo, perPlaceTo, place-count, place-all, place-whole}
+use Rattle.bands.proofs.Places.{by-ten}
+use Rattle.bands.proofs.Spread.{place-whole}
 use Rattle.srl_decoder.specs.Srl.{start}
 use Rattle.srl_decoder.specs.Decode.{opened}
 use Rattle.srl_decoder.specs.declared.SrlState.{SrlState}
 use Rattle.upgrade_steps.specs.Steps.{Step, stepOf, steps}
-use Rattle.upgrade_steps.specs.Inner.{bandStep}
+use Rattle.upgrade_steps.specs.Inner.{bandStep, SameStep}
 use Rattle.progressive_decoder.specs.Inner.{Walked, walk, walkedBy, Early}
-use Rattle.bands.proofs.Spans.{Lies, part-length, more-length, hand-lies, hand-within}
 use Rattle.progressive_decoder.proofs.Bandwise.{band-turn}
 use Rattle.progressive_decoder.proofs.Walks.{walk-coefficients, walk-signs, walk-reader, walk-count}
 use borrow.Author.Needs.{needs}
@@ -24,22 +22,21 @@ use Rattle.progressive_decoder.proofs.upgrade.upgrade_bands.Statement.{
 use Rattle.progressive_decoder.proofs.upgrade.upgrade_bands.Tie as tie
 
 abbrev Inv-loop : tie.InvT-loop
-Inv-loop srl-data raw-data use-reduce-extrapolate coefficients₀ sign₀ prev curr rows layout zeros₀ others₀ readers₀ b₀ coefficients sign zeros others readers b =
-    (b ≤ 10) × (length prev ≡ 10) × (length coefficients ≡ length coefficients₀) × (length sign ≡ length sign₀)
-    × (walk srl-data raw-data (perPlaceTo use-reduce-extrapolate (stepOf prev curr) b) coefficients₀ sign₀ start 0 ≡ walkedBy coefficients sign readers)
-    × Early readers (40000 * length (perPlaceTo use-reduce-extrapolate (stepOf prev curr) b)) × (length zeros ≡ 1024) × (length others ≡ 1024)
+Inv-loop srl-data raw-data prev curr use-reduce-extrapolate coefficients₀ sign₀ rows table ends zeros₀ others₀ readers₀ i₀ coefficients sign zeros others readers i =
+    (i ≤ 4096) × (length coefficients ≡ length coefficients₀) × (length sign ≡ length sign₀)
+    × (walk srl-data raw-data (take i (steps use-reduce-extrapolate prev curr)) coefficients₀ sign₀ start 0 ≡ walkedBy coefficients sign readers)
+    × Early readers (40000 * i) × (length zeros ≡ 1024) × (length others ≡ 1024)
 
 abbrev μ-loop : tie.MeasureT-loop
-μ-loop srl-data raw-data use-reduce-extrapolate coefficients₀ sign₀ prev curr rows layout zeros₀ others₀ readers₀ b₀ coefficients sign zeros others readers b = 10 - b
+μ-loop srl-data raw-data prev curr use-reduce-extrapolate coefficients₀ sign₀ rows table ends zeros₀ others₀ readers₀ i₀ coefficients sign zeros others readers i = 4096 - i
 
--- before the first band
+-- before the first place
 loop-holds : tie.Need-loop-holds Inv-loop μ-loop
-unfolding walk spreadTo
+unfolding walk
 loop-holds c =
-    let a = c .before .before .before .before .before .args in
+    let a = c .before .before .before .before .before .before .args in
     let e = c .new .ensures in (
       omega arith,
-      search needs,
       refl,
       refl,
       sym (ap (λ (st : SrlState). walkedBy (a .coefficients .now) (a .sign .now) (record { srl = st; raw = 0 })) e),
@@ -53,107 +50,86 @@ loop-holds c =
       search needs,
     )
 
--- the band at hand
-abbrev band : tie.After-struct-known Inv-loop μ-loop → BandInfo
-band c = getD (c .before .before .before .before .before .before .get-band-layout .result) (c .before .before .before .before .loop .b) none
+-- the table has a band for the place at hand
+stretch-at-requires : tie.Need-stretch-at-requires Inv-loop μ-loop
+stretch-at-requires c κs =
+    let a = c .before .before .before .before .before .before .before .before .before .args in
+    let i = c .before .before .loop .i in
+    let number = ap (λ (l : List ℕ). getD l i 0) (c .before .before .before .before .before .bands-of-places .ensures) in
+    (omega (arith, c .before .loop-test .taken), omega (arith, number, by-ten (a .use-reduce-extrapolate) i))
 
--- where it lies
-lies : (c : tie.After-struct-known Inv-loop μ-loop) → Lies (c .before .before .before .before .before .before .before .before .before .before .args .use-reduce-extrapolate) (c .before .before .before .before .loop .b) (band c .offset) (band c .offset + countOf (band c))
-lies c = hand-lies (c .before .before .before .before .before .before .get-band-layout .result) (c .before .before .before .before .before .before .before .before .before .before .args .use-reduce-extrapolate) (c .before .before .before .before .loop .b) (c .before .before .before .before .before .before .get-band-layout .ensures) (c .before .before .before .loop-test .taken)
-
--- within the component
-within : (c : tie.After-struct-known Inv-loop μ-loop) → band c .offset + countOf (band c) ≤ 4096
-within c = hand-within (c .before .before .before .before .before .before .get-band-layout .result) (c .before .before .before .before .before .before .before .before .before .before .args .use-reduce-extrapolate) (c .before .before .before .before .loop .b) (c .before .before .before .before .before .before .get-band-layout .ensures)
-
-mul-to : tie.Need-mul-to Inv-loop μ-loop
-mul-to c = record { fits = omega (arith, within c) }
-
-add-to : tie.Need-add-to Inv-loop μ-loop
-add-to c = record { fits = omega (arith, within c) }
-
--- and its step
-step : (c : tie.After-band-step Inv-loop μ-loop) → bandStep (c .band-step .result) ≡ stepOf (c .before .before .before .before .before .before .before .before .args .t3) (c .before .before .before .before .before .before .before .before .args .t4) (c .before .before .loop .b)
-step c = c .band-step .ensures
+-- from the place at hand to the end of its band
+same : (c : tie.After-stretch-at Inv-loop μ-loop) → SameStep (c .before .before .before .before .before .before .before .before .before .before .args .use-reduce-extrapolate) (c .before .before .before .before .before .before .before .before .before .before .args .prev) (c .before .before .before .before .before .before .before .before .before .before .args .curr) (c .before .before .before .loop .i) (c .stretch-at .result .to) (bandStep (c .stretch-at .result .step))
+same c = c .stretch-at .ensures (c .before .before .before .before .before .before .before .before .before .before .args .use-reduce-extrapolate) (c .before .before .before .before .before .before .bands-of-places .ensures) (c .before .before .before .before .before .band-ends .ensures)
 
 upgrade-band-requires : tie.Need-upgrade-band-requires Inv-loop μ-loop
 upgrade-band-requires c κs =
-    let a = c .before .before .before .before .before .before .before .before .before .before .before .before .before .before .before .args in
-    let p = c .before .before .before .before .before .before .before .before .before .before .before .before .before .before .before .pre in
+    let p = c .before .before .before .before .before .before .before .before .before .before .before .before .before .before .before .before .pre in
     let l = c .before .before .before .before .before .before .before .before .before .loop in
-    let i = band (c .before .before .before .before .before) in
-    let at = lies (c .before .before .before .before .before) in
-    let w : c .before .before .before .before .before .before .before .band-step .result .width ≡ getD (a .t3) (l .b) 0 - getD (a .t4) (l .b) 0 = ap (λ (t : Step). t .width) (step (c .before .before .before .before .before .before .before)) in
-    let y = l .inv .5 in
-    let n = place-count (a .use-reduce-extrapolate) (stepOf (a .t3) (a .t4)) (l .b) (at .number) in
-    let m = part-length (a .use-reduce-extrapolate) (l .b) (i .offset) (i .offset + countOf i) (l .coefficients) at (omega (arith, p .1, l .inv .2)) in
-    let k = part-length (a .use-reduce-extrapolate) (l .b) (i .offset) (i .offset + countOf i) (l .sign) at (omega (arith, p .2, l .inv .3)) in
-    let low = low-position (a .t3) (l .b) (p .0) (omega (arith, l .inv .1, at .number)) in (
-      omega (arith, w, low),
-      record { place = y .place; kp = y .kp; srl-read = omega (arith, y .srl-read, n, at .begins, at .ends, within (c .before .before .before .before .before)); raw-read = omega (arith, y .raw-read, n, at .begins, at .ends, within (c .before .before .before .before .before)) },
+    let to = c .before .before .before .before .before .before .stretch-at .result .to in
+    let s = same (c .before .before .before .before .before .before) in
+    let y = l .inv .4 in
+    let m = mid-len (l .i) to (l .coefficients) (omega (arith, s .ends, p .1, l .inv .1)) in
+    let k = mid-len (l .i) to (l .sign) (omega (arith, s .ends, p .2, l .inv .2)) in (
+      s .narrow (p .0),
+      record { place = y .place; kp = y .kp; srl-read = omega (arith, y .srl-read, l .inv .0); raw-read = omega (arith, y .raw-read, l .inv .0) },
       k ∙ sym m,
-      omega (arith, m, at .ends, band-small (a .use-reduce-extrapolate) (l .b)),
+      omega (arith, m, s .few),
+      omega (arith, l .inv .5),
       omega (arith, l .inv .6),
-      omega (arith, l .inv .7),
-      c .before .before .before .before .before .before .before .before .before .before .before .before .place-rows .ensures,
+      c .before .before .before .before .before .before .before .before .before .before .before .before .before .place-rows .ensures,
     )
 
--- one band more
-one-more : (b : ℕ) → b < 10 → (b + 1 < 2 ^ 64) × (10 - (b + 1) < 10 - b)
-one-more b h = (omega arith, omega arith)
-
-add-b : tie.Need-add-b Inv-loop μ-loop
-add-b c = record { fits = one-more (c .before .before .before .before .before .before .before .before .before .before .before .before .before .before .loop .b) (c .before .before .before .before .before .before .before .before .before .before .before .before .before .loop-test .taken) .0 }
-
 loop-less : tie.Need-loop-less Inv-loop μ-loop
-loop-less c = one-more (c .before .before .before .before .before .before .before .before .before .before .before .before .before .before .loop .b) (c .before .before .before .before .before .before .before .before .before .before .before .before .before .loop-test .taken) .1
+loop-less c =
+    let s = same (c .before .before .before .before .before .before .before .before .before .before .before) in
+    omega (arith, s .begins, s .ends)
 
+-- one band more
 loop-again : tie.Need-loop-again Inv-loop μ-loop
 loop-again c =
-    let a = c .before .before .before .before .before .before .before .before .before .before .before .before .before .before .before .before .before .before .before .before .args in
-    let p = c .before .before .before .before .before .before .before .before .before .before .before .before .before .before .before .before .before .before .before .before .pre in
+    let a = c .before .before .before .before .before .before .before .before .before .before .before .before .before .before .before .before .before .before .before .before .before .args in
+    let p = c .before .before .before .before .before .before .before .before .before .before .before .before .before .before .before .before .before .before .before .before .before .pre in
     let l = c .before .before .before .before .before .before .before .before .before .before .before .before .before .before .loop in
-    let i = band (c .before .before .before .before .before .before .before .before .before .before) in
-    let from = i .offset in
-    let to = i .offset + countOf i in
+    let s = same (c .before .before .before .before .before .before .before .before .before .before .before) in
+    let r = c .before .before .before .before .before .before .before .before .before .before .before .stretch-at .result in
+    let from = l .i in
+    let to = r .to in
+    let t = bandStep (r .step) in
     let u = c .before .before .before .before .upgrade-band in
-    let e = a .use-reduce-extrapolate in
-    let f = stepOf (a .t3) (a .t4) in
-    let at = lies (c .before .before .before .before .before .before .before .before .before .before) in
-    let m = part-length e (l .b) from to (l .coefficients) at (omega (arith, p .1, l .inv .2)) in (
-      omega arith,
-      l .inv .1,
-      c .before .before .before .coefficients .given .1 ∙ l .inv .2,
-      c .before .before .sign .given .1 ∙ l .inv .3,
-      band-turn (a .srl-data .now) (a .raw-data .now) e f (l .b) from to at (a .coefficients .now) (a .sign .now) (l .coefficients) (l .sign) (l .readers)
-          (walkedBy (u .last .1 .1 .1 .1 .0) (u .last .1 .1 .1 .1 .1 .0) (u .result)) (p .1) (p .2) (l .inv .4)
-          (ap₂ (λ k t. walk (a .srl-data .now) (a .raw-data .now) (replicate k t) (midOf from (to - from) (l .coefficients)) (midOf from (to - from) (l .sign)) (opened (l .readers .srl)) (l .readers .raw)) (sym m) (sym (step (c .before .before .before .before .before .before .before .before .before .before .before .before)))
+    let m = mid-len from to (l .coefficients) (omega (arith, s .ends, p .1, l .inv .1)) in (
+      s .ends,
+      c .before .before .before .coefficients .given .1 ∙ l .inv .1,
+      c .before .before .sign .given .1 ∙ l .inv .2,
+      band-turn (a .srl-data .now) (a .raw-data .now) (a .use-reduce-extrapolate) (a .prev) (a .curr) from to t s (a .coefficients .now) (a .sign .now) (l .coefficients) (l .sign) (l .readers)
+          (walkedBy (u .last .1 .1 .1 .1 .0) (u .last .1 .1 .1 .1 .1 .0) (u .result)) (p .1) (p .2) (l .inv .3)
+          (ap (λ (k : ℕ). walk (a .srl-data .now) (a .raw-data .now) (replicate k t) (midOf from (to - from) (l .coefficients)) (midOf from (to - from) (l .sign)) (opened (l .readers .srl)) (l .readers .raw)) (sym m)
           ∙ u .ensures .0),
-      subst (Early (u .result)) {x = 40000 * length (perPlaceTo e f (l .b)) + 40000 * length (midOf from (to - from) (l .coefficients))} {y = 40000 * length (perPlaceTo e f (l .b + 1))} (omega (arith, m, more-length e f (l .b) from to at))
-          (u .ensures .1 (40000 * length (perPlaceTo e f (l .b))) (l .inv .5)),
-      u .kept .1 .1 .1 .1 .1 .1 .0 ∙ l .inv .6,
-      u .kept .1 .1 .1 .1 .1 .1 .1 .0 ∙ l .inv .7,
+      subst (Early (u .result)) {x = 40000 * from + 40000 * length (midOf from (to - from) (l .coefficients))} {y = 40000 * to} (omega (arith, m, s .begins))
+          (u .ensures .1 (40000 * from) (l .inv .4)),
+      u .kept .1 .1 .1 .1 .1 .1 .0 ∙ l .inv .5,
+      u .kept .1 .1 .1 .1 .1 .1 .1 .0 ∙ l .inv .6,
     )
 
 returns : tie.Need-returns Inv-loop μ-loop
 returns c =
-    let a = c .before .before .before .before .before .before .before .args in
+    let a = c .before .before .before .before .before .before .before .before .args in
     let l = c .before .loop in
-    let e = a .use-reduce-extrapolate in
-    let f = stepOf (a .t3) (a .t4) in
-    let ts = steps e (a .t3) (a .t4) in
-    let ten : l .b ≡ 10 = omega arith in
+    let ts = steps (a .use-reduce-extrapolate) (a .prev) (a .curr) in
+    let all : 4096 ≤ l .i = c .loop-test .left in
+    let whole : length ts ≡ 4096 = place-whole (a .use-reduce-extrapolate) (stepOf (a .prev) (a .curr)) in
     let done : walk (a .srl-data .now) (a .raw-data .now) ts (a .coefficients .now) (a .sign .now) start 0 ≡ walkedBy (l .coefficients) (l .sign) (l .readers) =
-    ap (λ t. walk (a .srl-data .now) (a .raw-data .now) t (a .coefficients .now) (a .sign .now) start 0) (sym (ap (perPlaceTo e f) ten ∙ place-all e f)) ∙ l .inv .4 in
-    let enough : length ts ≤ length (a .coefficients .now) = omega (arith, place-whole e f, c .before .before .before .before .before .before .before .pre .1) in
+    ap (λ t. walk (a .srl-data .now) (a .raw-data .now) t (a .coefficients .now) (a .sign .now) start 0) (sym (take-all (l .i) ts (omega (arith, whole, all)))) ∙ l .inv .3 in
+    let enough : length ts ≤ length (a .coefficients .now) = omega (arith, whole, c .before .before .before .before .before .before .before .before .pre .1) in
     record {
       coefficients = sym (ap (λ (w : Walked). w .coefficients) done) ∙ walk-coefficients (a .srl-data .now) (a .raw-data .now) ts (a .coefficients .now) (a .sign .now) start 0;
       sign = sym (ap (λ (w : Walked). w .sign) done) ∙ walk-signs (a .srl-data .now) (a .raw-data .now) ts (a .coefficients .now) (a .sign .now) start 0 enough;
       ends = record {
         srl = sym (ap (λ (w : Walked). w .srl) done) ∙ walk-reader (a .srl-data .now) (a .raw-data .now) ts (a .coefficients .now) (a .sign .now) start 0 enough;
         raw = sym (ap (λ (w : Walked). w .raw) done) ∙ walk-count (a .srl-data .now) (a .raw-data .now) ts (a .coefficients .now) (a .sign .now) start 0 enough;
-        place = l .inv .5 .place;
+        place = l .inv .4 .place;
       };
     }
 
 pub upgrade-bands-spec : {M : Type 1} → statement M
-upgrade-bands-spec = tie.close (tie.spec Inv-loop μ-loop (λ c κs. search needs) (λ c κs. search needs) (λ c κs. search needs) loop-holds (λ c. search needs) (λ c. search needs) (λ c κs. search needs) (λ c. search needs) (λ c. search needs) mul-to add-to (λ c. record { fits = omega (arith, within c) }) (λ c. search (needs, within c)) (λ c. search (needs, within c)) (λ c. search (needs, within c)) (λ c. search (needs, within (c .before))) (λ c. search (needs, within (c .before))) (λ c. search (needs, within (c .before))) (λ c. search needs) (λ c. search needs) upgrade-band-requires add-b loop-less loop-again (λ c. search needs) (λ c. search needs) returns)
+upgrade-bands-spec = tie.close (tie.spec Inv-loop μ-loop (λ c κs. search needs) (λ c κs. search needs) (λ c κs. search needs) (λ c κs. search needs) loop-holds stretch-at-requires (λ c. search needs) (λ c. search (needs, same (c .before) .begins, same (c .before) .ends)) (λ c. search (needs, same (c .before) .begins, same (c .before) .ends)) (λ c. search (needs, same (c .before) .begins, same (c .before) .ends)) (λ c. search (needs, same (c .before .before) .begins, same (c .before .before) .ends)) (λ c. search (needs, same (c .before .before) .begins, same (c .before .before) .ends)) (λ c. search (needs, same (c .before .before) .begins, same (c .before .before) .ends)) (λ c. search needs) (λ c. search needs) upgrade-band-requires loop-less loop-again (λ c. search needs) (λ c. search needs) returns)
