@@ -11,7 +11,7 @@
  * WHAT A CALL RETURNS
  *
  * 0 where the call was accepted, else the number of its refusal, by name in
- * enum tarjimp_refusal:
+ * enum tarjimp_refusal (tarjimp_band_of_place returns the number of a band):
  *
  *   1  a coefficient, sign or scratch slice under 4,096 elements, or pixels
  *      under 16,384 bytes
@@ -87,6 +87,9 @@ enum tarjimp_refusal {
     TARJIMP_OUTPUT_TOO_SHORT = 7,
     TARJIMP_IMPOSSIBLE_STATE = 8,
 };
+
+/* What tarjimp_band_of_place returns for a place that has no band. */
+#define TARJIMP_NO_BAND 10
 
 /*
  * SRL streams. A state is handed in and back as numbers, so that a stream may
@@ -173,6 +176,17 @@ uint8_t tarjimp_dwt_extrapolate_decode(int16_t *buffer, size_t buffer_len,
 
 /* The red, green and blue of a pixel. */
 void tarjimp_ycbcr_to_rgb(int16_t y, int16_t cb, int16_t cr, uint8_t rgb[3]);
+
+/*
+ * The number of the band that a place of a component belongs to: 0 to 9 in band
+ * order, HL1 .. LL3, or TARJIMP_NO_BAND for a place at or past 4096. A call
+ * builds the layout's table anew: who colours a whole component takes
+ * tarjimp_bands_of_places.
+ */
+uint8_t tarjimp_band_of_place(bool use_reduce_extrapolate, size_t place);
+
+/* Fills the number of the band of each place, in the order of the places. */
+void tarjimp_bands_of_places(bool use_reduce_extrapolate, uint8_t bands[4096]);
 
 /*
  * Fills the numbers of zero signs of a tile, by its signs and its layout: for a
