@@ -1,6 +1,7 @@
 /*
- * What a viewer does with the library, in C: an SRL stream written and read, a
- * tile sharpened by a pass, its pixels, and what each refusal looks like.
+ * What a viewer does with the library, in C: an SRL stream written and read, the
+ * bands of places, a tile sharpened by a pass, its pixels, and what each refusal
+ * looks like.
  * examples/run compiles and runs it and compares what it prints.
  */
 #include "tarjimp.h"
@@ -48,6 +49,19 @@ static void srl_stream(void)
     for (size_t i = 0; i < 6; i++)
         printf(" %d", back[i]);
     printf("\n");
+}
+
+/* The bands of a place in both layouts, and how many places of all the bottom band, number 9, has. */
+static void bands_of_a_place(size_t place)
+{
+    static uint8_t bands[4096];
+    unsigned bottom = 0;
+
+    tarjimp_bands_of_places(true, bands);
+    for (size_t i = 0; i < 4096; i++)
+        bottom += bands[i] == 9;
+    printf("place %zu: band %u, in the standard layout %u; LL3 has %u places\n", place,
+           tarjimp_band_of_place(true, place), tarjimp_band_of_place(false, place), bottom);
 }
 
 /* A tile as the library has it: flat arrays that the caller owns. */
@@ -174,6 +188,7 @@ int main(void)
     srl_stream();
     tarjimp_ycbcr_to_rgb(0, 0, 100, rgb);
     printf("y 0, cb 0, cr 100: %u %u %u\n", rgb[0], rgb[1], rgb[2]);
+    bands_of_a_place(4015);
     sharpen();
     refusals();
     return 0;

@@ -1,6 +1,6 @@
 //! The C functions of `libtarjimp.a` (`include/tarjimp.h`), and a safe wrapper for each. A wrapper turns
-//! slices and arrays into pointers and nothing else; it returns the number of the refusal, 0 if there is
-//! none.
+//! slices and arrays into pointers and nothing else; it returns what the function does, mostly the number of
+//! the refusal, 0 if there is none.
 
 use crate::progressive::COEFFICIENTS_PER_COMPONENT;
 
@@ -92,6 +92,10 @@ unsafe extern "C" {
     ) -> u8;
 
     fn tarjimp_ycbcr_to_rgb(y: i16, cb: i16, cr: i16, rgb: *mut u8);
+
+    fn tarjimp_band_of_place(use_reduce_extrapolate: bool, place: usize) -> u8;
+
+    fn tarjimp_bands_of_places(use_reduce_extrapolate: bool, bands: *mut u8);
 
     fn tarjimp_tile_zero_signs(sign: *const i8, use_reduce_extrapolate: bool, zero_signs: *mut u16);
 
@@ -282,6 +286,16 @@ pub fn dwt_extrapolate_decode(buffer: &mut [i16], temp: &mut [i16]) -> u8 {
 pub fn ycbcr_to_rgb(y: i16, cb: i16, cr: i16, rgb: &mut [u8; 3]) {
     // SAFETY: `rgb` has the three bytes that the function writes.
     unsafe { tarjimp_ycbcr_to_rgb(y, cb, cr, rgb.as_mut_ptr()) }
+}
+
+pub fn band_of_place(use_reduce_extrapolate: bool, place: usize) -> u8 {
+    // SAFETY: the function takes two values, any of their types.
+    unsafe { tarjimp_band_of_place(use_reduce_extrapolate, place) }
+}
+
+pub fn bands_of_places(use_reduce_extrapolate: bool, bands: &mut [u8; COEFFICIENTS_PER_COMPONENT]) {
+    // SAFETY: `bands` has the 4,096 numbers that the function writes.
+    unsafe { tarjimp_bands_of_places(use_reduce_extrapolate, bands.as_mut_ptr()) }
 }
 
 pub fn tile_zero_signs(sign: &Signs, use_reduce_extrapolate: bool, zero_signs: &mut ZeroSigns) {

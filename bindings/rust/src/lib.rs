@@ -15,6 +15,8 @@
 //! - A tile keeps how many signs of each band are 0: [`progressive::TileState::zero_signs`]. Where `sign` or
 //!   `use_reduce_extrapolate` are set by hand, [`progressive::TileState::count_zero_signs`] counts anew; the calls
 //!   refuse a tile whose numbers are not right. A tile is made by `new` or `load`, and not as a literal.
+//! - [`progressive::band_of_place`] and [`progressive::bands_of_places`] say which band a place of a component
+//!   belongs to.
 //! - Past a stream's end every bit is 0, here and in the Rust; here each reading also says how many bits came
 //!   from there: [`srl::SrlDecoder::missing_bits`], [`progressive::decode_upgrade_pass_counted`] and
 //!   [`progressive::TileState::decode_upgrade_counted`].

@@ -294,6 +294,36 @@ fn get_band_layout(use_reduce_extrapolate: bool) -> [BandInfo; NUM_BANDS] {
     })
 }
 
+/// The number of the band that a place of a component belongs to, 0 to 9 in band order: HL1 LH1 HH1 HL2 LH2 HH2
+/// HL3 LH3 HH3 LL3. `None` for a place past the 4,096. For many places, [`bands_of_places`] is quicker.
+///
+/// ```
+/// use tarjimp::progressive::band_of_place;
+///
+/// assert_eq!(band_of_place(true, 0), Some(0)); // HL1
+/// assert_eq!(band_of_place(true, 4015), Some(9)); // LL3
+/// assert_eq!(band_of_place(false, 4015), Some(8)); // HH3 of the standard layout
+/// assert_eq!(band_of_place(true, 4096), None);
+/// ```
+pub fn band_of_place(use_reduce_extrapolate: bool, place: usize) -> Option<u8> {
+    let band = ffi::band_of_place(use_reduce_extrapolate, place);
+    (usize::from(band) < NUM_BANDS).then_some(band)
+}
+
+/// The number of the band of each place of a component, 0 to 9 in band order.
+///
+/// ```
+/// use tarjimp::progressive::bands_of_places;
+///
+/// let bands = bands_of_places(true);
+/// assert_eq!(bands.iter().filter(|&&band| band == 9).count(), 81); // LL3
+/// ```
+pub fn bands_of_places(use_reduce_extrapolate: bool) -> [u8; COEFFICIENTS_PER_COMPONENT] {
+    let mut bands = [0; COEFFICIENTS_PER_COMPONENT];
+    ffi::bands_of_places(use_reduce_extrapolate, &mut bands);
+    bands
+}
+
 /// A tile of 64 x 64 pixels: three components, Y, Cb and Cr, with what has arrived of them.
 #[derive(Debug, Clone, PartialEq, Eq)]
 pub struct TileState {
@@ -551,6 +581,22 @@ mod tests {
             offset += band.count();
         }
         assert_eq!(offset, COEFFICIENTS_PER_COMPONENT);
+    }
+
+    #[test]
+    fn places_belong_to_the_band_that_encloses_them() {
+        for use_reduce_extrapolate in LAYOUTS {
+            let table = bands_of_places(use_reduce_extrapolate);
+            for (number, band) in (0..).zip(get_band_layout(use_reduce_extrapolate)) {
+                for place in band.offset..band.offset + band.count() {
+                    assert_eq!(band_of_place(use_reduce_extrapolate, place), Some(number));
+                    assert_eq!(table[place], number);
+                }
+            }
+            for place in [4096, 4097, 65535, 1 << 32, usize::MAX] {
+                assert_eq!(band_of_place(use_reduce_extrapolate, place), None);
+            }
+        }
     }
 
     #[test]

@@ -2,6 +2,7 @@
 use crate::passes;
 use panel_output::files;
 use panel_output::images;
+use panel_output::places;
 use panel_output::refusals;
 use panel_output::report;
 use panel_picture::drawing;
@@ -333,7 +334,7 @@ fn uncut(full: &[i16], reference: &mut [u8]) -> bool
     true
 }
 
-// The cut run, the image of both runs, and the end of the report.
+// The cut run, the image of both runs, the end of the report, and the bands.
 fn after_whole(
     whole: report::Figures,
     full: &[i16],
@@ -353,6 +354,9 @@ fn after_whole(
         return;
     }
     report::summary(whole, b.figures, folder);
+    if places::save(folder, b"bands.png") {
+        places::legend(folder);
+    }
 }
 
 fn both_runs(full: &[i16], folder: &[u8], reference: &[u8], pictures: &mut [u8])

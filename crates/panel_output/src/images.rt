@@ -7,7 +7,7 @@ ghost use Prim.Native.Nat.{_+_, _*_, _≤_, _<_};
 ghost use lib.ListN.{length};
 
 // Copies red, green and blue.
-fn pixel(source: &[u8], from: usize, out: &mut [u8], to: usize)
+pub fn pixel(source: &[u8], from: usize, out: &mut [u8], to: usize)
     requires { ⌜ (from + 3 ≤ length (now source)) × (to + 3 ≤ length (now out)) ⌝ }
 {
     let mut i: usize = 0;
@@ -29,7 +29,7 @@ fn colours(pictures: &[u8], from: usize, row: &mut [u8])
 }
 
 // Writes each pixel of a row twice, from a place on.
-fn double(row: &[u8], count: usize, out: &mut [u8], at: usize)
+pub fn double(row: &[u8], count: usize, out: &mut [u8], at: usize)
     requires { ⌜ (3 * count ≤ length (now row)) × (at + 6 * count ≤ length (now out)) ⌝ }
 {
     let mut x: usize = 0;

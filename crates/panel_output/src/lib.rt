@@ -2,5 +2,6 @@
 // safe and to end.
 pub mod files;
 pub mod images;
+pub mod places;
 pub mod refusals;
 pub mod report;

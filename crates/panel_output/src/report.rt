@@ -8,11 +8,11 @@ pub fn error(line: &[u8]) {
 
 pub fn usage() {
     error(
-        b"usage: panel demo [FOLDER]\nwrites eight PNG images to FOLDER, or to the folder pictures, which is made where it is not there,\nand a line for each stage to standard output\n",
+        b"usage: panel demo [FOLDER]\nwrites nine PNG images to FOLDER, or to the folder pictures, which is made where it is not there,\nand a line for each stage to standard output\n",
     );
 }
 
-fn text(bytes: &[u8]) {
+pub fn text(bytes: &[u8]) {
     io::write_all(STDOUT_FILENO, bytes);
 }
 

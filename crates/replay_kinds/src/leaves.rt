@@ -1,4 +1,4 @@
-// Kinds 1 to 21: the functions of `fixed` and `bands`.
+// Kinds 1 to 22: the functions of `fixed` and `bands`.
 use replay_input::number;
 
 // Kinds 1 and 3: thirty-two bits to sixteen.
@@ -134,6 +134,26 @@ fn ll3_offset(c: &[u8]) -> bool {
     bands::ll3_offset(number::flag_at(c, 0)) == number::u16_at(c, 1) as usize
 }
 
+// The table's entry for a place; past the table, no band.
+fn table_entry(extrapolate: bool, place: usize) -> u8 {
+    if place >= bands::COEFFICIENTS_PER_COMPONENT {
+        return bands::NO_BAND;
+    }
+    let table = bands::bands_of_places(extrapolate);
+    table[place]
+}
+
+// The band of a place, by itself and as an entry of the whole table.
+fn band_of_place(c: &[u8]) -> bool {
+    let extrapolate = number::flag_at(c, 0);
+    let place = number::u64_at(c, 1) as usize;
+    let answer = number::u8_at(c, 9);
+    if bands::band_of_place(extrapolate, place) != answer {
+        return false;
+    }
+    table_entry(extrapolate, place) == answer
+}
+
 // Whether the port's answer to a case is the recorded one.
 pub fn agrees(kind: u8, c: &[u8]) -> bool {
     match kind {
@@ -150,6 +170,7 @@ pub fn agrees(kind: u8, c: &[u8]) -> bool {
         15 => sign_use(c),
         20 => band(c),
         21 => ll3_offset(c),
+        22 => band_of_place(c),
         _ => false,
     }
 }

@@ -4,6 +4,8 @@
 
 ghost use mathlib.Core.Path.{_≡_};
 ghost use Rattle.answer.specs.Refusals.{answered};
+ghost use Rattle.bands.specs.Bands.{layout, bandsOf};
+ghost use Rattle.bands.specs.Tables.{bandOfPlace};
 ghost use Rattle.dequantizer.specs.Dequantize.{Dequantizes};
 ghost use Rattle.dwt_extrapolate.specs.Transform.{Inverts};
 ghost use Rattle.color.specs.Color.{rgb};
@@ -284,4 +286,23 @@ pub extern "C" fn tarjimp_tile_zero_signs(
     ensures { λ _. ⌜ now («zero_signs» .exit) ≡ zeroSigns «use_reduce_extrapolate» (now (sign .entry)) ⌝ }
 {
     *zero_signs = zero_signs::count(sign, use_reduce_extrapolate);
+}
+
+// The number of the band that a place of a component belongs to, 0 to 9; 10 for a place past the 4,096.
+#[no_mangle]
+pub extern "C" fn tarjimp_band_of_place(use_reduce_extrapolate: bool, place: usize) -> u8
+    ensures { λ r. ⌜ r ≡ bandOfPlace (layout «use_reduce_extrapolate») place ⌝ }
+{
+    bands::band_of_place(use_reduce_extrapolate, place)
+}
+
+// The number of the band of each place of a component.
+#[no_mangle]
+pub extern "C" fn tarjimp_bands_of_places(
+    use_reduce_extrapolate: bool,
+    bands: &mut [u8; bands::COEFFICIENTS_PER_COMPONENT],
+)
+    ensures { λ _. ⌜ now (bands .exit) ≡ bandsOf «use_reduce_extrapolate» ⌝ }
+{
+    *bands = bands::bands_of_places(use_reduce_extrapolate);
 }

@@ -2,7 +2,9 @@
 //! and the tile reads; and by one of which half arrives. `expected` has what the program prints.
 
 use tarjimp::dwt_extrapolate::band_layout;
-use tarjimp::progressive::{COEFFICIENTS_PER_COMPONENT, TileState, encode_upgrade_pass};
+use tarjimp::progressive::{
+    COEFFICIENTS_PER_COMPONENT, TileState, bands_of_places, encode_upgrade_pass,
+};
 use tarjimp::{ComponentCodecQuant, Error};
 
 type Component = [i16; COEFFICIENTS_PER_COMPONENT];
@@ -12,6 +14,7 @@ const USE_REDUCE_EXTRAPOLATE: bool = true;
 
 fn main() -> Result<(), Error> {
     let target = stroke();
+    println!("coefficients by band: {:?}", by_band(&target));
     let grey = [0; COEFFICIENTS_PER_COMPONENT];
 
     // What a first pass brings: the bits from position 5 on.
@@ -103,6 +106,15 @@ fn stroke() -> Component {
     let row = hl3.offset + 4 * hl3.width;
     (target[row], target[row + 7]) = (-9, 13);
     target
+}
+
+/// How many coefficients of each band are not 0.
+fn by_band(target: &Component) -> [usize; 10] {
+    let mut counts = [0; 10];
+    for (coefficient, band) in target.iter().zip(bands_of_places(USE_REDUCE_EXTRAPOLATE)) {
+        counts[usize::from(band)] += usize::from(*coefficient != 0);
+    }
+    counts
 }
 
 /// Coefficients without the bits of their magnitudes below a position.

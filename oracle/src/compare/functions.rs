@@ -5,6 +5,7 @@
 mod cuts;
 mod passes;
 mod pixels;
+mod places;
 mod srl;
 mod tiles;
 
@@ -12,7 +13,7 @@ use std::fmt::Debug;
 
 use oracle::kinds::progressive::{decode, dequantize, encode, ladder};
 use oracle::kinds::srl as srl_kinds;
-use oracle::kinds::{color, progressive, wavelet, wrong};
+use oracle::kinds::{color, places as place_kinds, progressive, wavelet, wrong};
 use oracle::record::Fields;
 
 /// Whether the functions agree with the text, and if not, what differs.
@@ -28,6 +29,7 @@ pub fn agree(kind: u8, case: &[u8]) -> Option<Agrees> {
     const DWT_IMPULSE: u8 = wavelet::DWT_IMPULSE.number;
     const YCBCR_TO_RGB: u8 = color::YCBCR_TO_RGB.number;
     const YCBCR_ROW: u8 = color::YCBCR_ROW.number;
+    const BAND_OF_PLACE: u8 = place_kinds::BAND_OF_PLACE.number;
     let mut fields = Fields::of(case);
     let agrees = match kind {
         srl_kinds::decode::SRL_DECODE => srl::decode(&mut fields),
@@ -43,6 +45,7 @@ pub fn agree(kind: u8, case: &[u8]) -> Option<Agrees> {
         DWT_IMPULSE => pixels::dwt_impulse(&mut fields),
         YCBCR_TO_RGB => pixels::ycbcr_to_rgb(&mut fields),
         YCBCR_ROW => pixels::ycbcr_row(&mut fields),
+        BAND_OF_PLACE => places::band_of_place(&mut fields),
         WRONG_ANSWER | wrong::WRONG_CASE => {
             let (&kind, case) = case.split_first()?;
             return agree(kind, case).map(not);

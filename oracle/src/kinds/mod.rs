@@ -4,6 +4,7 @@ mod bands;
 pub mod color;
 mod fixed;
 pub mod missing;
+pub mod places;
 pub mod progressive;
 pub mod room;
 pub mod srl;
@@ -16,7 +17,7 @@ use crate::record::{Case, Recording};
 use oracle::random::Random;
 
 /// The number and the name of each kind.
-pub const KINDS: [(u8, &str); 33] = [
+pub const KINDS: [(u8, &str); 34] = [
     (1, "clamp_i16"),
     (2, "clamp_u8"),
     (3, "t"),
@@ -34,6 +35,7 @@ pub const KINDS: [(u8, &str); 33] = [
     (15, "sign_use"),
     (20, "band"),
     (21, "ll3_offset"),
+    (22, "band_of_place"),
     (31, "wrong_answer"),
     (32, "srl_decode"),
     (33, "srl_encode"),
@@ -68,6 +70,7 @@ fn size(kind: u8) -> Option<usize> {
     let one_size = fixed::KINDS.iter().chain(&[
         bands::BAND,
         bands::LL3_OFFSET,
+        places::BAND_OF_PLACE,
         wrong::WRONG_ANSWER,
         srl::exhaustive::SRL_EXHAUSTIVE,
         progressive::cuts::CUT_EVERYWHERE,
@@ -99,6 +102,7 @@ const IMPOSSIBLE_STATE: u8 = 8;
 pub fn record_all(recording: &mut Recording<'_>) -> io::Result<()> {
     fixed::record_all(recording)?;
     bands::record_all(recording)?;
+    places::record_all(recording)?;
     let mut models = srl::record_all(recording)?;
     models.extend(progressive::record_all(recording)?);
     wavelet::record_all(recording)?;
