@@ -103,11 +103,7 @@ bandBy e p = getD (bandsOf e) p 0
 abbrev pub endBy : Bool → ℕ → ℕ
 endBy e p = getD (bandEnds e) (bandBy e p) 0
 
--- it is one of ten
-pub by-ten : (e : Bool) (p : ℕ) → bandBy e p < 10
-by-ten = one-of-ten
-
--- and ends where its count says
+-- it ends where its count says
 end-of : (e : Bool) (p : ℕ) → endBy e p ≡ bandAt e (bandBy e p) .offset + countOf (bandAt e (bandBy e p))
 end-of e p = List·getD-map (λ (i : BandInfo). i .offset + countOf i) (layout e) (bandBy e p) none
 

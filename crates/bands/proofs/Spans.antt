@@ -5,7 +5,7 @@ use mathlib.Core.List.{List, _++_}
 use Prim.Native.Nat.{ℕ, _+_, _-_, _≤_, _<_}
 use native.Mathlib.Omega.{arith}
 use borrow.Rule.Slice.PartMut.{midOf}
-use lib.ListN.{length, getD, drop, replicate, length-append, length-drop, length-replicate}
+use lib.ListN.{length, getD, drop, replicate, length-drop}
 use lib.Seq.{length-take-le}
 use Rattle.bands.specs.Bands.{layout, countOf, bandAt, none}
 use Rattle.bands.specs.declared.BandInfo.{BandInfo}
@@ -27,12 +27,6 @@ pub place-more : {A : Type 0} (e : Bool) (f : ℕ → A) (b from to : ℕ) → L
 place-more e f b from to p =
     let k : countOf (bandAt e b) ≡ to - from = omega (arith, p .ends) in
     place-next e f b (p .number) ∙ ap (λ (n : ℕ). perPlaceTo e f b ++ replicate n (f b)) k
-
-pub more-length : {A : Type 0} (e : Bool) (f : ℕ → A) (b from to : ℕ) → Lies e b from to → length (perPlaceTo e f (b + 1)) ≡ length (perPlaceTo e f b) + (to - from)
-more-length e f b from to p =
-    ap length (place-more e f b from to p)
-    ∙ length-append (perPlaceTo e f b) (replicate (to - from) (f b))
-    ∙ ap (λ (n : ℕ). length (perPlaceTo e f b) + n) (length-replicate (to - from) (f b))
 
 -- ════ a layout at hand ════
 

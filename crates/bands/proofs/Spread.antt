@@ -48,10 +48,6 @@ length-to f k (i ∷ is) (suc b) =
 abbrev pub perPlaceTo : {A : Type 0} → Bool → (ℕ → A) → ℕ → List A
 perPlaceTo e f b = spreadTo f 0 (layout e) b
 
-pub place-none : {A : Type 0} (e : Bool) (f : ℕ → A) → perPlaceTo e f 0 ≡ []
-unfolding spreadTo
-place-none e f = refl
-
 pub place-next : {A : Type 0} (e : Bool) (f : ℕ → A) (b : ℕ) → b < 10 → perPlaceTo e f (b + 1) ≡ perPlaceTo e f b ++ replicate (countOf (bandAt e b)) (f b)
 place-next e f b h =
     ap (perPlaceTo e f) (add-one b)

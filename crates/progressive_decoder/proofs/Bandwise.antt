@@ -7,12 +7,11 @@ use native.Mathlib.Omega.{arith}
 use borrow.Rule.Slice.PartMut.{putMid, midOf}
 use lib.IntN.{ℤ}
 use lib.ListN.{length, take, replicate, length-replicate}
-use lib.Seq.{length-take-le}
-use Rattle.bands.proofs.Spread.{place-whole}
 use Rattle.srl_decoder.specs.Srl.{start}
 use Rattle.srl_decoder.specs.Decode.{opened}
-use Rattle.upgrade_steps.specs.Steps.{Step, stepOf, steps}
+use Rattle.upgrade_steps.specs.Steps.{Step, steps}
 use Rattle.upgrade_steps.specs.Inner.{SameStep}
+use Rattle.upgrade_steps.proofs.Stretches.{first-length}
 use Rattle.progressive_decoder.specs.Inner.{Walked, walked, walk, walkedBy}
 use Rattle.progressive_decoder.specs.declared.upgrade.Readers.{Readers}
 use Rattle.progressive_decoder.proofs.Walks.{parted, walk-part}
@@ -26,7 +25,7 @@ module _ (s d : List ℕ) (e : Bool) (prev curr : List ℕ) (from to : ℕ) (t :
   band-turn cs ss cs′ ss′ r w h k before now =
       let ts = take from (steps e prev curr) in
       let us = replicate (to - from) t in
-      let o : length ts ≡ from = length-take-le from (steps e prev curr) (omega (arith, place-whole e (stepOf prev curr), p .begins, p .ends)) in
+      let o : length ts ≡ from = first-length p in
       let n : length us ≡ to - from = length-replicate (to - from) t in
       ap (λ (l : List Step). walk s d l cs ss start 0) (p .more)
       ∙ walk-part s d ts us cs ss start 0 (omega (arith, o, n, p .begins, p .ends)) (omega (arith, o, n, p .begins, p .ends))

@@ -14,6 +14,7 @@ use Rattle.upgrade_steps.specs.Steps.{Step, Source, skipped, srl, raw, source, 
 use Rattle.upgrade_steps.specs.Inner.{fromSrl, SameStep}
 use Rattle.progressive_encoder.specs.Encode.{srlDifference, rawDifference, srlGiven, rawGiven, srlDifferences, rawDifferences}
 use Rattle.progressive_encoder.specs.Inner.{Lists, lists, passLists, placeLists, bandLists, Slices, Part, WentOver, GoesOver, GoesOverBand, Before}
+use Rattle.upgrade_steps.proofs.Stretches.{first-length}
 use Rattle.upgrade_steps.proofs.Sources.{source-srl, source-raw, source-none}
 
 -- ════ one place ════
@@ -231,7 +232,7 @@ module _ {X : Type 0} (R : Lists → X → X → Type 0) (o : Placewise R) (B : 
         let ts = steps e prev curr in
         let us = replicate (to - i) t in
         let k : length (partOf i to cs) ≡ to - i = part-length i to cs (omega (arith, p .ends, h .coefficients)) in
-        let m : length (take i ts) ≡ i = length-take-le i ts (omega (arith, place-whole e (stepOf prev curr), p .begins, p .ends)) in
+        let m : length (take i ts) ≡ i = first-length p in
         let n : length us ≡ to - i = length-replicate (to - i) t in
         let first = passLists (take i ts) cs ps ss in
         let all : passLists (take to ts) cs ps ss ≡ joined first (bandLists t (length (partOf i to cs)) (partOf i to cs) (partOf i to ps) (partOf i to ss)) =

@@ -44,11 +44,10 @@ zero-if false (suc w) s = by (isZero s) refl
     by false e = tt
 
 -- at index i
-KeptAt : List ℤ → List ℤ → ℕ → Type 0
+abbrev pub KeptAt : List ℤ → List ℤ → ℕ → Type 0
 KeptAt ss new i = getD ss i (pos 0) ≢ pos 0 → getD new i (pos 0) ≡ getD ss i (pos 0)
 
 place-kept : (o : Source) (s : ℤ) (ss vs : List ℤ) (rest : List ℤ → List ℤ) → ZeroIf o s → ((vs : List ℤ) (i : ℕ) → KeptAt ss (rest vs) i) → (i : ℕ) → KeptAt (s ∷ ss) (signThen o s vs rest) i
-unfolding KeptAt
 place-kept skipped s ss vs rest z k zero = λ h. refl
 place-kept skipped s ss vs rest z k (suc i) = k vs i
 place-kept raw s ss vs rest z k zero = λ h. refl
@@ -59,7 +58,7 @@ place-kept srl s ss (v ∷ vs) rest z k zero = λ h. absurd (h z)
 place-kept srl s ss (v ∷ vs) rest z k (suc i) = k vs i
 
 all-kept : (ts : List Step) (ss vs : List ℤ) (i : ℕ) → KeptAt ss (signsAfter ts ss vs) i
-unfolding signsAfter KeptAt
+unfolding signsAfter
 all-kept [] ss vs i = λ h. refl
 all-kept (t ∷ ts) [] vs i = λ h. refl
 all-kept (t ∷ ts) (s ∷ ss) vs i = place-kept (source t s) s ss vs (signsAfter ts ss) (zero-if (t .bottom) (t .width) s) (all-kept ts ss) i
@@ -72,7 +71,7 @@ pub record KeptIn (t u : TileState) : Type 0 where
   pub kept : (k i : ℕ) → k < 3 → tileSign t k i ≢ pos 0 → tileSign u k i ≡ tileSign t k i
 
 pub upgraded-kept : (t : TileState) → length (t .sign) ≡ 12288 → (srlData rawData rows : List (List ℕ)) (q : ℕ) → KeptIn t (upgraded t srlData rawData rows q)
-unfolding upgraded passSigns KeptAt
+unfolding upgraded passSigns
 upgraded-kept t h srlData rawData rows q = record {
   long = joined-long 4096 (λ k. upgradedSigns (stepsOf e p rows k) (of srlData k) (component k ss)) long;
   kept = λ k i l n. ap (λ (new : List ℤ). getD new i (pos 0)) (component-joined (λ k. upgradedSigns (stepsOf e p rows k) (of srlData k) (component k ss)) long k l)

@@ -29,7 +29,7 @@ use Rattle.reach.specs.Place.{Gains}
 use Rattle.reach.specs.Component.{ComponentGains}
 use Rattle.reach.specs.Corollaries.{rowsAt}
 use Rattle.reach.specs.Undecided.{numberAt, total, setIn, Falls, blank, allBits, notEight, TrueZeros, UndecidedFalls}
-use Rattle.reach.proofs.Signs.{KeptIn, upgraded-kept}
+use Rattle.reach.proofs.Signs.{KeptAt, KeptIn, upgraded-kept}
 use Rattle.reach.proofs.AnyList.{Right, answers, reachable-pictures}
 use Rattle.reach.proofs.Tiles.{given-row, joined-path}
 use Rattle.reach.proofs.Instances.{thirds, zero-place, same-position, inside, three-at, row-of, whole-part, start, lower-at, all-over-fits}
@@ -38,7 +38,7 @@ use Rattle.reach.proofs.Instances.{thirds, zero-place, same-position, i
 
 -- no sign that is not 0 is lost
 abbrev Kept : List ℤ → List ℤ → Type 0
-Kept old new = (i : ℕ) → getD old i (pos 0) ≢ pos 0 → getD new i (pos 0) ≡ getD old i (pos 0)
+Kept old new = (i : ℕ) → KeptAt old new i
 
 -- then the zeros fall by the signs that are set
 zeros-fall : (old new : List ℤ) → length new ≡ length old → Kept old new → zerosIn old ≡ zerosIn new + setIn old new

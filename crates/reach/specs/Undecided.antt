@@ -35,15 +35,20 @@ setIn [] new = 0
 setIn (s ∷ old) [] = 0
 setIn (s ∷ old) (s′ ∷ new) = cond (isZero s && not (isZero s′)) 1 0 + setIn old new
 
+-- the signs of a component's band in a tile, by a layout
+abbrev pub bandSigns : Bool → ℕ → ℕ → TileState → List ℤ
+bandSigns e b k t = signsIn (bandAt e b) (component k (t .sign))
+
 -- what becomes of the numbers from a tile t to the tile u after a pass
 pub record Falls (t u : TileState) : Type 0 where
   -- "the number of a band falls exactly by the number of signs that the pass set in it"
   pub band : (k b : ℕ) → k < 3 → b < 10
-      → numberAt t k b ≡ numberAt u k b + setIn (signsIn (bandAt (t .«use_reduce_extrapolate») b) (component k (t .sign))) (signsIn (bandAt (t .«use_reduce_extrapolate») b) (component k (u .sign)))
+      → numberAt t k b ≡ numberAt u k b + setIn (bandSigns (t .«use_reduce_extrapolate») b k t) (bandSigns (t .«use_reduce_extrapolate») b k u)
   -- "an accepted upgrade never raises a number"
   pub not-raised : (k b : ℕ) → k < 3 → b < 10 → numberAt u k b ≤ numberAt t k b
   -- ".. and the sum over a component by the number of signs that it set there"
-  pub sum : (k : ℕ) → k < 3 → total (rowOf k (t .«zero_signs»)) ≡ total (rowOf k (u .«zero_signs»)) + setIn (component k (t .sign)) (component k (u .sign))
+  pub sum : (k : ℕ) → k < 3
+      → total (rowOf k (t .«zero_signs»)) ≡ total (rowOf k (u .«zero_signs»)) + setIn (component k (t .sign)) (component k (u .sign))
 
 -- ════ zeros that are true ════
 

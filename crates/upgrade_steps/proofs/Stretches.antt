@@ -6,11 +6,13 @@ use Prim.Native.Nat.{ℕ, _-_, _≤_, _<_}
 use native.Mathlib.Omega.{arith}
 use borrow.Author.Tests.{ltb-true, ltb-false}
 use lib.Dec.{ltb}
-use lib.ListN.{length, getD, List·getD-eq-default}
+use lib.ListN.{length, getD, take, List·getD-eq-default}
+use lib.Seq.{length-take-le}
 use Rattle.bands.specs.Positions.{rowInDomain}
 use Rattle.bands.proofs.Every.{low-position}
+use Rattle.bands.proofs.Spread.{place-whole}
 use Rattle.bands.proofs.Places.{bandBy, endBy, stretch, stretch-more}
-use Rattle.upgrade_steps.specs.Steps.{Step, stepOf}
+use Rattle.upgrade_steps.specs.Steps.{Step, stepOf, steps}
 use Rattle.upgrade_steps.specs.Inner.{SameStep}
 
 -- a row in the domain has low positions, and past its end they are 0
@@ -33,3 +35,8 @@ same-step e prev curr p to t h n u =
       narrow = λ q. omega (arith, ap (λ (x : Step). x .width) u, low prev (bandBy e p) q);
       low = λ q. omega (arith, ap (λ (x : Step). x .position) u, low curr (bandBy e p) q);
     }
+
+-- as many places come before it as its number says
+pub first-length : {e : Bool} {prev curr : List ℕ} {from to : ℕ} {t : Step} → SameStep e prev curr from to t → length (take from (steps e prev curr)) ≡ from
+first-length {e = e} {prev = prev} {curr = curr} {from = from} p =
+    length-take-le from (steps e prev curr) (omega (arith, place-whole e (stepOf prev curr), p .begins, p .ends))

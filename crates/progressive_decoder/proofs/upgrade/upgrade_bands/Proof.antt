@@ -1,18 +1,17 @@
 -- `progressive_decoder::upgrade::upgrade_bands` meets its contract: when a turn begins, both slices and both readers are those of a walk over the first i places. Assumes nothing.
-use mathlib.Core.Path.{_≡_, refl, sym, ap, ap₂, _∙_, subst}
+use mathlib.Core.Path.{_≡_, refl, sym, ap, _∙_, subst}
 use mathlib.Core.List.{List}
-use Prim.Native.Nat.{ℕ, _+_, _-_, _*_, _≤_, _<_}
+use Prim.Native.Nat.{ℕ, _+_, _-_, _*_, _≤_}
 use native.Mathlib.Omega.{arith}
 use borrow.Rule.Slice.PartMut.{midOf, mid-len}
 use lib.ListN.{length, getD, take, replicate}
 use lib.Seq.{take-all}
 use Rattle.bits.specs.Bits.{bitsRead}
-use Rattle.bands.proofs.Places.{by-ten}
-use Rattle.bands.proofs.Spread.{place-whole}
+use Rattle.bands.proofs.Spread.{place-whole, one-of-ten}
 use Rattle.srl_decoder.specs.Srl.{start}
 use Rattle.srl_decoder.specs.Decode.{opened}
 use Rattle.srl_decoder.specs.declared.SrlState.{SrlState}
-use Rattle.upgrade_steps.specs.Steps.{Step, stepOf, steps}
+use Rattle.upgrade_steps.specs.Steps.{stepOf, steps}
 use Rattle.upgrade_steps.specs.Inner.{bandStep, SameStep}
 use Rattle.progressive_decoder.specs.Inner.{Walked, walk, walkedBy, Early}
 use Rattle.progressive_decoder.proofs.Bandwise.{band-turn}
@@ -56,7 +55,7 @@ stretch-at-requires c κs =
     let a = c .before .before .before .before .before .before .before .before .before .args in
     let i = c .before .before .loop .i in
     let number = ap (λ (l : List ℕ). getD l i 0) (c .before .before .before .before .before .bands-of-places .ensures) in
-    (omega (arith, c .before .loop-test .taken), omega (arith, number, by-ten (a .use-reduce-extrapolate) i))
+    (omega (arith, c .before .loop-test .taken), omega (arith, number, one-of-ten (a .use-reduce-extrapolate) i))
 
 -- from the place at hand to the end of its band
 same : (c : tie.After-stretch-at Inv-loop μ-loop) → SameStep (c .before .before .before .before .before .before .before .before .before .before .args .use-reduce-extrapolate) (c .before .before .before .before .before .before .before .before .before .before .args .prev) (c .before .before .before .before .before .before .before .before .before .before .args .curr) (c .before .before .before .loop .i) (c .stretch-at .result .to) (bandStep (c .stretch-at .result .step))

@@ -3,7 +3,7 @@ use mathlib.Core.Path.{_≡_, refl, _∙_}
 use Prim.Native.Nat.{_-_, _≤_}
 use native.Mathlib.Omega.{arith}
 use lib.ListN.{length}
-use Rattle.bands.proofs.Places.{by-ten}
+use Rattle.bands.proofs.Spread.{one-of-ten}
 use Rattle.upgrade_steps.specs.Inner.{bandStep, SameStep}
 use Rattle.progressive_encoder.specs.Inner.{freshSinks, outputs, Stores, Ready}
 use Rattle.progressive_encoder.proofs.Placewise.{WentTo, walk-begins, next-part, next-room, walk-on, walk-ends}
@@ -34,7 +34,7 @@ loop-holds c =
 stretch-at-requires : tie.Need-stretch-at-requires Inv-loop μ-loop
 stretch-at-requires c κs =
     let k = c .before .before .before .before .before .before in
-    (c .loop-test .taken, rw (k .pre .0) (by-ten (k .args .use-reduce-extrapolate) (c .before .loop .i)))
+    (c .loop-test .taken, rw (k .pre .0) (one-of-ten (k .args .use-reduce-extrapolate) (c .before .loop .i)))
 
 -- the band that is next
 next : (c : tie.After-stretch-at Inv-loop μ-loop) → SameStep (c .before .before .before .before .before .before .before .args .use-reduce-extrapolate) (c .before .before .before .before .before .before .before .args .prev) (c .before .before .before .before .before .before .before .args .curr) (c .before .before .loop .i) (c .stretch-at .result .to) (bandStep (c .stretch-at .result .step))
