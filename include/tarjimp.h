@@ -5,9 +5,9 @@
  * Link with libtarjimp.a, which `rt staticlib tarjimp` writes to
  * target/staticlib/. It needs no other library, keeps no state of its own,
  * allocates nothing, and any number of threads may call it. A call takes up to
- * 1 KB of stack; tarjimp_band_of_place 5, tarjimp_decode_upgrade_pass and
- * tarjimp_tile_decode_upgrade 8, tarjimp_tile_reconstruct_to_rgba 36 (measured
- * on x86-64).
+ * 1 KB of stack; tarjimp_band_of_place and tarjimp_encode_upgrade_pass 5,
+ * tarjimp_decode_upgrade_pass and tarjimp_tile_decode_upgrade 12,
+ * tarjimp_tile_reconstruct_to_rgba 36 (measured on x86-64).
  *
  * WHAT A CALL RETURNS
  *
