@@ -182,7 +182,7 @@ void tarjimp_ycbcr_to_rgb(int16_t y, int16_t cb, int16_t cr, uint8_t rgb[3]);
  * The number of the band that a place of a component belongs to: 0 to 9 in band
  * order, HL1 .. LL3, or TARJIMP_NO_BAND for a place at or past 4096. A call
  * builds the layout's table anew and takes as long as the filling function
- * below, 55 to 75 nanoseconds (measured on x86-64): who colours a whole
+ * below, 55 to 70 nanoseconds (measured on x86-64): who colours a whole
  * component takes that one.
  */
 uint8_t tarjimp_band_of_place(bool use_reduce_extrapolate, size_t place);
