@@ -104,6 +104,10 @@ past i p h = rw (le-leb (i .offset) p (omega arith), le-ltb p (i .offset + count
 pub is-yes : (b : Bool) → b ≡ true → T b
 is-yes b e = rw e tt
 
+pub yes-is : (b : Bool) → T b → b ≡ true
+yes-is true t = refl
+yes-is false t = absurd t
+
 -- a band encloses no place before the first band
 no-earlier : (at : ℕ) (l : List BandInfo) (end b p : ℕ) → T (laid at l end) → b < length l → T (encloses (getD l b none) p) → at ≤ p
 no-earlier at l end b p t h k = omega (arith, running-sum at l end b t h, enclosed (getD l b none) p k)

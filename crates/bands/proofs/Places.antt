@@ -1,19 +1,21 @@
 -- The tables of places: one test, computed over all entries of both, and what a walk from band to band wants of them.
-use mathlib.Core.Bool.{Bool, true, false, _&&_}
+use mathlib.Core.Bool.{Bool, true, false, _&&_, true≢false}
 use mathlib.Core.List.{List, [], _∷_, _++_, map, append-nil, append-assoc}
 use mathlib.Core.Path.{_≡_, refl, sym, ap, ap₂, _∙_, subst}
 use Prim.Native.Nat.{ℕ, zero, suc, _+_, _-_, _≤_, _<_}
 use native.Mathlib.Nat.{add-zero, zero-add, add-suc, suc-add}
 use native.Mathlib.Numerals.{add-one}
 use native.Mathlib.Omega.{arith}
+use borrow.Author.Tests.{eqb-true}
 use lib.Dec.{T, eqb, eqb→eq}
 use lib.ListN.{length, getD, take, replicate, replicate-append-replicate, List·getD-map}
 use lib.Seq.{take-suc}
 use mir.Facts.{and-yes}
 use Rattle.bands.specs.declared.BandInfo.{BandInfo}
 use Rattle.bands.specs.Bands.{layout, none, countOf, bandAt, spread, perPlace, bandsOf, positionOf}
-use Rattle.bands.specs.Tables.{encloses, bandOfPlace, bandEnds, PlaceTables}
-use Rattle.bands.proofs.Laid.{tables, past-all, band-within, band-small, enclosed, within, is-yes}
+use Rattle.bands.specs.Tables.{encloses, bandOfPlace, areSame, bandEnds, PlaceTables}
+use Rattle.bands.proofs.Every.{both-true}
+use Rattle.bands.proofs.Laid.{tables, past-all, band-within, band-small, enclosed, within, is-yes, yes-is}
 use Rattle.bands.proofs.Spread.{place-map, place-whole, bands-whole, one-of-ten}
 
 -- ════ a rule of a list, at all of its entries ════
@@ -32,20 +34,18 @@ from-on f i (x ∷ xs) t (suc k) h =
 
 -- ════ two lists, compared ════
 
-abbrev pub sameNumbers : List ℕ → List ℕ → Bool
-sameNumbers [] [] = true
-sameNumbers [] (y ∷ ys) = false
-sameNumbers (x ∷ xs) [] = false
-sameNumbers (x ∷ xs) (y ∷ ys) = eqb x y && sameNumbers xs ys
+-- the same just where they are equal
+pub same-is : (a b : List ℕ) → areSame a b ≡ true → a ≡ b
+same-is [] [] e = refl
+same-is [] (n ∷ b) e = absurd (true≢false (sym e))
+same-is (m ∷ a) [] e = absurd (true≢false (sym e))
+same-is (m ∷ a) (n ∷ b) e =
+    let both = both-true (eqb m n) (areSame a b) e in
+    ap₂ (λ (x : ℕ) (l : List ℕ). x ∷ l) (eqb-true m n (both .0)) (same-is a b (both .1))
 
--- by that test the code's tables are those of the definition
-pub same-is : (xs ys : List ℕ) → T (sameNumbers xs ys) → xs ≡ ys
-same-is [] [] t = refl
-same-is [] (y ∷ ys) t = absurd t
-same-is (x ∷ xs) [] t = absurd t
-same-is (x ∷ xs) (y ∷ ys) t =
-    let p = and-yes (eqb x y) (sameNumbers xs ys) t in
-    ap₂ (λ (z : ℕ) (zs : List ℕ). z ∷ zs) (eqb→eq x y (p .0)) (same-is xs ys (p .1))
+-- by the test, computed
+pub tested : (a b : List ℕ) → T (areSame a b) → a ≡ b
+tested a b t = same-is a b (yes-is (areSame a b) t)
 
 -- ════ the tables ════
 

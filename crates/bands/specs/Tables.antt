@@ -3,7 +3,7 @@ use mathlib.Core.Bool.{Bool, true, false, cond, _&&_}
 use mathlib.Core.List.{List, [], _∷_, map}
 use mathlib.Core.Path.{_≡_}
 use Prim.Native.Nat.{ℕ, zero, suc, _+_, _≤_, _<_}
-use lib.Dec.{T, leb, ltb}
+use lib.Dec.{T, eqb, leb, ltb}
 use lib.ListN.{length, getD}
 use Rattle.bands.specs.declared.BandInfo.{BandInfo}
 use Rattle.bands.specs.Bands.{layout, countOf, bandAt, bottomOffset, perPlace, bandsOf, positionOf}
@@ -42,6 +42,13 @@ pub record BandTables : Type 0 where
   pub bottom-standard : bottomOffset false ≡ 4032
   -- each place belongs to exactly one band
   pub one-band : (e : Bool) (p : ℕ) → p < 4096 → OnlyBand e p (bandOfPlace (layout e) p)
+
+-- two lists have the same numbers
+abbrev pub areSame : List ℕ → List ℕ → Bool
+areSame [] [] = true
+areSame [] (n ∷ ns) = false
+areSame (m ∷ ms) [] = false
+areSame (m ∷ ms) (n ∷ ns) = eqb m n && areSame ms ns
 
 -- where each band of a layout ends
 abbrev pub bandEnds : Bool → List ℕ

@@ -20,7 +20,8 @@ use Rattle.answer.specs.Refusals.{outOfDomain, unless, answered, unlessRefused}
 use Rattle.planes.specs.Planes.{component, rowOf, joined, of, taken}
 use Rattle.planes.proofs.Joined.{row-joined, parts-long}
 use Rattle.zero_signs.specs.ZeroSigns.{zerosIn, signsIn, bandZeros, zeroSigns}
-use Rattle.zero_signs.proofs.Counted.{zeros-parts, same-is, ten-numbers, number-at, uniform-tile}
+use Rattle.bands.proofs.Places.{same-is}
+use Rattle.zero_signs.proofs.Counted.{zeros-parts, ten-numbers, number-at, uniform-tile}
 use Rattle.tile.specs.Tile.{fresh, loaded, upgraded, upgradeRefusal}
 use Rattle.tile.specs.declared.TileState.{TileState}
 use Rattle.tile.proofs.Accepted.{numbers-right}

@@ -1,12 +1,12 @@
 -- Zeros counted: one more, and a part by parts. The numbers of a tile's bands.
 use mathlib.Core.Path.{_≡_, refl, sym, ap, ap₂, _∙_}
-use mathlib.Core.Bool.{Bool, true, false, true≢false, cond, _&&_}
+use mathlib.Core.Bool.{Bool, true, false, cond, _&&_}
 use mathlib.Core.List.{List, [], _∷_, _++_, map}
 use Prim.Native.Nat.{ℕ, zero, suc, _+_, _≤_, _<_}
 use native.Mathlib.Nat.{le-of-suc-le-suc, zero-add, suc-add}
 use native.Mathlib.Numerals.{add-one}
 use native.Mathlib.Omega.{arith}
-use borrow.Author.Tests.{eqb-true, eq-eqb}
+use borrow.Author.Tests.{eq-eqb}
 use borrow.Rule.Slice.PartMut.{putMid}
 use lib.Dec.{eqb}
 use lib.IntN.{ℤ, pos}
@@ -14,12 +14,12 @@ use lib.ListN.{length, getD, take, drop, replicate, length-replicate, take-appen
 use lib.Seq.{slice, slice-cons, drop-cons, take-take, length-take-le, drop-append-le, ext-getD}
 use Rattle.bands.specs.Bands.{layout, countOf, bandAt, none}
 use Rattle.bands.specs.declared.BandInfo.{BandInfo}
-use Rattle.bands.proofs.Every.{both-true}
 use Rattle.bands.proofs.Laid.{ten-bands, band-within}
 use Rattle.planes.specs.Planes.{component, joined}
 use Rattle.planes.proofs.Joined.{put-all, component-joined}
 use Rattle.fixed.specs.Fixed.{isZero}
-use Rattle.zero_signs.specs.ZeroSigns.{zerosIn, signsIn, bandZeros, zeroSigns, areSame}
+use Rattle.zero_signs.specs.ZeroSigns.{zerosIn, signsIn, bandZeros, zeroSigns}
+use Rattle.bands.specs.Tables.{areSame}
 
 -- ════ zeros among some signs ════
 
@@ -63,18 +63,10 @@ pub same-next : (a b : List ℕ) (i : ℕ) (x : Bool) → eqb (getD a i 0) (getD
     → (x && areSame (drop (i + 1) a) (drop (i + 1) b)) ≡ areSame (drop i a) (drop i b)
 same-next a b i x e h l = rw (add-one i, ← e, drop-cons a i 0 h, drop-cons b i 0 (omega (arith, l))) refl
 
--- the same just where they are equal
+-- a list has the same numbers as itself
 pub same-refl : (l : List ℕ) → areSame l l ≡ true
 same-refl [] = refl
 same-refl (n ∷ l) = rw (eq-eqb n n refl) (same-refl l)
-
-pub same-is : (a b : List ℕ) → areSame a b ≡ true → a ≡ b
-same-is [] [] e = refl
-same-is [] (n ∷ b) e = absurd (true≢false (sym e))
-same-is (m ∷ a) [] e = absurd (true≢false (sym e))
-same-is (m ∷ a) (n ∷ b) e =
-    let both = both-true (eqb m n) (areSame a b) e in
-    ap₂ (λ (x : ℕ) (l : List ℕ). x ∷ l) (eqb-true m n (both .0)) (same-is a b (both .1))
 
 -- ════ the numbers of a component ════
 

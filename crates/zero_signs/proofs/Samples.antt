@@ -5,7 +5,8 @@ use mathlib.Core.List.{List, [], _∷_, _++_}
 use lib.IntN.{ℤ, pos, negsuc}
 use lib.ListN.{replicate}
 use Rattle.fixed.specs.Fixed.{isZero}
-use Rattle.zero_signs.specs.ZeroSigns.{zerosIn, bandZeros, areSame}
+use Rattle.bands.specs.Tables.{areSame}
+use Rattle.zero_signs.specs.ZeroSigns.{zerosIn, bandZeros}
 
 -- 5 and -1 are not 0
 two-zeros : zerosIn (pos 0 ∷ pos 5 ∷ negsuc 0 ∷ pos 0 ∷ []) ≡ 2

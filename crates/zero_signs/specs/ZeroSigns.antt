@@ -1,12 +1,12 @@
 -- How many signs of each band are 0 (docs/SCOPE.md, "Zero signs").
-use mathlib.Core.Bool.{Bool, true, false, cond, _&&_}
+use mathlib.Core.Bool.{Bool, cond}
 use mathlib.Core.List.{List, [], _∷_, map}
 use Prim.Native.Nat.{ℕ, _+_}
-use lib.Dec.{eqb}
 use lib.IntN.{ℤ}
 use lib.Seq.{slice}
 use Rattle.fixed.specs.Fixed.{isZero}
 use Rattle.bands.specs.Bands.{layout, countOf}
+use Rattle.bands.specs.Tables.{areSame}
 use Rattle.bands.specs.declared.BandInfo.{BandInfo}
 use Rattle.planes.specs.Planes.{component, joined}
 
@@ -26,13 +26,6 @@ bandZeros e ss = map (λ i. zerosIn (signsIn i ss)) (layout e)
 -- the thirty of a tile: "three rows of ten, one row a component"
 unfoldable pub zeroSigns : Bool → List ℤ → List ℕ
 zeroSigns e ss = joined (λ k. bandZeros e (component k ss))
-
--- two lists have the same numbers
-abbrev pub areSame : List ℕ → List ℕ → Bool
-areSame [] [] = true
-areSame [] (n ∷ ns) = false
-areSame (m ∷ ms) [] = false
-areSame (m ∷ ms) (n ∷ ns) = eqb m n && areSame ms ns
 
 -- the numbers are right: "each is the number of signs of that band of that component that are 0"
 abbrev pub areRight : Bool → List ℤ → List ℕ → Bool

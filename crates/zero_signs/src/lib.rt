@@ -4,7 +4,8 @@ ghost use mathlib.Core.Bool.{true};
 ghost use Prim.Native.Nat.{_+_, _≤_};
 ghost use lib.ListN.{length};
 ghost use lib.Seq.{slice};
-ghost use Rattle.zero_signs.specs.ZeroSigns.{zerosIn, bandZeros, zeroSigns, areSame, areRight};
+ghost use Rattle.bands.specs.Tables.{areSame};
+ghost use Rattle.zero_signs.specs.ZeroSigns.{zerosIn, bandZeros, zeroSigns, areRight};
 
 // The zeros among the signs from `from` to `to`, of which there are few: in a count of one byte the compiler takes sixteen signs at once.
 fn few_zeros(signs: &[i8], from: usize, to: usize) -> u8

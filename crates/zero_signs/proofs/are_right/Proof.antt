@@ -1,7 +1,7 @@
 -- `zero_signs::are_right` meets its contract. Assumes nothing.
 use mathlib.Core.Path.{ap, _∙_}
 use borrow.Author.Needs.{needs}
-use Rattle.zero_signs.specs.ZeroSigns.{areSame}
+use Rattle.bands.specs.Tables.{areSame}
 use Rattle.zero_signs.proofs.are_right.Statement.{statement}
 use Rattle.zero_signs.proofs.are_right.Tie as tie
 

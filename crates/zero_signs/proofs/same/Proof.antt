@@ -6,7 +6,7 @@ use native.Mathlib.Omega.{arith}
 use lib.ListN.{length, drop, drop-of-length-le}
 use borrow.Author.Tests.{eq-eqb, ne-eqb}
 use borrow.Author.Needs.{needs}
-use Rattle.zero_signs.specs.ZeroSigns.{areSame}
+use Rattle.bands.specs.Tables.{areSame}
 use Rattle.zero_signs.proofs.Counted.{same-next}
 use Rattle.zero_signs.proofs.same.Statement.{statement}
 use Rattle.zero_signs.proofs.same.Tie as tie
