@@ -1,13 +1,13 @@
 -- An upgrade pass over one component, written (docs/SCOPE.md, "Upgrade pass"; MS-RDPEGFX 3.2.8.1.5.2): the bytes of both streams. The steps, and where a place's
 -- value goes, are the reader's too (`Steps` of `upgrade_steps`).
 use mathlib.Core.Path.{_≡_}
-use mathlib.Core.Bool.{Bool, false, cond, _&&_, _||_}
+use mathlib.Core.Bool.{Bool, true, false, cond, _&&_, _||_}
 use mathlib.Core.List.{List, [], _∷_, _++_}
 use Prim.Native.Nat.{ℕ, zero, suc, _-_, _/_, _^_}
 use lib.Dec.{ltb}
-use lib.IntN.{ℤ, natAbs, _-ℤ_}
+use lib.IntN.{ℤ, pos, negsuc, natAbs, _-ℤ_}
 use lib.ListN.{length}
-use Rattle.fixed.specs.Fixed.{clampI16, floorShift}
+use Rattle.fixed.specs.Fixed.{clampI16, floorShift, isNegative, withSign}
 use Rattle.bands.specs.Positions.{rowInDomain}
 use Rattle.bits.specs.Written.{bitsOfAll, pack}
 use Rattle.srl_encoder.specs.Finish.{streamBits}
@@ -16,7 +16,16 @@ use Rattle.answer.specs.Refusals.{sliceTooShort, outOfDomain, magnitudeOutOfRan
 use Rattle.progressive_encoder.specs.declared.Written.{Written}
 use Rattle.progressive_encoder.specs.declared.Written.the-variants.{Bytes, Refused}
 
--- ════ the value of a place: q is the current position, c the coefficient and p the previous one ════
+-- ════ a rule: what a writer gives for a place. q is the current position, c the coefficient and p the previous one ════
+
+-- two writers differ in nothing else
+pub record Rule : Type 0 where
+  -- the value for the SRL stream, at a zero sign outside the bottom
+  pub value : ℕ → ℤ → ℤ → ℤ
+  -- the number for the raw stream, by whether the place lies in the bottom
+  pub number : Bool → ℕ → ℤ → ℤ → ℕ
+
+-- ════ the source's rule, that of `encode_upgrade_pass` ════
 
 -- "at a zero sign: both the coefficient and the previous coefficient are shifted right by the current position with floor, subtracted and clamped"
 abbrev pub srlDifference : ℕ → ℤ → ℤ → ℤ
@@ -25,6 +34,30 @@ srlDifference q c p = clampI16 (floorShift c q -ℤ floorShift p q)
 -- "at other signs their magnitudes are shifted and subtracted, not below 0"
 abbrev pub rawDifference : ℕ → ℤ → ℤ → ℕ
 rawDifference q c p = natAbs c / 2 ^ q - natAbs p / 2 ^ q
+
+-- "by floor": in the bottom as elsewhere
+abbrev pub floorRule : Rule
+floorRule = record { value = srlDifference; number = λ bottom. rawDifference }
+
+-- ════ the symmetric rule, that of `encode_upgrade_pass_symmetric` ════
+
+-- "at a zero sign outside the bottom: the difference of the coefficients, not clamped, with its sign kept and its magnitude shifted right by the current position"
+abbrev pub cutDifference : ℕ → ℤ → ℤ → ℤ
+cutDifference q c p = withSign (isNegative (c -ℤ p)) (natAbs (c -ℤ p) / 2 ^ q)
+
+-- "not below 0"
+abbrev pub notBelow : ℤ → ℕ
+notBelow (pos n) = n
+notBelow (negsuc n) = 0
+
+-- "in the bottom: the difference of the two floors, not below 0"; "at other signs outside the bottom as above"
+abbrev pub cutNumber : Bool → ℕ → ℤ → ℤ → ℕ
+cutNumber true q c p = notBelow (floorShift c q -ℤ floorShift p q)
+cutNumber false q c p = rawDifference q c p
+
+-- "symmetric": a negative coefficient as its positive twin
+abbrev pub symmetricRule : Rule
+symmetricRule = record { value = cutDifference; number = cutNumber }
 
 -- ════ all places ════
 
@@ -35,13 +68,13 @@ srlGiven srl v vs = v ∷ vs
 srlGiven raw v vs = vs
 
 -- of all places, where all three lists have one
-unfoldable pub srlDifferences : List Step → List ℤ → List ℤ → List ℤ → List ℤ
-srlDifferences [] cs ps ss = []
-srlDifferences (t ∷ ts) [] ps ss = []
-srlDifferences (t ∷ ts) (c ∷ cs) [] ss = []
-srlDifferences (t ∷ ts) (c ∷ cs) (p ∷ ps) [] = []
-srlDifferences (t ∷ ts) (c ∷ cs) (p ∷ ps) (s ∷ ss) =
-    srlGiven (source t s) (srlDifference (t .position) c p) (srlDifferences ts cs ps ss)
+unfoldable pub srlDifferences : Rule → List Step → List ℤ → List ℤ → List ℤ → List ℤ
+srlDifferences r [] cs ps ss = []
+srlDifferences r (t ∷ ts) [] ps ss = []
+srlDifferences r (t ∷ ts) (c ∷ cs) [] ss = []
+srlDifferences r (t ∷ ts) (c ∷ cs) (p ∷ ps) [] = []
+srlDifferences r (t ∷ ts) (c ∷ cs) (p ∷ ps) (s ∷ ss) =
+    srlGiven (source t s) (r .value (t .position) c p) (srlDifferences r ts cs ps ss)
 
 -- the numbers for the raw stream
 abbrev pub rawGiven : Source → ℕ → List ℕ → List ℕ
@@ -50,13 +83,13 @@ rawGiven srl m ms = ms
 rawGiven raw m ms = m ∷ ms
 
 -- of all places, where all three lists have one
-unfoldable pub rawDifferences : List Step → List ℤ → List ℤ → List ℤ → List ℕ
-rawDifferences [] cs ps ss = []
-rawDifferences (t ∷ ts) [] ps ss = []
-rawDifferences (t ∷ ts) (c ∷ cs) [] ss = []
-rawDifferences (t ∷ ts) (c ∷ cs) (p ∷ ps) [] = []
-rawDifferences (t ∷ ts) (c ∷ cs) (p ∷ ps) (s ∷ ss) =
-    rawGiven (source t s) (rawDifference (t .position) c p) (rawDifferences ts cs ps ss)
+unfoldable pub rawDifferences : Rule → List Step → List ℤ → List ℤ → List ℤ → List ℕ
+rawDifferences r [] cs ps ss = []
+rawDifferences r (t ∷ ts) [] ps ss = []
+rawDifferences r (t ∷ ts) (c ∷ cs) [] ss = []
+rawDifferences r (t ∷ ts) (c ∷ cs) (p ∷ ps) [] = []
+rawDifferences r (t ∷ ts) (c ∷ cs) (p ∷ ps) (s ∷ ss) =
+    rawGiven (source t s) (r .number (t .bottom) (t .position) c p) (rawDifferences r ts cs ps ss)
 
 -- ════ the two streams ════
 
@@ -70,12 +103,12 @@ abbrev pub rawStream : List ℕ → List ℕ → List ℕ
 rawStream ws ms = pack 0 0 (bitsOfAll ws ms)
 
 -- of a pass
-abbrev pub srlBytes : List Step → List ℤ → List ℤ → List ℤ → List ℕ
-srlBytes ts cs ps ss = srlStream (srlWidths ts ss) (srlDifferences ts cs ps ss)
+abbrev pub srlBytes : Rule → List Step → List ℤ → List ℤ → List ℤ → List ℕ
+srlBytes r ts cs ps ss = srlStream (srlWidths ts ss) (srlDifferences r ts cs ps ss)
 
 -- and its raw stream
-abbrev pub rawBytes : List Step → List ℤ → List ℤ → List ℤ → List ℕ
-rawBytes ts cs ps ss = rawStream (rawWidths ts ss) (rawDifferences ts cs ps ss)
+abbrev pub rawBytes : Rule → List Step → List ℤ → List ℤ → List ℤ → List ℕ
+rawBytes r ts cs ps ss = rawStream (rawWidths ts ss) (rawDifferences r ts cs ps ss)
 
 -- ════ refusals: 0 is none ════
 
@@ -90,8 +123,8 @@ abbrev pub valuesFault : List ℕ → List ℤ → ℕ
 valuesFault ws vs = cond (anyTooLarge ws vs) magnitudeOutOfRange 0
 
 -- of a pass
-abbrev pub passFault : List Step → List ℤ → List ℤ → List ℤ → ℕ
-passFault ts cs ps ss = valuesFault (srlWidths ts ss) (srlDifferences ts cs ps ss)
+abbrev pub passFault : Rule → List Step → List ℤ → List ℤ → List ℤ → ℕ
+passFault r ts cs ps ss = valuesFault (srlWidths ts ss) (srlDifferences r ts cs ps ss)
 
 -- "7: the answer exceeds an output slice", of either stream
 abbrev pub noRoomFor : List ℕ → List ℕ → List ℕ → List ℕ → ℕ
@@ -99,12 +132,12 @@ noRoomFor srlBs srlOut rawBs rawOut =
     firstOf (noRoom (length srlOut) (length srlBs)) (noRoom (length rawOut) (length rawBs))
 
 -- "the writer of a pass gives 1, 2, 5 and 7", the first of them in this order
-abbrev pub encodePassRefusal : List ℤ → List ℤ → List ℕ → List ℕ → List ℤ → Bool → List ℕ → List ℕ → ℕ
-encodePassRefusal cs ps prev curr ss e srlOut rawOut =
+abbrev pub encodePassRefusal : Rule → List ℤ → List ℤ → List ℕ → List ℕ → List ℤ → Bool → List ℕ → List ℕ → ℕ
+encodePassRefusal r cs ps prev curr ss e srlOut rawOut =
     firstOf (unless (longEnough cs && (longEnough ps && longEnough ss)) sliceTooShort)
     (firstOf (unless (rowInDomain prev && rowInDomain curr) outOfDomain)
-    (firstOf (passFault (steps e prev curr) cs ps ss)
-    (noRoomFor (srlBytes (steps e prev curr) cs ps ss) srlOut (rawBytes (steps e prev curr) cs ps ss) rawOut)))
+    (firstOf (passFault r (steps e prev curr) cs ps ss)
+    (noRoomFor (srlBytes r (steps e prev curr) cs ps ss) srlOut (rawBytes r (steps e prev curr) cs ps ss) rawOut)))
 
 -- ════ what `encode_upgrade_pass` answers, and what it leaves in the two outputs ════
 
@@ -114,27 +147,27 @@ written zero n m = Bytes n m
 written (suc k) n m = Refused (suc k)
 
 -- the answer: how many bytes of each stream, or a refusal
-abbrev pub encodePassAnswer : List ℤ → List ℤ → List ℕ → List ℕ → List ℤ → Bool → List ℕ → List ℕ → Written
-encodePassAnswer cs ps prev curr ss e srlOut rawOut =
-    written (encodePassRefusal cs ps prev curr ss e srlOut rawOut)
-    (length (srlBytes (steps e prev curr) cs ps ss))
-    (length (rawBytes (steps e prev curr) cs ps ss))
+abbrev pub encodePassAnswer : Rule → List ℤ → List ℤ → List ℕ → List ℕ → List ℤ → Bool → List ℕ → List ℕ → Written
+encodePassAnswer r cs ps prev curr ss e srlOut rawOut =
+    written (encodePassRefusal r cs ps prev curr ss e srlOut rawOut)
+    (length (srlBytes r (steps e prev curr) cs ps ss))
+    (length (rawBytes r (steps e prev curr) cs ps ss))
 
 -- the SRL output then; "on acceptance, elements past the answer are untouched"
-abbrev pub encodeSrlOut : List ℤ → List ℤ → List ℕ → List ℕ → List ℤ → Bool → List ℕ → List ℕ → List ℕ
-encodeSrlOut cs ps prev curr ss e srlOut rawOut =
-    stored (encodePassRefusal cs ps prev curr ss e srlOut rawOut) (srlBytes (steps e prev curr) cs ps ss) srlOut
+abbrev pub encodeSrlOut : Rule → List ℤ → List ℤ → List ℕ → List ℕ → List ℤ → Bool → List ℕ → List ℕ → List ℕ
+encodeSrlOut r cs ps prev curr ss e srlOut rawOut =
+    stored (encodePassRefusal r cs ps prev curr ss e srlOut rawOut) (srlBytes r (steps e prev curr) cs ps ss) srlOut
 
 -- the raw output then
-abbrev pub encodeRawOut : List ℤ → List ℤ → List ℕ → List ℕ → List ℤ → Bool → List ℕ → List ℕ → List ℕ
-encodeRawOut cs ps prev curr ss e srlOut rawOut =
-    stored (encodePassRefusal cs ps prev curr ss e srlOut rawOut) (rawBytes (steps e prev curr) cs ps ss) rawOut
+abbrev pub encodeRawOut : Rule → List ℤ → List ℤ → List ℕ → List ℕ → List ℤ → Bool → List ℕ → List ℕ → List ℕ
+encodeRawOut r cs ps prev curr ss e srlOut rawOut =
+    stored (encodePassRefusal r cs ps prev curr ss e srlOut rawOut) (rawBytes r (steps e prev curr) cs ps ss) rawOut
 
 -- what the call fixes: its answer, and both outputs
-pub record EncodesPass (cs ps : List ℤ) (prev curr : List ℕ) (ss : List ℤ) (e : Bool) (srlOut rawOut : List ℕ) (r : Written) (srlOut′ rawOut′ : List ℕ) : Type 0 where
-  pub answer : r ≡ encodePassAnswer cs ps prev curr ss e srlOut rawOut
-  pub srl : srlOut′ ≡ encodeSrlOut cs ps prev curr ss e srlOut rawOut
-  pub raw : rawOut′ ≡ encodeRawOut cs ps prev curr ss e srlOut rawOut
+pub record EncodesPass (rule : Rule) (cs ps : List ℤ) (prev curr : List ℕ) (ss : List ℤ) (e : Bool) (srlOut rawOut : List ℕ) (r : Written) (srlOut′ rawOut′ : List ℕ) : Type 0 where
+  pub answer : r ≡ encodePassAnswer rule cs ps prev curr ss e srlOut rawOut
+  pub srl : srlOut′ ≡ encodeSrlOut rule cs ps prev curr ss e srlOut rawOut
+  pub raw : rawOut′ ≡ encodeRawOut rule cs ps prev curr ss e srlOut rawOut
 
 -- ════ an answer by its parts ════
 
