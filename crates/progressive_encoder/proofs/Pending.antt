@@ -8,7 +8,7 @@ use Rattle.srl_encoder.specs.Encode.{valueZeros, callZeros}
 use Rattle.srl_encoder.proofs.EncodedValues.{value-zeros}
 use Rattle.upgrade_steps.specs.Steps.{Step, Source, skipped, srl, raw, source, steps, srlWidth, srlWidths}
 use Rattle.upgrade_steps.proofs.Counts.{few-srl-values}
-use Rattle.progressive_encoder.specs.Encode.{srlDifference, srlGiven, srlDifferences}
+use Rattle.progressive_encoder.specs.Encode.{Rule, srlGiven, srlDifferences}
 use Rattle.progressive_encoder.specs.Pending.{FewPendingZeros}
 
 -- each value adds at most one
@@ -18,16 +18,16 @@ zeros-few z (suc n) [] = omega arith
 zeros-few z (suc n) (v ∷ vs) = omega (arith, value-zeros z v, zeros-few (valueZeros z v) n vs)
 
 -- there is a width for each value
-values-few : (ts : List Step) (cs ps ss : List ℤ) → length (srlDifferences ts cs ps ss) ≤ length (srlWidths ts ss)
+values-few : (r : Rule) (ts : List Step) (cs ps ss : List ℤ) → length (srlDifferences r ts cs ps ss) ≤ length (srlWidths ts ss)
 unfolding srlDifferences srlWidths
-values-few [] cs ps ss = omega arith
-values-few (t ∷ ts) [] ps ss = omega arith
-values-few (t ∷ ts) (c ∷ cs) [] ss = omega arith
-values-few (t ∷ ts) (c ∷ cs) (p ∷ ps) [] = omega arith
-values-few (t ∷ ts) (c ∷ cs) (p ∷ ps) (s ∷ ss) = by (source t s) (values-few ts cs ps ss)
+values-few r [] cs ps ss = omega arith
+values-few r (t ∷ ts) [] ps ss = omega arith
+values-few r (t ∷ ts) (c ∷ cs) [] ss = omega arith
+values-few r (t ∷ ts) (c ∷ cs) (p ∷ ps) [] = omega arith
+values-few r (t ∷ ts) (c ∷ cs) (p ∷ ps) (s ∷ ss) = by (source t s) (values-few r ts cs ps ss)
   where
-    by : (x : Source) → length (srlDifferences ts cs ps ss) ≤ length (srlWidths ts ss)
-        → length (srlGiven x (srlDifference (t .position) c p) (srlDifferences ts cs ps ss)) ≤ length (srlWidth x (t .width) (srlWidths ts ss))
+    by : (x : Source) → length (srlDifferences r ts cs ps ss) ≤ length (srlWidths ts ss)
+        → length (srlGiven x (r .value (t .position) c p) (srlDifferences r ts cs ps ss)) ≤ length (srlWidth x (t .width) (srlWidths ts ss))
     by skipped h = h
     by srl h = omega (arith, h)
     by raw h = h
@@ -37,8 +37,8 @@ pub few-pending-zeros : FewPendingZeros
 few-pending-zeros =
     record {
       any-writer = λ e prev curr ss vs n h. omega (arith, h, zeros-few 0 n vs, few-srl-values .most e prev curr ss);
-      this-writer =
-          λ e prev curr cs ps ss n.
+      any-rule =
+          λ r e prev curr cs ps ss n.
           let ts = steps e prev curr in
-          omega (arith, values-few ts cs ps ss, zeros-few 0 n (srlDifferences ts cs ps ss), few-srl-values .most e prev curr ss);
+          omega (arith, values-few r ts cs ps ss, zeros-few 0 n (srlDifferences r ts cs ps ss), few-srl-values .most e prev curr ss);
     }

@@ -16,7 +16,7 @@ use Rattle.fixed.specs.Fixed.{isZero}
 use Rattle.srl_encoder.specs.Inner.{largest}
 use Rattle.upgrade_steps.specs.Steps.{Step, Source, skipped, srl, raw, sourceOf, source}
 use Rattle.upgrade_steps.specs.Inner.{fromSrl}
-use Rattle.progressive_encoder.specs.Encode.{srlDifference, rawDifference, srlGiven, rawGiven, rawStream, anyTooLarge}
+use Rattle.progressive_encoder.specs.Encode.{floorRule, srlDifference, rawDifference, srlGiven, rawGiven, rawStream, anyTooLarge}
 use Rattle.progressive_encoder.specs.Inner.{Lists, placeLists, bandLists, Part, oneIf, onlyIf, magnitudes, surveyOf, Counts, Surveys, noTotal, Few}
 use Rattle.progressive_encoder.specs.declared.writer.Survey.{Survey}
 use Rattle.progressive_encoder.specs.declared.writer.Total.{Total}
@@ -55,13 +55,13 @@ only-le false m = omega arith
 
 -- a place counts where it has a value
 pub place-counts : (t : Step) (c p s : ℤ) → 1 ≤ t .width → (x y : Survey) → y .count ≡ x .count + oneIf (fromSrl t s) → y .sum ≡ x .sum + onlyIf (fromSrl t s) (natAbs (srlDifference (t .position) c p))
-    → y .largest ≡ max (x .largest) (onlyIf (fromSrl t s) (natAbs (srlDifference (t .position) c p))) → Counts (placeLists t c p s) x y
+    → y .largest ≡ max (x .largest) (onlyIf (fromSrl t s) (natAbs (srlDifference (t .position) c p))) → Counts (placeLists floorRule t c p s) x y
 place-counts t c p s h x y = by (fromSrl t s) refl
   where
     by : (b : Bool) → fromSrl t s ≡ b → y .count ≡ x .count + oneIf b → y .sum ≡ x .sum + onlyIf b (natAbs (srlDifference (t .position) c p))
-        → y .largest ≡ max (x .largest) (onlyIf b (natAbs (srlDifference (t .position) c p))) → Counts (placeLists t c p s) x y
-    by true q i j k = subst (λ (l : Lists). Counts l x y) (sym (place-srl t c p s h q)) (record { count = omega (arith, i); sum = omega (arith, j); most = omega (arith, k) })
-    by false q i j k = subst (λ (l : Lists). Counts l x y) (sym (place-raw t c p s h q)) (record { count = omega (arith, i); sum = omega (arith, j); most = omega (arith, k) })
+        → y .largest ≡ max (x .largest) (onlyIf b (natAbs (srlDifference (t .position) c p))) → Counts (placeLists floorRule t c p s) x y
+    by true q i j k = subst (λ (l : Lists). Counts l x y) (sym (place-srl floorRule t c p s h q)) (record { count = omega (arith, i); sum = omega (arith, j); most = omega (arith, k) })
+    by false q i j k = subst (λ (l : Lists). Counts l x y) (sym (place-raw floorRule t c p s h q)) (record { count = omega (arith, i); sum = omega (arith, j); most = omega (arith, k) })
 
 -- ════ all bands ════
 
@@ -88,8 +88,8 @@ surveys-placewise = record {
 -- ════ a band that is not skipped: its values are as many as the places that have no number, and all have one width ════
 
 -- each place has a value or a number
-band-count : (t : Step) → 1 ≤ t .width → (cs ps ss : List ℤ) → Part cs ps ss → length (bandLists t (length cs) cs ps ss .values) + length (bandLists t (length cs) cs ps ss .numbers) ≡ length cs
-band-count t h = of-band t (λ n l. length (l .values) + length (l .numbers) ≡ n) refl (λ n c p s l e. by (t .bottom) (t .width) (isZero s) h (srlDifference (t .position) c p) (rawDifference (t .position) c p) (l .values) (l .numbers) n e)
+band-count : (t : Step) → 1 ≤ t .width → (cs ps ss : List ℤ) → Part cs ps ss → length (bandLists floorRule t (length cs) cs ps ss .values) + length (bandLists floorRule t (length cs) cs ps ss .numbers) ≡ length cs
+band-count t h = of-band floorRule t (λ n l. length (l .values) + length (l .numbers) ≡ n) refl (λ n c p s l e. by (t .bottom) (t .width) (isZero s) h (srlDifference (t .position) c p) (rawDifference (t .position) c p) (l .values) (l .numbers) n e)
   where
     by : (b : Bool) (w : ℕ) (z : Bool) → 1 ≤ w → (v : ℤ) (m : ℕ) (vs : List ℤ) (ms : List ℕ) (n : ℕ) → length vs + length ms ≡ n → length (srlGiven (sourceOf b w z) v vs) + length (rawGiven (sourceOf b w z) m ms) ≡ suc n
     by b zero z h v m vs ms n e = absurd (omega arith)
@@ -99,14 +99,14 @@ band-count t h = of-band t (λ n l. length (l .values) + length (l .numbers) ≡
 
 -- so many numbers take so many bits
 band-bits : (t : Step) (cs ps ss : List ℤ) → Part cs ps ss → (ns ms : List ℕ)
-    → length (bitsOfAll (bandLists t (length cs) cs ps ss .numberWidths ++ ns) (bandLists t (length cs) cs ps ss .numbers ++ ms)) ≡ length (bandLists t (length cs) cs ps ss .numbers) * t .width + length (bitsOfAll ns ms)
+    → length (bitsOfAll (bandLists floorRule t (length cs) cs ps ss .numberWidths ++ ns) (bandLists floorRule t (length cs) cs ps ss .numbers ++ ms)) ≡ length (bandLists floorRule t (length cs) cs ps ss .numbers) * t .width + length (bitsOfAll ns ms)
 unfolding bitsOfAll
-band-bits t = of-band t Good (λ ns ms. omega arith) (λ n c p s l g. by (source t s) c p l g)
+band-bits t = of-band floorRule t Good (λ ns ms. omega arith) (λ n c p s l g. by (source t s) c p l g)
   where
     Good : ℕ → Lists → Type 0
     Good n l = (ns ms : List ℕ) → length (bitsOfAll (l .numberWidths ++ ns) (l .numbers ++ ms)) ≡ length (l .numbers) * t .width + length (bitsOfAll ns ms)
 
-    by : (x : Source) (c p : ℤ) (l : Lists) → Good 0 l → Good 0 (given x t c p l)
+    by : (x : Source) (c p : ℤ) (l : Lists) → Good 0 l → Good 0 (given floorRule x t c p l)
     by skipped c p l g = g
     by srl c p l g = g
     by raw c p l g = λ ns ms.
@@ -124,14 +124,14 @@ max-ltb m a b = by (ltb m a) refl (ltb m b) refl
 
 -- none is too large if the largest is not
 band-large : (t : Step) (cs ps ss : List ℤ) → Part cs ps ss → (ws : List ℕ) (us : List ℤ)
-    → anyTooLarge (bandLists t (length cs) cs ps ss .widths ++ ws) (bandLists t (length cs) cs ps ss .values ++ us) ≡ (ltb (2 ^ t .width - 1) (largest (bandLists t (length cs) cs ps ss .values)) || anyTooLarge ws us)
+    → anyTooLarge (bandLists floorRule t (length cs) cs ps ss .widths ++ ws) (bandLists floorRule t (length cs) cs ps ss .values ++ us) ≡ (ltb (2 ^ t .width - 1) (largest (bandLists floorRule t (length cs) cs ps ss .values)) || anyTooLarge ws us)
 unfolding anyTooLarge
-band-large t = of-band t Good (λ ws us. ap (λ (b : Bool). b || anyTooLarge ws us) (sym (le-ltb (2 ^ t .width - 1) 0 (omega arith)))) (λ n c p s l g. by (source t s) c p l g)
+band-large t = of-band floorRule t Good (λ ws us. ap (λ (b : Bool). b || anyTooLarge ws us) (sym (le-ltb (2 ^ t .width - 1) 0 (omega arith)))) (λ n c p s l g. by (source t s) c p l g)
   where
     Good : ℕ → Lists → Type 0
     Good n l = (ws : List ℕ) (us : List ℤ) → anyTooLarge (l .widths ++ ws) (l .values ++ us) ≡ (ltb (2 ^ t .width - 1) (largest (l .values)) || anyTooLarge ws us)
 
-    by : (x : Source) (c p : ℤ) (l : Lists) → Good 0 l → Good 0 (given x t c p l)
+    by : (x : Source) (c p : ℤ) (l : Lists) → Good 0 l → Good 0 (given floorRule x t c p l)
     by skipped c p l g = g
     by raw c p l g = g
     by srl c p l g = λ ws us.
@@ -142,11 +142,11 @@ band-large t = of-band t Good (λ ws us. ap (λ (b : Bool). b || anyTooLarge ws 
         ∙ ap (λ (b : Bool). b || anyTooLarge ws us) (sym (max-ltb m a (largest (l .values))))
 
 -- so a band is surveyed by its values: s is what was counted of them, d what was before and r what is then
-pub band-surveys : (t : Step) (cs ps ss : List ℤ) → Part cs ps ss → 1 ≤ t .width → (s : Survey) → Counts (bandLists t (length cs) cs ps ss) (surveyOf 0 0 0) s
+pub band-surveys : (t : Step) (cs ps ss : List ℤ) → Part cs ps ss → 1 ≤ t .width → (s : Survey) → Counts (bandLists floorRule t (length cs) cs ps ss) (surveyOf 0 0 0) s
     → (d r : Total) → r .count ≡ d .count + s .count → r .sum ≡ d .sum + s .sum → r .«raw_bits» ≡ d .«raw_bits» + (length cs - s .count) * t .width
-    → r .bad ≡ (d .bad || ltb (2 ^ t .width - 1) (s .largest)) → Surveys (bandLists t (length cs) cs ps ss) d r
+    → r .bad ≡ (d .bad || ltb (2 ^ t .width - 1) (s .largest)) → Surveys (bandLists floorRule t (length cs) cs ps ss) d r
 band-surveys t cs ps ss h w s k d r a b e f =
-    let l = bandLists t (length cs) cs ps ss in
+    let l = bandLists floorRule t (length cs) cs ps ss in
     let most : s .largest ≡ largest (l .values) = omega (arith, k .most) in
     let left : length cs - s .count ≡ length (l .numbers) = omega (arith, k .count, band-count t w cs ps ss h) in
     record {

@@ -29,7 +29,7 @@ use Rattle.srl_encoder.proofs.Runs.{length-flush}
 use Rattle.srl_encoder.proofs.Sizes.{value-length}
 use Rattle.upgrade_steps.specs.Steps.{Step}
 use Rattle.upgrade_steps.specs.Inner.{fromSrl}
-use Rattle.progressive_encoder.specs.Encode.{srlDifference, rawDifference, srlStream, rawStream}
+use Rattle.progressive_encoder.specs.Encode.{floorRule, srlDifference, rawDifference, srlStream, rawStream}
 use Rattle.progressive_encoder.specs.Inner.{Lists, placeLists, GoesOver, magnitudes, measuredOf, endCount, Measures, Measurable, freshSinks, streamAfter, streamWrite, endLength, endOut, Outputs, outputs, Stores, Writable, Ready}
 use Rattle.progressive_encoder.proofs.Placewise.{Placewise, chain, place-srl, place-raw}
 
@@ -184,15 +184,15 @@ measures-placewise = record {
 
 module _ (t : Step) (c p s : ℤ) (h : 1 ≤ t .width) where
   -- a place with an SRL value: y is the measure after that value
-  pub measures-srl : fromSrl t s ≡ true → (x y : Measured) → y ≡ valueMeasure (t .width) x (srlDifference (t .position) c p) → Measures (placeLists t c p s) x y
+  pub measures-srl : fromSrl t s ≡ true → (x y : Measured) → y ≡ valueMeasure (t .width) x (srlDifference (t .position) c p) → Measures (placeLists floorRule t c p s) x y
   measures-srl q x y e =
       let v = srlDifference (t .position) c p in
-      subst (λ (l : Lists). Measures l x y) (sym (place-srl t c p s h q))
+      subst (λ (l : Lists). Measures l x y) (sym (place-srl floorRule t c p s h q))
       (record { count = λ ws us. value-counted (t .width) x v ws us ∙ ap (λ m. endCount m ws us) (sym e) })
 
   -- a place with raw bits has nothing to measure
-  pub measures-raw : fromSrl t s ≡ false → (x : Measured) → Measures (placeLists t c p s) x x
-  measures-raw q x = subst (λ (l : Lists). Measures l x x) (sym (place-raw t c p s h q)) (record { count = λ ws us. refl })
+  pub measures-raw : fromSrl t s ≡ false → (x : Measured) → Measures (placeLists floorRule t c p s) x x
+  measures-raw q x = subst (λ (l : Lists). Measures l x x) (sym (place-raw floorRule t c p s h q)) (record { count = λ ws us. refl })
 
 -- a value 0 takes no bits, and one more zero is pending
 measured-zero : (w : ℕ) (p : Measured) → p .«bit_count» ≤ 7 → measuredOf (p .at) (p .«bit_count») (p .kp) (p .zeros + 1) ≡ valueMeasure w p (pos 0)
@@ -211,7 +211,7 @@ measurable-value w i x y q c p e m =
 
 -- a place whose value is 0
 pub measures-zero : (t : Step) (c p s : ℤ) → 1 ≤ t .width → fromSrl t s ≡ true → srlDifference (t .position) c p ≡ pos 0 → (x : Measured) → x .«bit_count» ≤ 7
-    → GoesOver Measures Measurable (placeLists t c p s) 1 x (measuredOf (x .at) (x .«bit_count») (x .kp) (x .zeros + 1))
+    → GoesOver Measures Measurable (placeLists floorRule t c p s) 1 x (measuredOf (x .at) (x .«bit_count») (x .kp) (x .zeros + 1))
 measures-zero t c p s h f z x b =
     let e = measured-zero (t .width) x b ∙ ap (valueMeasure (t .width) x) (sym z) in
     record { over = measures-srl t c p s h f x _ e; bound = λ n. measurable-value (t .width) n x _ (t .position) c p e }
@@ -237,10 +237,10 @@ stores-placewise = record {
 module _ (t : Step) (c p s : ℤ) (h : 1 ≤ t .width) where
   -- a value: y and o are the writer and the output then
   pub stores-srl : fromSrl t s ≡ true → (x : CallState) (k : BitWriter) (out rawOut : List ℕ) (y : CallState) (o : List ℕ) → y ≡ valueState (t .width) x (srlDifference (t .position) c p) → o ≡ valueWrite (t .width) out x (srlDifference (t .position) c p)
-      → Stores (placeLists t c p s) (outputs out rawOut (record { srl = x; raw = k })) (outputs o rawOut (record { srl = y; raw = k }))
+      → Stores (placeLists floorRule t c p s) (outputs out rawOut (record { srl = x; raw = k })) (outputs o rawOut (record { srl = y; raw = k }))
   stores-srl q x k out rawOut y o e f =
       let v = srlDifference (t .position) c p in
-      subst (λ (l : Lists). Stores l (outputs out rawOut (record { srl = x; raw = k })) (outputs o rawOut (record { srl = y; raw = k }))) (sym (place-srl t c p s h q))
+      subst (λ (l : Lists). Stores l (outputs out rawOut (record { srl = x; raw = k })) (outputs o rawOut (record { srl = y; raw = k }))) (sym (place-srl floorRule t c p s h q))
       (record {
         srl-after = λ ws us. value-after (t .width) x v ws us ∙ ap (λ z. streamAfter z ws us) (sym e);
         srl-write = λ ws us. value-write (t .width) out x v ws us ∙ (λ i. streamWrite (sym f i) (sym e i) ws us);
@@ -250,11 +250,11 @@ module _ (t : Step) (c p s : ℤ) (h : 1 ≤ t .width) where
 
   -- a number
   pub stores-raw : fromSrl t s ≡ false → (x : CallState) (k : BitWriter) (out rawOut : List ℕ) (y : BitWriter) (o : List ℕ) → y ≡ after k (bitsOf (t .width) (rawDifference (t .position) c p)) → o ≡ write rawOut k (bitsOf (t .width) (rawDifference (t .position) c p))
-      → Stores (placeLists t c p s) (outputs out rawOut (record { srl = x; raw = k })) (outputs out o (record { srl = x; raw = y }))
+      → Stores (placeLists floorRule t c p s) (outputs out rawOut (record { srl = x; raw = k })) (outputs out o (record { srl = x; raw = y }))
   unfolding bitsOfAll
   stores-raw q x k out rawOut y o e f =
       let bits = bitsOf (t .width) (rawDifference (t .position) c p) in
-      subst (λ (l : Lists). Stores l (outputs out rawOut (record { srl = x; raw = k })) (outputs out o (record { srl = x; raw = y }))) (sym (place-raw t c p s h q))
+      subst (λ (l : Lists). Stores l (outputs out rawOut (record { srl = x; raw = k })) (outputs out o (record { srl = x; raw = y }))) (sym (place-raw floorRule t c p s h q))
       (record {
         srl-after = λ ws us. refl;
         srl-write = λ ws us. refl;
@@ -277,7 +277,7 @@ writable-value w i x y k q c p e m =
 
 -- a place whose value is 0: one more zero is pending
 pub stores-zero : (t : Step) (c p s : ℤ) → 1 ≤ t .width → fromSrl t s ≡ true → srlDifference (t .position) c p ≡ pos 0 → (x : CallState) (k : BitWriter) (out rawOut : List ℕ)
-    → GoesOver Stores Ready (placeLists t c p s) 1 (outputs out rawOut (record { srl = x; raw = k }))
+    → GoesOver Stores Ready (placeLists floorRule t c p s) 1 (outputs out rawOut (record { srl = x; raw = k }))
     (outputs out rawOut (record { srl = record { sink = x .sink; kp = x .kp; zeros = x .zeros + 1 }; raw = k }))
 stores-zero t c p s h f z x k out rawOut =
     let e = ap (valueState (t .width) x) (sym z) in

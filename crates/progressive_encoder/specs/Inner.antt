@@ -18,7 +18,7 @@ use Rattle.srl_encoder.specs.Inner.{largest, bitCountOf, Good, GoodMeasure}
 use Rattle.srl_encoder.specs.declared.encoder.CallState.{CallState}
 use Rattle.srl_encoder.specs.declared.encoder.Measured.{Measured}
 use Rattle.upgrade_steps.specs.Steps.{Step, srlWidths, rawWidths}
-use Rattle.progressive_encoder.specs.Encode.{srlDifferences, rawDifferences, srlStream, rawStream, anyTooLarge, valuesFault, noRoomFor, written}
+use Rattle.progressive_encoder.specs.Encode.{Rule, srlDifferences, rawDifferences, srlStream, rawStream, anyTooLarge, valuesFault, noRoomFor, written}
 use Rattle.progressive_encoder.specs.declared.Written.{Written}
 use Rattle.progressive_encoder.specs.declared.writer.Survey.{Survey}
 use Rattle.progressive_encoder.specs.declared.writer.Total.{Total}
@@ -38,16 +38,16 @@ abbrev pub lists : List ℤ → List ℕ → List ℕ → List ℕ → Lists
 lists vs ws ms ns = record { values = vs; widths = ws; numbers = ms; numberWidths = ns }
 
 -- of a pass
-abbrev pub passLists : List Step → List ℤ → List ℤ → List ℤ → Lists
-passLists ts cs ps ss = lists (srlDifferences ts cs ps ss) (srlWidths ts ss) (rawDifferences ts cs ps ss) (rawWidths ts ss)
+abbrev pub passLists : Rule → List Step → List ℤ → List ℤ → List ℤ → Lists
+passLists r ts cs ps ss = lists (srlDifferences r ts cs ps ss) (srlWidths ts ss) (rawDifferences r ts cs ps ss) (rawWidths ts ss)
 
 -- of one place
-abbrev pub placeLists : Step → ℤ → ℤ → ℤ → Lists
-placeLists t c p s = passLists (t ∷ []) (c ∷ []) (p ∷ []) (s ∷ [])
+abbrev pub placeLists : Rule → Step → ℤ → ℤ → ℤ → Lists
+placeLists r t c p s = passLists r (t ∷ []) (c ∷ []) (p ∷ []) (s ∷ [])
 
 -- of the first n places of a band
-abbrev pub bandLists : Step → ℕ → List ℤ → List ℤ → List ℤ → Lists
-bandLists t n cs ps ss = passLists (replicate n t) cs ps ss
+abbrev pub bandLists : Rule → Step → ℕ → List ℤ → List ℤ → List ℤ → Lists
+bandLists r t n cs ps ss = passLists r (replicate n t) cs ps ss
 
 -- a slice has an element for each place of a component
 abbrev pub Long : {A : Type 0} → List A → Type 0
@@ -76,8 +76,8 @@ pub record GoesOver {X : Type 0} (R : Lists → X → X → Type 0) (B : X → �
   pub bound : (n : ℕ) → B x n → B y (n + k)
 
 -- all places of a band's part
-abbrev pub GoesOverBand : {X : Type 0} (R : Lists → X → X → Type 0) (B : X → ℕ → Type 0) (t : Step) (cs ps ss : List ℤ) (x y : X) → Type 0
-GoesOverBand R B t cs ps ss x y = GoesOver R B (bandLists t (length cs) cs ps ss) (length cs) x y
+abbrev pub GoesOverBand : Rule → {X : Type 0} (R : Lists → X → X → Type 0) (B : X → ℕ → Type 0) (t : Step) (cs ps ss : List ℤ) (x y : X) → Type 0
+GoesOverBand r R B t cs ps ss x y = GoesOver R B (bandLists r t (length cs) cs ps ss) (length cs) x y
 
 -- x is what a walk can have come to, with k places and perhaps others still before it
 pub record Before {X : Type 0} (B : X → ℕ → Type 0) (x : X) (k : ℕ) : Type 0 where
@@ -113,8 +113,8 @@ pub record Counts (l : Lists) (x y : Survey) : Type 0 where
   pub most : y .largest ≡ max (x .largest) (largest (l .values))
 
 -- those of a band that is not skipped, from none on: there are no more than its places, and each has sixteen bits
-pub record CountsBand (t : Step) (cs ps ss : List ℤ) (r : Survey) : Type 0 where
-  pub counts : Counts (bandLists t (length cs) cs ps ss) (surveyOf 0 0 0) r
+pub record CountsBand (rule : Rule) (t : Step) (cs ps ss : List ℤ) (r : Survey) : Type 0 where
+  pub counts : Counts (bandLists rule t (length cs) cs ps ss) (surveyOf 0 0 0) r
   pub few : r .count ≤ length cs
   pub small : r .sum ≤ 32768 * length cs
 

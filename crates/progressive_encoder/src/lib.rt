@@ -2,7 +2,7 @@
 // Positions go in by value, a row of ten in band order; coefficients, signs and streams are slices that the caller lends.
 // A refusal has a number (docs/SCOPE.md, "Refusals") and alters nothing.
 
-ghost use Rattle.progressive_encoder.specs.Encode.{EncodesPass};
+ghost use Rattle.progressive_encoder.specs.Encode.{floorRule, EncodesPass};
 ghost use Rattle.progressive_encoder.specs.Pending.{FewPendingZeros};
 
 mod writer;
@@ -25,7 +25,7 @@ pub fn encode_upgrade_pass(
     srl_out: &mut [u8],
     raw_out: &mut [u8],
 ) -> Written
-    ensures { λ r. ⌜ EncodesPass (now (coefficients .entry)) (now («prev_coefficients» .entry)) prev curr (now (sign .entry))
+    ensures { λ r. ⌜ EncodesPass floorRule (now (coefficients .entry)) (now («prev_coefficients» .entry)) prev curr (now (sign .entry))
         «use_reduce_extrapolate» (now («srl_out» .entry)) (now («raw_out» .entry)) r (now («srl_out» .exit)) (now («raw_out» .exit)) ⌝ }
 {
     if coefficients.len() < bands::COEFFICIENTS_PER_COMPONENT {

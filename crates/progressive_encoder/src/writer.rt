@@ -13,7 +13,7 @@ ghost use Rattle.srl_rules.specs.Inner.{Width};
 ghost use Rattle.srl_encoder.specs.Inner.{Good};
 ghost use Rattle.upgrade_steps.specs.Steps.{steps};
 ghost use Rattle.upgrade_steps.specs.Inner.{bandStep, fromSrl};
-ghost use Rattle.progressive_encoder.specs.Encode.{srlDifference, rawDifference, srlDifferences, srlBytes};
+ghost use Rattle.progressive_encoder.specs.Encode.{floorRule, srlDifference, rawDifference, srlDifferences, srlBytes};
 ghost use Rattle.progressive_encoder.specs.Inner.{passLists, placeLists, Slices, Part, WentOver, GoesOver, GoesOverBand, Before, oneIf, onlyIf, CountsBand, Surveys, noTotal, Few, measuredOf, Measures, Measurable, sinksOf, freshSinks, outputs, Stores, Writable, Ready, endLength, endOut, StoresStreams, WritesStreams};
 use crate::Written;
 
@@ -115,7 +115,7 @@ fn survey_band(
     t: upgrade_steps::BandStep,
 ) -> Survey
     requires { ⌜ Part (now coefficients) (now «prev_coefficients») (now sign) × (1 ≤ t .width) ⌝ }
-    ensures { λ r. ⌜ CountsBand (bandStep t) (now (coefficients .entry)) (now («prev_coefficients» .entry)) (now (sign .entry)) r ⌝ }
+    ensures { λ r. ⌜ CountsBand floorRule (bandStep t) (now (coefficients .entry)) (now («prev_coefficients» .entry)) (now (sign .entry)) r ⌝ }
 {
     let mut count: u32 = 0;
     let mut sum: u32 = 0;
@@ -146,7 +146,7 @@ fn survey_next(
     done: Total,
 ) -> Total
     requires { ⌜ Part (now coefficients) (now «prev_coefficients») (now sign) × (t .width ≤ 15) × Before Few done (length (now coefficients)) ⌝ }
-    ensures { λ r. ⌜ GoesOverBand Surveys Few (bandStep t)
+    ensures { λ r. ⌜ GoesOverBand floorRule Surveys Few (bandStep t)
         (now (coefficients .entry)) (now («prev_coefficients» .entry)) (now (sign .entry))
         done r ⌝ }
 {
@@ -177,7 +177,7 @@ fn survey_bands(
         × (rowInDomain prev ≡ true)
         × Slices (now coefficients) (now «prev_coefficients») (now sign) ⌝ }
     ensures { λ r. ⌜ WentOver Surveys Few
-        (passLists (steps «use_reduce_extrapolate» prev curr) (now (coefficients .entry)) (now («prev_coefficients» .entry)) (now (sign .entry)))
+        (passLists floorRule (steps «use_reduce_extrapolate» prev curr) (now (coefficients .entry)) (now («prev_coefficients» .entry)) (now (sign .entry)))
         4096 noTotal r ⌝ }
 {
     let mut done = Total {
@@ -227,7 +227,7 @@ fn measure_place(
     s: i8,
 ) -> srl_encoder::encoder::Measured
     requires { ⌜ Width (t .width) × Before Measurable start 1 ⌝ }
-    ensures { λ r. ⌜ GoesOver Measures Measurable (placeLists (bandStep t) c p s) 1 start r ⌝ }
+    ensures { λ r. ⌜ GoesOver Measures Measurable (placeLists floorRule (bandStep t) c p s) 1 start r ⌝ }
 {
     if !upgrade_steps::from_srl(t, s) {
         return start;
@@ -245,7 +245,7 @@ fn measure_band(
     start: srl_encoder::encoder::Measured,
 ) -> srl_encoder::encoder::Measured
     requires { ⌜ Part (now coefficients) (now «prev_coefficients») (now sign) × (t .width ≤ 15) × Before Measurable start (length (now coefficients)) ⌝ }
-    ensures { λ r. ⌜ GoesOverBand Measures Measurable (bandStep t)
+    ensures { λ r. ⌜ GoesOverBand floorRule Measures Measurable (bandStep t)
         (now (coefficients .entry)) (now («prev_coefficients» .entry)) (now (sign .entry))
         start r ⌝ }
 {
@@ -289,7 +289,7 @@ fn measure_bands(
         × (rowInDomain prev ≡ true)
         × Slices (now coefficients) (now «prev_coefficients») (now sign) ⌝ }
     ensures { λ r. ⌜ WentOver Measures Measurable
-        (passLists (steps «use_reduce_extrapolate» prev curr) (now (coefficients .entry)) (now («prev_coefficients» .entry)) (now (sign .entry)))
+        (passLists floorRule (steps «use_reduce_extrapolate» prev curr) (now (coefficients .entry)) (now («prev_coefficients» .entry)) (now (sign .entry)))
         4096 (measuredOf 0 0 8 0) r ⌝ }
 {
     let mut cur = measured_of(0, 0, 8, 0);
@@ -325,9 +325,9 @@ fn srl_length(
     requires { ⌜ (now table ≡ bandsOf «use_reduce_extrapolate»)
         × (rowInDomain prev ≡ true)
         × Slices (now coefficients) (now «prev_coefficients») (now sign)
-        × (count ≡ length (srlDifferences (steps «use_reduce_extrapolate» prev curr) (now coefficients) (now «prev_coefficients») (now sign))) ⌝ }
+        × (count ≡ length (srlDifferences floorRule (steps «use_reduce_extrapolate» prev curr) (now coefficients) (now «prev_coefficients») (now sign))) ⌝ }
     ensures { λ r. ⌜ r ≡ length
-        (srlBytes (steps «use_reduce_extrapolate» prev curr) (now (coefficients .entry)) (now («prev_coefficients» .entry)) (now (sign .entry))) ⌝ }
+        (srlBytes floorRule (steps «use_reduce_extrapolate» prev curr) (now (coefficients .entry)) (now («prev_coefficients» .entry)) (now (sign .entry))) ⌝ }
 {
     if count == 0 {
         return 0;
@@ -361,10 +361,10 @@ fn srl_exceeds(
         × (rowInDomain prev ≡ true)
         × Slices (now coefficients) (now «prev_coefficients») (now sign)
         × WentOver Surveys Few
-        (passLists (steps «use_reduce_extrapolate» prev curr) (now coefficients) (now «prev_coefficients») (now sign))
+        (passLists floorRule (steps «use_reduce_extrapolate» prev curr) (now coefficients) (now «prev_coefficients») (now sign))
         4096 noTotal total ⌝ }
     ensures { λ r. ⌜ r ≡ ltb room
-        (length (srlBytes (steps «use_reduce_extrapolate» prev curr) (now (coefficients .entry)) (now («prev_coefficients» .entry)) (now (sign .entry)))) ⌝ }
+        (length (srlBytes floorRule (steps «use_reduce_extrapolate» prev curr) (now (coefficients .entry)) (now («prev_coefficients» .entry)) (now (sign .entry)))) ⌝ }
 {
     let most = total.sum + 12 * total.count + 40;
     if most / 8 < room {
@@ -427,7 +427,7 @@ fn write_place(
     raw_out: &mut [u8],
 ) -> Sinks
     requires { ⌜ Width (t .width) × (t .position ≤ 15) × Before Writable start 1 ⌝ }
-    ensures { λ r. ⌜ GoesOver Stores Ready (placeLists (bandStep t) c p s) 1
+    ensures { λ r. ⌜ GoesOver Stores Ready (placeLists floorRule (bandStep t) c p s) 1
         (outputs (now («srl_out» .entry)) (now («raw_out» .entry)) start)
         (outputs (now («srl_out» .exit)) (now («raw_out» .exit)) r) ⌝ }
 {
@@ -461,7 +461,7 @@ fn write_band(
         × (t .width ≤ 15)
         × (t .position ≤ 15)
         × Before Writable start (length (now coefficients)) ⌝ }
-    ensures { λ r. ⌜ GoesOverBand Stores Ready (bandStep t)
+    ensures { λ r. ⌜ GoesOverBand floorRule Stores Ready (bandStep t)
         (now (coefficients .entry)) (now («prev_coefficients» .entry)) (now (sign .entry))
         (outputs (now («srl_out» .entry)) (now («raw_out» .entry)) start)
         (outputs (now («srl_out» .exit)) (now («raw_out» .exit)) r) ⌝ }
@@ -524,7 +524,7 @@ fn write_bands(
         × (rowInDomain curr ≡ true)
         × Slices (now coefficients) (now «prev_coefficients») (now sign) ⌝ }
     ensures { λ r. ⌜ WentOver Stores Ready
-        (passLists (steps «use_reduce_extrapolate» prev curr) (now (coefficients .entry)) (now («prev_coefficients» .entry)) (now (sign .entry)))
+        (passLists floorRule (steps «use_reduce_extrapolate» prev curr) (now (coefficients .entry)) (now («prev_coefficients» .entry)) (now (sign .entry)))
         4096
         (outputs (now («srl_out» .entry)) (now («raw_out» .entry)) freshSinks)
         (outputs (now («srl_out» .exit)) (now («raw_out» .exit)) r) ⌝ }
@@ -581,9 +581,9 @@ fn write_streams(
         × (rowInDomain prev ≡ true)
         × (rowInDomain curr ≡ true)
         × Slices (now coefficients) (now «prev_coefficients») (now sign)
-        × (count ≡ length (srlDifferences (steps «use_reduce_extrapolate» prev curr) (now coefficients) (now «prev_coefficients») (now sign))) ⌝ }
+        × (count ≡ length (srlDifferences floorRule (steps «use_reduce_extrapolate» prev curr) (now coefficients) (now «prev_coefficients») (now sign))) ⌝ }
     ensures { λ r. ⌜ StoresStreams
-        (passLists (steps «use_reduce_extrapolate» prev curr) (now (coefficients .entry)) (now («prev_coefficients» .entry)) (now (sign .entry)))
+        (passLists floorRule (steps «use_reduce_extrapolate» prev curr) (now (coefficients .entry)) (now («prev_coefficients» .entry)) (now (sign .entry)))
         (now («srl_out» .entry)) (now («raw_out» .entry)) r (now («srl_out» .exit)) (now («raw_out» .exit)) ⌝ }
 {
     let done = write_bands(
@@ -615,7 +615,7 @@ pub fn write_pass(
 ) -> Written
     requires { ⌜ (rowInDomain prev ≡ true) × (rowInDomain curr ≡ true) × Slices (now coefficients) (now «prev_coefficients») (now sign) ⌝ }
     ensures { λ r. ⌜ WritesStreams
-        (passLists (steps «use_reduce_extrapolate» prev curr) (now (coefficients .entry)) (now («prev_coefficients» .entry)) (now (sign .entry)))
+        (passLists floorRule (steps «use_reduce_extrapolate» prev curr) (now (coefficients .entry)) (now («prev_coefficients» .entry)) (now (sign .entry)))
         (now («srl_out» .entry)) (now («raw_out» .entry)) r (now («srl_out» .exit)) (now («raw_out» .exit)) ⌝ }
 {
     let table = bands::bands_of_places(use_reduce_extrapolate);

@@ -3,6 +3,7 @@ use Prim.Native.Nat.{_-_, _≤_}
 use native.Mathlib.Omega.{arith}
 use Rattle.bands.proofs.Spread.{one-of-ten}
 use Rattle.upgrade_steps.specs.Inner.{bandStep, SameStep}
+use Rattle.progressive_encoder.specs.Encode.{floorRule}
 use Rattle.progressive_encoder.specs.Inner.{measuredOf, Measures, Measurable}
 use Rattle.progressive_encoder.proofs.Placewise.{WentTo, walk-begins, next-part, next-room, walk-on, walk-ends}
 use Rattle.progressive_encoder.proofs.WrittenValues.{measures-placewise}
@@ -12,7 +13,7 @@ use Rattle.progressive_encoder.proofs.writer.measure_bands.Tie as tie
 
 abbrev Inv-loop : tie.InvT-loop
 Inv-loop coefficients prev-coefficients prev curr sign use-reduce-extrapolate table cur₀ ends i₀ cur i =
-    (i ≤ 4096) × WentTo Measures Measurable coefficients prev-coefficients sign use-reduce-extrapolate prev curr i (measuredOf 0 0 8 0) cur
+    (i ≤ 4096) × WentTo floorRule Measures Measurable coefficients prev-coefficients sign use-reduce-extrapolate prev curr i (measuredOf 0 0 8 0) cur
 
 abbrev μ-loop : tie.MeasureT-loop
 μ-loop coefficients prev-coefficients prev curr sign use-reduce-extrapolate table cur₀ ends i₀ cur i = 4096 - i
@@ -20,7 +21,7 @@ abbrev μ-loop : tie.MeasureT-loop
 loop-holds : tie.Need-loop-holds Inv-loop μ-loop
 loop-holds c =
     let a = c .before .before .args in
-    (omega arith, rw (c .before .measured-of .ensures) (walk-begins Measures measures-placewise Measurable (a .coefficients .now) (a .prev-coefficients .now) (a .sign .now) (a .use-reduce-extrapolate) (a .prev) (a .curr) (measuredOf 0 0 8 0) (record { good = (omega arith, omega arith); early = omega arith; few = omega arith })))
+    (omega arith, rw (c .before .measured-of .ensures) (walk-begins floorRule Measures measures-placewise Measurable (a .coefficients .now) (a .prev-coefficients .now) (a .sign .now) (a .use-reduce-extrapolate) (a .prev) (a .curr) (measuredOf 0 0 8 0) (record { good = (omega arith, omega arith); early = omega arith; few = omega arith })))
 
 stretch-at-requires : tie.Need-stretch-at-requires Inv-loop μ-loop
 stretch-at-requires c κs =
@@ -44,9 +45,9 @@ measure-band-requires c κs =
     let a = k .args in
     let l = c .before .before .before .before .before .before .loop in
     let n = next (c .before .before .before .before) in (
-      next-part Measures measures-placewise Measurable (a .coefficients .now) (a .prev-coefficients .now) (a .sign .now) (a .use-reduce-extrapolate) (a .prev) (a .curr) (l .i) _ _ n (k .pre .2),
+      next-part floorRule Measures measures-placewise Measurable (a .coefficients .now) (a .prev-coefficients .now) (a .sign .now) (a .use-reduce-extrapolate) (a .prev) (a .curr) (l .i) _ _ n (k .pre .2),
       n .narrow (k .pre .1),
-      next-room Measures measures-placewise Measurable (a .coefficients .now) (a .prev-coefficients .now) (a .sign .now) (a .use-reduce-extrapolate) (a .prev) (a .curr) (l .i) _ _ n (k .pre .2) (measuredOf 0 0 8 0) (l .cur) (l .inv .1),
+      next-room floorRule Measures measures-placewise Measurable (a .coefficients .now) (a .prev-coefficients .now) (a .sign .now) (a .use-reduce-extrapolate) (a .prev) (a .curr) (l .i) _ _ n (k .pre .2) (measuredOf 0 0 8 0) (l .cur) (l .inv .1),
     )
 
 loop-less : tie.Need-loop-less Inv-loop μ-loop
@@ -59,13 +60,13 @@ loop-again c =
     let l = c .before .before .before .before .before .before .before .loop in
     let u = c .measure-band in
     let n = next (c .before .before .before .before .before) in
-    (n .ends, walk-on Measures measures-placewise Measurable (a .coefficients .now) (a .prev-coefficients .now) (a .sign .now) (a .use-reduce-extrapolate) (a .prev) (a .curr) (l .i) _ _ n (k .pre .2) (measuredOf 0 0 8 0) (l .cur) (u .result) (l .inv .1) (u .ensures))
+    (n .ends, walk-on floorRule Measures measures-placewise Measurable (a .coefficients .now) (a .prev-coefficients .now) (a .sign .now) (a .use-reduce-extrapolate) (a .prev) (a .curr) (l .i) _ _ n (k .pre .2) (measuredOf 0 0 8 0) (l .cur) (u .result) (l .inv .1) (u .ensures))
 
 returns : tie.Need-returns Inv-loop μ-loop
 returns c =
     let a = c .before .before .before .before .args in
     let l = c .before .loop in
-    walk-ends Measures measures-placewise Measurable (a .coefficients .now) (a .prev-coefficients .now) (a .sign .now) (a .use-reduce-extrapolate) (a .prev) (a .curr) (l .i) (measuredOf 0 0 8 0) (l .cur) (omega (arith, l .inv .0)) (l .inv .1)
+    walk-ends floorRule Measures measures-placewise Measurable (a .coefficients .now) (a .prev-coefficients .now) (a .sign .now) (a .use-reduce-extrapolate) (a .prev) (a .curr) (l .i) (measuredOf 0 0 8 0) (l .cur) (omega (arith, l .inv .0)) (l .inv .1)
 
 pub measure-bands-spec : {M : Type 1} → statement M
 measure-bands-spec =

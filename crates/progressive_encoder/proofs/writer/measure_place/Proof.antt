@@ -8,7 +8,7 @@ use mir.Syntax.{w16}
 use Rattle.fixed.proofs.Machine.{got}
 use Rattle.srl_encoder.specs.declared.encoder.Measured.{Measured}
 use Rattle.srl_encoder.specs.Inner.{valueMeasure}
-use Rattle.progressive_encoder.specs.Encode.{srlDifference}
+use Rattle.progressive_encoder.specs.Encode.{floorRule, srlDifference}
 use Rattle.upgrade_steps.specs.Inner.{bandStep, fromSrl}
 use Rattle.progressive_encoder.specs.Inner.{placeLists, GoesOver, Measures, Measurable}
 use Rattle.progressive_encoder.proofs.WrittenValues.{read-difference, read-source, measures-srl, measures-raw, measurable-value, measurable-on}
@@ -22,7 +22,7 @@ srl-is c = sym (c .from-srl .ensures ∙ read-source (bandStep (c .before .args 
 
 -- a value, measured
 value : (k : tie.Start) → fromSrl (bandStep (k .args .t)) (k .args .s) ≡ true → (r : Measured) → r ≡ valueMeasure (k .args .t .width) (k .args .start) (srlDifference (k .args .t .position) (k .args .c) (k .args .p))
-    → GoesOver Measures Measurable (placeLists (bandStep (k .args .t)) (k .args .c) (k .args .p) (k .args .s)) 1 (k .args .start) r
+    → GoesOver Measures Measurable (placeLists floorRule (bandStep (k .args .t)) (k .args .c) (k .args .p) (k .args .s)) 1 (k .args .start) r
 value k f r e =
     let a = k .args in
     record {

@@ -4,7 +4,7 @@ use native.Mathlib.Omega.{arith}
 use lib.Dec.{ltb}
 use borrow.Author.Tests.{le-ltb}
 use Rattle.upgrade_steps.specs.Steps.{steps, srlWidths}
-use Rattle.progressive_encoder.specs.Encode.{srlDifferences}
+use Rattle.progressive_encoder.specs.Encode.{floorRule, srlDifferences}
 use Rattle.progressive_encoder.proofs.WrittenValues.{surely}
 use borrow.Author.Needs.{needs}
 use Rattle.progressive_encoder.proofs.writer.srl_exceeds.Statement.{statement}
@@ -15,7 +15,7 @@ returns c =
     let k = c .before .before .before in
     let a = k .args in
     let ts = steps (a .use-reduce-extrapolate) (a .prev) (a .curr) in
-    sym (le-ltb _ _ (surely (srlWidths ts (a .sign .now)) (srlDifferences ts (a .coefficients .now) (a .prev-coefficients .now) (a .sign .now)) (a .room) (omega (arith, c .if1 .taken, k .pre .3 .over .count, k .pre .3 .over .sum))))
+    sym (le-ltb _ _ (surely (srlWidths ts (a .sign .now)) (srlDifferences floorRule ts (a .coefficients .now) (a .prev-coefficients .now) (a .sign .now)) (a .room) (omega (arith, c .if1 .taken, k .pre .3 .over .count, k .pre .3 .over .sum))))
 
 returns-2 : tie.Need-returns-2
 returns-2 c = ap (ltb (c .before .before .before .before .args .room)) (c .srl-length .ensures)

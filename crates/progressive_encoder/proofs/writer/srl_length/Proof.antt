@@ -5,7 +5,7 @@ use native.Mathlib.Omega.{arith}
 use lib.ListN.{length}
 use Rattle.srl_encoder.proofs.Runs.{length-flush}
 use Rattle.upgrade_steps.specs.Steps.{steps, srlWidths}
-use Rattle.progressive_encoder.specs.Encode.{srlDifferences}
+use Rattle.progressive_encoder.specs.Encode.{floorRule, srlDifferences}
 use Rattle.progressive_encoder.specs.Inner.{passLists}
 use Rattle.progressive_encoder.proofs.WrittenValues.{stream-none, stream-length}
 use borrow.Author.Needs.{needs}
@@ -16,7 +16,7 @@ returns : tie.Need-returns
 returns c =
     let a = c .before .args in
     let ts = steps (a .use-reduce-extrapolate) (a .prev) (a .curr) in
-    sym (ap length (stream-none (srlWidths ts (a .sign .now)) (srlDifferences ts (a .coefficients .now) (a .prev-coefficients .now) (a .sign .now)) (sym (c .before .pre .3) ∙ c .if1 .taken)))
+    sym (ap length (stream-none (srlWidths ts (a .sign .now)) (srlDifferences floorRule ts (a .coefficients .now) (a .prev-coefficients .now) (a .sign .now)) (sym (c .before .pre .3) ∙ c .if1 .taken)))
 
 -- the pending zeros take few bits
 few : (c : tie.After-flush-length) → c .flush-length .result ≤ 4107
@@ -41,7 +41,7 @@ returns-2 c =
     let k = c .before .before .before .before .before in
     let a = k .args in
     let m = c .before .before .before .measure-bands in
-    let l = passLists (steps (a .use-reduce-extrapolate) (a .prev) (a .curr)) (a .coefficients .now) (a .prev-coefficients .now) (a .sign .now) in
+    let l = passLists floorRule (steps (a .use-reduce-extrapolate) (a .prev) (a .curr)) (a .coefficients .now) (a .prev-coefficients .now) (a .sign .now) in
     omega (arith, stream-length l (m .result) (m .ensures .over) (λ e. c .before .before .before .before .if1 .left (k .pre .3 ∙ e)), c .before .before .flush-length .ensures)
 
 pub srl-length-spec : {M : Type 1} → statement M

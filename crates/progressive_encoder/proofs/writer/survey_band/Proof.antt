@@ -6,7 +6,7 @@ use lib.ListN.{length, getD}
 use lib.IntN.{ℤ, pos, natAbs}
 use mir.Syntax.{w16}
 use Rattle.fixed.proofs.Machine.{got}
-use Rattle.progressive_encoder.specs.Encode.{srlDifference}
+use Rattle.progressive_encoder.specs.Encode.{floorRule, srlDifference}
 use Rattle.upgrade_steps.specs.Inner.{bandStep, fromSrl}
 use Rattle.progressive_encoder.specs.Inner.{bandLists, oneIf, onlyIf, surveyOf, Counts}
 use Rattle.progressive_encoder.proofs.Placewise.{band-none, place-next}
@@ -19,7 +19,7 @@ use Rattle.progressive_encoder.proofs.writer.survey_band.Tie as tie
 abbrev Inv-loop : tie.InvT-loop
 Inv-loop coefficients prev-coefficients sign t count₀ sum₀ largest₀ i₀ count sum largest i =
     (i ≤ length coefficients) × (count ≤ i) × (sum ≤ 32768 * i)
-    × Counts (bandLists (bandStep t) i coefficients prev-coefficients sign) (surveyOf 0 0 0) (surveyOf count sum largest)
+    × Counts (bandLists floorRule (bandStep t) i coefficients prev-coefficients sign) (surveyOf 0 0 0) (surveyOf count sum largest)
 
 abbrev μ-loop : tie.MeasureT-loop
 μ-loop coefficients prev-coefficients sign t count₀ sum₀ largest₀ i₀ count sum largest i = length coefficients - i
@@ -27,7 +27,7 @@ abbrev μ-loop : tie.MeasureT-loop
 loop-holds : tie.Need-loop-holds Inv-loop μ-loop
 loop-holds c =
     let a = c .args in
-    (omega arith, omega arith, omega arith, band-none Counts counts-placewise (a .coefficients .now) (a .prev-coefficients .now) (a .sign .now) (bandStep (a .t)) (surveyOf 0 0 0))
+    (omega arith, omega arith, omega arith, band-none floorRule Counts counts-placewise (a .coefficients .now) (a .prev-coefficients .now) (a .sign .now) (bandStep (a .t)) (surveyOf 0 0 0))
 
 -- the three elements of a place
 first : (c : tie.After-one-if Inv-loop μ-loop) → ℤ
@@ -84,7 +84,7 @@ loop-again c =
       omega arith,
       omega (arith, one-small d, l .inv .1),
       omega (arith, only-small d, l .inv .2),
-      place-next Counts counts-placewise (a .coefficients .now) (a .prev-coefficients .now) (a .sign .now) t (l .i) (k .pre .0) (omega arith)
+      place-next floorRule Counts counts-placewise (a .coefficients .now) (a .prev-coefficients .now) (a .sign .now) t (l .i) (k .pre .0) (omega arith)
           (surveyOf 0 0 0) (surveyOf (l .count) (l .sum) (l .largest)) _ (l .inv .3) refl refl refl
           (place-counts t (first d) (second d) (third d) (k .pre .1) (surveyOf (l .count) (l .sum) (l .largest)) _ (ap (λ n. l .count + n) (one d)) (ap (λ n. l .sum + n) (only d)) (c .larger .ensures ∙ ap (max (l .largest)) (only d))),
     )

@@ -3,6 +3,7 @@ use Prim.Native.Nat.{_-_, _≤_}
 use native.Mathlib.Omega.{arith}
 use Rattle.bands.proofs.Spread.{one-of-ten}
 use Rattle.upgrade_steps.specs.Inner.{bandStep, SameStep}
+use Rattle.progressive_encoder.specs.Encode.{floorRule}
 use Rattle.progressive_encoder.specs.Inner.{Surveys, noTotal, Few}
 use Rattle.progressive_encoder.proofs.Placewise.{WentTo, walk-begins, next-part, next-room, walk-on, walk-ends}
 use Rattle.progressive_encoder.proofs.Surveyed.{surveys-placewise}
@@ -12,7 +13,7 @@ use Rattle.progressive_encoder.proofs.writer.survey_bands.Tie as tie
 
 abbrev Inv-loop : tie.InvT-loop
 Inv-loop coefficients prev-coefficients prev curr sign use-reduce-extrapolate table done₀ ends i₀ done i =
-    (i ≤ 4096) × WentTo Surveys Few coefficients prev-coefficients sign use-reduce-extrapolate prev curr i noTotal done
+    (i ≤ 4096) × WentTo floorRule Surveys Few coefficients prev-coefficients sign use-reduce-extrapolate prev curr i noTotal done
 
 abbrev μ-loop : tie.MeasureT-loop
 μ-loop coefficients prev-coefficients prev curr sign use-reduce-extrapolate table done₀ ends i₀ done i = 4096 - i
@@ -20,7 +21,7 @@ abbrev μ-loop : tie.MeasureT-loop
 loop-holds : tie.Need-loop-holds Inv-loop μ-loop
 loop-holds c =
     let a = c .before .args in
-    (omega arith, walk-begins Surveys surveys-placewise Few (a .coefficients .now) (a .prev-coefficients .now) (a .sign .now) (a .use-reduce-extrapolate) (a .prev) (a .curr) noTotal (record { count = omega arith; sum = omega arith; bits = omega arith }))
+    (omega arith, walk-begins floorRule Surveys surveys-placewise Few (a .coefficients .now) (a .prev-coefficients .now) (a .sign .now) (a .use-reduce-extrapolate) (a .prev) (a .curr) noTotal (record { count = omega arith; sum = omega arith; bits = omega arith }))
 
 stretch-at-requires : tie.Need-stretch-at-requires Inv-loop μ-loop
 stretch-at-requires c κs =
@@ -44,9 +45,9 @@ survey-next-requires c κs =
     let a = k .args in
     let l = c .before .before .before .before .before .before .loop in
     let n = next (c .before .before .before .before) in (
-      next-part Surveys surveys-placewise Few (a .coefficients .now) (a .prev-coefficients .now) (a .sign .now) (a .use-reduce-extrapolate) (a .prev) (a .curr) (l .i) _ _ n (k .pre .2),
+      next-part floorRule Surveys surveys-placewise Few (a .coefficients .now) (a .prev-coefficients .now) (a .sign .now) (a .use-reduce-extrapolate) (a .prev) (a .curr) (l .i) _ _ n (k .pre .2),
       n .narrow (k .pre .1),
-      next-room Surveys surveys-placewise Few (a .coefficients .now) (a .prev-coefficients .now) (a .sign .now) (a .use-reduce-extrapolate) (a .prev) (a .curr) (l .i) _ _ n (k .pre .2) noTotal (l .done) (l .inv .1),
+      next-room floorRule Surveys surveys-placewise Few (a .coefficients .now) (a .prev-coefficients .now) (a .sign .now) (a .use-reduce-extrapolate) (a .prev) (a .curr) (l .i) _ _ n (k .pre .2) noTotal (l .done) (l .inv .1),
     )
 
 loop-less : tie.Need-loop-less Inv-loop μ-loop
@@ -59,13 +60,13 @@ loop-again c =
     let l = c .before .before .before .before .before .before .before .loop in
     let u = c .survey-next in
     let n = next (c .before .before .before .before .before) in
-    (n .ends, walk-on Surveys surveys-placewise Few (a .coefficients .now) (a .prev-coefficients .now) (a .sign .now) (a .use-reduce-extrapolate) (a .prev) (a .curr) (l .i) _ _ n (k .pre .2) noTotal (l .done) (u .result) (l .inv .1) (u .ensures))
+    (n .ends, walk-on floorRule Surveys surveys-placewise Few (a .coefficients .now) (a .prev-coefficients .now) (a .sign .now) (a .use-reduce-extrapolate) (a .prev) (a .curr) (l .i) _ _ n (k .pre .2) noTotal (l .done) (u .result) (l .inv .1) (u .ensures))
 
 returns : tie.Need-returns Inv-loop μ-loop
 returns c =
     let a = c .before .before .before .args in
     let l = c .before .loop in
-    walk-ends Surveys surveys-placewise Few (a .coefficients .now) (a .prev-coefficients .now) (a .sign .now) (a .use-reduce-extrapolate) (a .prev) (a .curr) (l .i) noTotal (l .done) (omega (arith, l .inv .0)) (l .inv .1)
+    walk-ends floorRule Surveys surveys-placewise Few (a .coefficients .now) (a .prev-coefficients .now) (a .sign .now) (a .use-reduce-extrapolate) (a .prev) (a .curr) (l .i) noTotal (l .done) (omega (arith, l .inv .0)) (l .inv .1)
 
 pub survey-bands-spec : {M : Type 1} → statement M
 survey-bands-spec =

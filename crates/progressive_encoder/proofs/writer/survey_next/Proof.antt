@@ -6,6 +6,7 @@ use native.Mathlib.Nat.{mul-le-mul-left}
 use native.Mathlib.Omega.{arith}
 use lib.ListN.{length}
 use Rattle.upgrade_steps.specs.Inner.{bandStep}
+use Rattle.progressive_encoder.specs.Encode.{floorRule}
 use Rattle.progressive_encoder.specs.Inner.{Surveys, Few}
 use Rattle.progressive_encoder.proofs.Placewise.{band-skip}
 use Rattle.progressive_encoder.proofs.Surveyed.{surveys-placewise, band-surveys, band-few, few-on}
@@ -17,7 +18,7 @@ returns : tie.Need-returns
 returns c =
     let k = c .before .before in
     let a = k .args in
-    band-skip Surveys surveys-placewise Few (a .coefficients .now) (a .prev-coefficients .now) (a .sign .now) (bandStep (a .t)) (k .pre .0) few-on (c .if1 .taken) (a .done)
+    band-skip floorRule Surveys surveys-placewise Few (a .coefficients .now) (a .prev-coefficients .now) (a .sign .now) (bandStep (a .t)) (k .pre .0) few-on (c .if1 .taken) (a .done)
 
 -- what the numbers take
 small : (c : tie.After-survey-band) → (length (c .before .before .before .args .coefficients .now) - c .survey-band .result .count) * c .before .before .before .args .t .width ≤ 15 * length (c .before .before .before .args .coefficients .now)

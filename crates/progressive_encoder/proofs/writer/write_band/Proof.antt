@@ -9,6 +9,7 @@ use lib.IntN.{pos}
 use mir.Val.{toZ, ofZ}
 use mir.Syntax.{w8, w16}
 use mir.ValLaws.{toZ-ofZ}
+use Rattle.progressive_encoder.specs.Encode.{floorRule}
 use Rattle.progressive_encoder.specs.declared.writer.Sinks.{Sinks}
 use Rattle.upgrade_steps.specs.Inner.{bandStep}
 use Rattle.progressive_encoder.specs.Inner.{placeLists, bandLists, GoesOver, Before, sinksOf, outputs, Stores, Writable, Ready}
@@ -21,7 +22,7 @@ use Rattle.progressive_encoder.proofs.writer.write_band.Tie as tie
 abbrev Inv-loop : tie.InvT-loop
 Inv-loop coefficients prev-coefficients sign t srl-out₀ raw-out₀ at₀ current₀ n₀ kp₀ zeros₀ raw-at₀ raw-current₀ raw-n₀ i₀ srl-out raw-out at current n kp zeros raw-at raw-current raw-n i =
     (i ≤ length coefficients) × (length srl-out ≡ length srl-out₀) × (length raw-out ≡ length raw-out₀)
-    × GoesOver Stores Ready (bandLists (bandStep t) i coefficients prev-coefficients sign) i (outputs srl-out₀ raw-out₀ (sinksOf at₀ current₀ n₀ kp₀ zeros₀ raw-at₀ raw-current₀ raw-n₀)) (outputs srl-out raw-out (sinksOf at current n kp zeros raw-at raw-current raw-n))
+    × GoesOver Stores Ready (bandLists floorRule (bandStep t) i coefficients prev-coefficients sign) i (outputs srl-out₀ raw-out₀ (sinksOf at₀ current₀ n₀ kp₀ zeros₀ raw-at₀ raw-current₀ raw-n₀)) (outputs srl-out raw-out (sinksOf at current n kp zeros raw-at raw-current raw-n))
 
 abbrev μ-loop : tie.MeasureT-loop
 μ-loop coefficients prev-coefficients sign t srl-out₀ raw-out₀ at₀ current₀ n₀ kp₀ zeros₀ raw-at₀ raw-current₀ raw-n₀ i₀ srl-out raw-out at current n kp zeros raw-at raw-current raw-n i = length coefficients - i
@@ -30,13 +31,13 @@ returns : tie.Need-returns Inv-loop μ-loop
 returns c =
     let k = c .before .before .before .before in
     let a = k .args in
-    band-skip Stores stores-placewise Ready (a .coefficients .now) (a .prev-coefficients .now) (a .sign .now) (bandStep (a .t)) (k .pre .0) ready-on (c .if1 .taken) (outputs (a .srl-out .now) (a .raw-out .now) (a .start))
+    band-skip floorRule Stores stores-placewise Ready (a .coefficients .now) (a .prev-coefficients .now) (a .sign .now) (bandStep (a .t)) (k .pre .0) ready-on (c .if1 .taken) (outputs (a .srl-out .now) (a .raw-out .now) (a .start))
 
 loop-holds : tie.Need-loop-holds Inv-loop μ-loop
 loop-holds c =
     let k = c .before .before .before .before .before .before .before in
     let a = k .args in
-    (omega arith, refl, refl, band-begins Stores stores-placewise Ready (a .coefficients .now) (a .prev-coefficients .now) (a .sign .now) (bandStep (a .t)) (k .pre .0) (outputs (a .srl-out .now) (a .raw-out .now) (a .start)))
+    (omega arith, refl, refl, band-begins floorRule Stores stores-placewise Ready (a .coefficients .now) (a .prev-coefficients .now) (a .sign .now) (bandStep (a .t)) (k .pre .0) (outputs (a .srl-out .now) (a .raw-out .now) (a .start)))
 
 -- there is room for a place more
 room : (c : tie.After-zero-value Inv-loop μ-loop) → Before Ready (outputs (c .before .before .before .before .before .loop .srl-out) (c .before .before .before .before .before .loop .raw-out) (sinksOf (c .before .before .before .before .before .loop .at) (c .before .before .before .before .before .loop .current) (c .before .before .before .before .before .loop .n) (c .before .before .before .before .before .loop .kp) (c .before .before .before .before .before .loop .zeros) (c .before .before .before .before .before .loop .raw-at) (c .before .before .before .before .before .loop .raw-current) (c .before .before .before .before .before .loop .raw-n))) 1
@@ -45,7 +46,7 @@ room c =
     let a = k .args in
     let l = c .before .before .before .before .before .loop in
     let p = k .pre .3 in
-    room-for-one Stores stores-placewise Ready (a .coefficients .now) (a .prev-coefficients .now) (a .sign .now) (bandStep (a .t)) (k .pre .0) (l .i) (c .before .before .before .before .loop-test .taken) (outputs (a .srl-out .now) (a .raw-out .now) (a .start)) (outputs (l .srl-out) (l .raw-out) (sinksOf (l .at) (l .current) (l .n) (l .kp) (l .zeros) (l .raw-at) (l .raw-current) (l .raw-n)))
+    room-for-one floorRule Stores stores-placewise Ready (a .coefficients .now) (a .prev-coefficients .now) (a .sign .now) (bandStep (a .t)) (k .pre .0) (l .i) (c .before .before .before .before .loop-test .taken) (outputs (a .srl-out .now) (a .raw-out .now) (a .start)) (outputs (l .srl-out) (l .raw-out) (sinksOf (l .at) (l .current) (l .n) (l .kp) (l .zeros) (l .raw-at) (l .raw-current) (l .raw-n)))
     (record { done = p .done; bound = p .bound; left = p .left }) (l .inv .3)
 
 add-zeros : tie.Need-add-zeros Inv-loop μ-loop
@@ -62,11 +63,11 @@ write-place-requires c κs =
 
 -- the place is stored, whichever way the turn takes
 place-done : (c : tie.Joined2 Inv-loop μ-loop)
-    → GoesOver Stores Ready (placeLists (bandStep (c .before .before .before .before .before .before .before .before .before .before .before .before .before .before .args .t)) (toZ w16 (ofZ w16 (getD (c .before .before .before .before .before .before .before .before .before .before .before .before .before .before .args .coefficients .now) (c .before .before .before .before .before .before .loop .i) (pos 0)))) (toZ w16 (ofZ w16 (getD (c .before .before .before .before .before .before .before .before .before .before .before .before .before .before .args .prev-coefficients .now) (c .before .before .before .before .before .before .loop .i) (pos 0)))) (toZ w8 (ofZ w8 (getD (c .before .before .before .before .before .before .before .before .before .before .before .before .before .before .args .sign .now) (c .before .before .before .before .before .before .loop .i) (pos 0))))) 1 (outputs (c .before .before .before .before .before .before .loop .srl-out) (c .before .before .before .before .before .before .loop .raw-out) (sinksOf (c .before .before .before .before .before .before .loop .at) (c .before .before .before .before .before .before .loop .current) (c .before .before .before .before .before .before .loop .n) (c .before .before .before .before .before .before .loop .kp) (c .before .before .before .before .before .before .loop .zeros) (c .before .before .before .before .before .before .loop .raw-at) (c .before .before .before .before .before .before .loop .raw-current) (c .before .before .before .before .before .before .loop .raw-n))) (outputs (c .if2 .srl-out) (c .if2 .raw-out) (sinksOf (c .if2 .at) (c .if2 .current) (c .if2 .n) (c .if2 .kp) (c .if2 .zeros) (c .if2 .raw-at) (c .if2 .raw-current) (c .if2 .raw-n)))
+    → GoesOver Stores Ready (placeLists floorRule (bandStep (c .before .before .before .before .before .before .before .before .before .before .before .before .before .before .args .t)) (toZ w16 (ofZ w16 (getD (c .before .before .before .before .before .before .before .before .before .before .before .before .before .before .args .coefficients .now) (c .before .before .before .before .before .before .loop .i) (pos 0)))) (toZ w16 (ofZ w16 (getD (c .before .before .before .before .before .before .before .before .before .before .before .before .before .before .args .prev-coefficients .now) (c .before .before .before .before .before .before .loop .i) (pos 0)))) (toZ w8 (ofZ w8 (getD (c .before .before .before .before .before .before .before .before .before .before .before .before .before .before .args .sign .now) (c .before .before .before .before .before .before .loop .i) (pos 0))))) 1 (outputs (c .before .before .before .before .before .before .loop .srl-out) (c .before .before .before .before .before .before .loop .raw-out) (sinksOf (c .before .before .before .before .before .before .loop .at) (c .before .before .before .before .before .before .loop .current) (c .before .before .before .before .before .before .loop .n) (c .before .before .before .before .before .before .loop .kp) (c .before .before .before .before .before .before .loop .zeros) (c .before .before .before .before .before .before .loop .raw-at) (c .before .before .before .before .before .before .loop .raw-current) (c .before .before .before .before .before .before .loop .raw-n))) (outputs (c .if2 .srl-out) (c .if2 .raw-out) (sinksOf (c .if2 .at) (c .if2 .current) (c .if2 .n) (c .if2 .kp) (c .if2 .zeros) (c .if2 .raw-at) (c .if2 .raw-current) (c .if2 .raw-n)))
 place-done c =
     let t = bandStep (c .before .before .before .before .before .before .before .before .before .before .before .before .before .before .args .t) in
     let l = c .before .before .before .before .before .before .loop in
-    let Goes = GoesOver Stores Ready (placeLists t (toZ w16 (ofZ w16 (getD (c .before .before .before .before .before .before .before .before .before .before .before .before .before .before .args .coefficients .now) (c .before .before .before .before .before .before .loop .i) (pos 0)))) (toZ w16 (ofZ w16 (getD (c .before .before .before .before .before .before .before .before .before .before .before .before .before .before .args .prev-coefficients .now) (c .before .before .before .before .before .before .loop .i) (pos 0)))) (toZ w8 (ofZ w8 (getD (c .before .before .before .before .before .before .before .before .before .before .before .before .before .before .args .sign .now) (c .before .before .before .before .before .before .loop .i) (pos 0))))) 1 in
+    let Goes = GoesOver Stores Ready (placeLists floorRule t (toZ w16 (ofZ w16 (getD (c .before .before .before .before .before .before .before .before .before .before .before .before .before .before .args .coefficients .now) (c .before .before .before .before .before .before .loop .i) (pos 0)))) (toZ w16 (ofZ w16 (getD (c .before .before .before .before .before .before .before .before .before .before .before .before .before .before .args .prev-coefficients .now) (c .before .before .before .before .before .before .loop .i) (pos 0)))) (toZ w8 (ofZ w8 (getD (c .before .before .before .before .before .before .before .before .before .before .before .before .before .before .args .sign .now) (c .before .before .before .before .before .before .loop .i) (pos 0))))) 1 in
     ⊎-elim
     (λ w.
     let zero = c .before .zero-value .ensures (w .0 .taken) in
@@ -92,7 +93,7 @@ loop-again c =
       omega (arith, c .before .before .before .before .before .loop-test .taken),
       same-outputs c .0 ∙ l .inv .1,
       same-outputs c .1 ∙ l .inv .2,
-      band-goes-on Stores stores-placewise Ready (a .coefficients .now) (a .prev-coefficients .now) (a .sign .now) (bandStep (a .t)) (k .pre .0) (l .i) (c .before .before .before .before .before .loop-test .taken) (outputs (a .srl-out .now) (a .raw-out .now) (a .start)) (outputs (l .srl-out) (l .raw-out) (sinksOf (l .at) (l .current) (l .n) (l .kp) (l .zeros) (l .raw-at) (l .raw-current) (l .raw-n))) (outputs (c .if2 .srl-out) (c .if2 .raw-out) (sinksOf (c .if2 .at) (c .if2 .current) (c .if2 .n) (c .if2 .kp) (c .if2 .zeros) (c .if2 .raw-at) (c .if2 .raw-current) (c .if2 .raw-n))) (l .inv .3)
+      band-goes-on floorRule Stores stores-placewise Ready (a .coefficients .now) (a .prev-coefficients .now) (a .sign .now) (bandStep (a .t)) (k .pre .0) (l .i) (c .before .before .before .before .before .loop-test .taken) (outputs (a .srl-out .now) (a .raw-out .now) (a .start)) (outputs (l .srl-out) (l .raw-out) (sinksOf (l .at) (l .current) (l .n) (l .kp) (l .zeros) (l .raw-at) (l .raw-current) (l .raw-n))) (outputs (c .if2 .srl-out) (c .if2 .raw-out) (sinksOf (c .if2 .at) (c .if2 .current) (c .if2 .n) (c .if2 .kp) (c .if2 .zeros) (c .if2 .raw-at) (c .if2 .raw-current) (c .if2 .raw-n))) (l .inv .3)
           (toZ-ofZ w16 x (record { sfits = c .before .before .before .before .c .given })) (toZ-ofZ w16 y (record { sfits = c .before .before .before .p .given })) (toZ-ofZ w8 z (record { sfits = c .before .before .s .given }))
           (place-done c),
     )

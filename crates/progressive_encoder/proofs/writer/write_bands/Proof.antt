@@ -5,6 +5,7 @@ use native.Mathlib.Omega.{arith}
 use lib.ListN.{length}
 use Rattle.bands.proofs.Spread.{one-of-ten}
 use Rattle.upgrade_steps.specs.Inner.{bandStep, SameStep}
+use Rattle.progressive_encoder.specs.Encode.{floorRule}
 use Rattle.progressive_encoder.specs.Inner.{freshSinks, outputs, Stores, Ready}
 use Rattle.progressive_encoder.proofs.Placewise.{WentTo, walk-begins, next-part, next-room, walk-on, walk-ends}
 use Rattle.progressive_encoder.proofs.WrittenValues.{stores-placewise}
@@ -15,7 +16,7 @@ use Rattle.progressive_encoder.proofs.writer.write_bands.Tie as tie
 abbrev Inv-loop : tie.InvT-loop
 Inv-loop coefficients prev-coefficients prev curr sign use-reduce-extrapolate table srl-out₀ raw-out₀ cur₀ ends i₀ srl-out raw-out cur i =
     (i ≤ 4096) × (length srl-out ≡ length srl-out₀) × (length raw-out ≡ length raw-out₀)
-    × WentTo Stores Ready coefficients prev-coefficients sign use-reduce-extrapolate prev curr i (outputs srl-out₀ raw-out₀ freshSinks) (outputs srl-out raw-out cur)
+    × WentTo floorRule Stores Ready coefficients prev-coefficients sign use-reduce-extrapolate prev curr i (outputs srl-out₀ raw-out₀ freshSinks) (outputs srl-out raw-out cur)
 
 abbrev μ-loop : tie.MeasureT-loop
 μ-loop coefficients prev-coefficients prev curr sign use-reduce-extrapolate table srl-out₀ raw-out₀ cur₀ ends i₀ srl-out raw-out cur i = 4096 - i
@@ -27,7 +28,7 @@ loop-holds c =
       refl,
       refl,
       rw (c .before .sinks-of .ensures)
-          (walk-begins Stores stores-placewise Ready (a .coefficients .now) (a .prev-coefficients .now) (a .sign .now) (a .use-reduce-extrapolate) (a .prev) (a .curr) (outputs (a .srl-out .now) (a .raw-out .now) freshSinks)
+          (walk-begins floorRule Stores stores-placewise Ready (a .coefficients .now) (a .prev-coefficients .now) (a .sign .now) (a .use-reduce-extrapolate) (a .prev) (a .curr) (outputs (a .srl-out .now) (a .raw-out .now) freshSinks)
           (record { good = ((omega arith, omega arith), omega arith); early = omega arith; sound = (omega arith, omega arith); raw-early = omega arith })),
     )
 
@@ -53,8 +54,8 @@ write-band-requires c κs =
     let a = k .args in
     let l = c .before .before .before .before .before .before .before .before .loop in
     let n = next (c .before .before .before .before .before .before) in
-    let r = next-room Stores stores-placewise Ready (a .coefficients .now) (a .prev-coefficients .now) (a .sign .now) (a .use-reduce-extrapolate) (a .prev) (a .curr) (l .i) _ _ n (k .pre .3) (outputs (a .srl-out .now) (a .raw-out .now) freshSinks) (outputs (l .srl-out) (l .raw-out) (l .cur)) (l .inv .3) in (
-      next-part Stores stores-placewise Ready (a .coefficients .now) (a .prev-coefficients .now) (a .sign .now) (a .use-reduce-extrapolate) (a .prev) (a .curr) (l .i) _ _ n (k .pre .3),
+    let r = next-room floorRule Stores stores-placewise Ready (a .coefficients .now) (a .prev-coefficients .now) (a .sign .now) (a .use-reduce-extrapolate) (a .prev) (a .curr) (l .i) _ _ n (k .pre .3) (outputs (a .srl-out .now) (a .raw-out .now) freshSinks) (outputs (l .srl-out) (l .raw-out) (l .cur)) (l .inv .3) in (
+      next-part floorRule Stores stores-placewise Ready (a .coefficients .now) (a .prev-coefficients .now) (a .sign .now) (a .use-reduce-extrapolate) (a .prev) (a .curr) (l .i) _ _ n (k .pre .3),
       n .narrow (k .pre .1),
       n .low (k .pre .2),
       record { done = r .done; bound = r .bound; left = r .left },
@@ -74,7 +75,7 @@ loop-again c =
       n .ends,
       u .kept .1 .1 .1 .1 .1 .0 ∙ l .inv .1,
       u .kept .1 .1 .1 .1 .1 .1 .0 ∙ l .inv .2,
-      walk-on Stores stores-placewise Ready (a .coefficients .now) (a .prev-coefficients .now) (a .sign .now) (a .use-reduce-extrapolate) (a .prev) (a .curr) (l .i) _ _ n (k .pre .3) (outputs (a .srl-out .now) (a .raw-out .now) freshSinks) (outputs (l .srl-out) (l .raw-out) (l .cur)) (outputs (o .0) (o .1 .0) (u .result)) (l .inv .3) (u .ensures),
+      walk-on floorRule Stores stores-placewise Ready (a .coefficients .now) (a .prev-coefficients .now) (a .sign .now) (a .use-reduce-extrapolate) (a .prev) (a .curr) (l .i) _ _ n (k .pre .3) (outputs (a .srl-out .now) (a .raw-out .now) freshSinks) (outputs (l .srl-out) (l .raw-out) (l .cur)) (outputs (o .0) (o .1 .0) (u .result)) (l .inv .3) (u .ensures),
     )
 
 same-length : tie.Need-same-length Inv-loop μ-loop
@@ -87,7 +88,7 @@ returns : tie.Need-returns Inv-loop μ-loop
 returns c =
     let a = c .before .before .before .before .before .before .args in
     let l = c .before .loop in
-    walk-ends Stores stores-placewise Ready (a .coefficients .now) (a .prev-coefficients .now) (a .sign .now) (a .use-reduce-extrapolate) (a .prev) (a .curr) (l .i) (outputs (a .srl-out .now) (a .raw-out .now) freshSinks) (outputs (l .srl-out) (l .raw-out) (l .cur)) (omega (arith, l .inv .0)) (l .inv .3)
+    walk-ends floorRule Stores stores-placewise Ready (a .coefficients .now) (a .prev-coefficients .now) (a .sign .now) (a .use-reduce-extrapolate) (a .prev) (a .curr) (l .i) (outputs (a .srl-out .now) (a .raw-out .now) freshSinks) (outputs (l .srl-out) (l .raw-out) (l .cur)) (omega (arith, l .inv .0)) (l .inv .3)
 
 pub write-bands-spec : {M : Type 1} → statement M
 write-bands-spec =

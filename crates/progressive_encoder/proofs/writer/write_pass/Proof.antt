@@ -9,7 +9,7 @@ use lib.ListN.{length}
 use borrow.Author.Tests.{lt-ltb, le-ltb, ltb-false}
 use Rattle.answer.specs.Refusals.{magnitudeOutOfRange, outputTooShort, firstOf}
 use Rattle.upgrade_steps.specs.Steps.{steps}
-use Rattle.progressive_encoder.specs.Encode.{srlStream, rawStream, anyTooLarge}
+use Rattle.progressive_encoder.specs.Encode.{floorRule, srlStream, rawStream, anyTooLarge}
 use Rattle.progressive_encoder.specs.Inner.{Lists, passLists}
 use Rattle.progressive_encoder.proofs.BothStreams.{refusal-is, refused, accepted}
 use Rattle.progressive_encoder.proofs.Surveyed.{survey-bad, survey-bytes}
@@ -19,7 +19,7 @@ use Rattle.progressive_encoder.proofs.writer.write_pass.Tie as tie
 
 -- what the places give
 given : tie.Start → Lists
-given k = passLists (steps (k .args .use-reduce-extrapolate) (k .args .prev) (k .args .curr)) (k .args .coefficients .now) (k .args .prev-coefficients .now) (k .args .sign .now)
+given k = passLists floorRule (steps (k .args .use-reduce-extrapolate) (k .args .prev) (k .args .curr)) (k .args .coefficients .now) (k .args .prev-coefficients .now) (k .args .sign .now)
 
 -- whether a value is too large, and so many raw bytes
 bad : (c : tie.After-survey-bands) → c .survey-bands .result .bad ≡ anyTooLarge (given (c .before .before .before .before .before) .widths) (given (c .before .before .before .before .before) .values)

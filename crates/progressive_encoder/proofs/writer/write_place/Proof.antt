@@ -13,7 +13,7 @@ use Rattle.bits.specs.Inner.{write}
 use Rattle.fixed.proofs.Machine.{got}
 use Rattle.srl_encoder.specs.Inner.{valueState, valueWrite}
 use Rattle.srl_encoder.specs.declared.encoder.CallState.{CallState}
-use Rattle.progressive_encoder.specs.Encode.{srlDifference, rawDifference}
+use Rattle.progressive_encoder.specs.Encode.{floorRule, srlDifference, rawDifference}
 use Rattle.upgrade_steps.specs.Inner.{bandStep, fromSrl}
 use Rattle.progressive_encoder.specs.Inner.{placeLists, GoesOver, outputs, Stores, Ready}
 use Rattle.progressive_encoder.proofs.WrittenValues.{read-difference, read-source, stores-srl, stores-raw, writable-value, writable-number}
@@ -28,7 +28,7 @@ srl-is c = sym (c .from-srl .ensures ∙ read-source (bandStep (c .before .befor
 -- a value v, stored: y and o are the writer and the output then
 value : (k : tie.Start) → fromSrl (bandStep (k .args .t)) (k .args .s) ≡ true → (v : ℤ) → v ≡ srlDifference (k .args .t .position) (k .args .c) (k .args .p) → (y : CallState) (o : List ℕ)
     → y ≡ valueState (k .args .t .width) (k .args .start .srl) v → o ≡ valueWrite (k .args .t .width) (k .args .srl-out .now) (k .args .start .srl) v
-    → GoesOver Stores Ready (placeLists (bandStep (k .args .t)) (k .args .c) (k .args .p) (k .args .s)) 1 (outputs (k .args .srl-out .now) (k .args .raw-out .now) (k .args .start)) (outputs o (k .args .raw-out .now) (record { srl = y; raw = k .args .start .raw }))
+    → GoesOver Stores Ready (placeLists floorRule (bandStep (k .args .t)) (k .args .c) (k .args .p) (k .args .s)) 1 (outputs (k .args .srl-out .now) (k .args .raw-out .now) (k .args .start)) (outputs o (k .args .raw-out .now) (record { srl = y; raw = k .args .start .raw }))
 value k f v z y o e g =
     let a = k .args in
     let x = a .start .srl in

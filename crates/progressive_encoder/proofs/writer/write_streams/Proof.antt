@@ -3,6 +3,7 @@ use mathlib.Core.Path.{ap, _∙_}
 use mathlib.Core.List.{[]}
 use native.Mathlib.Omega.{arith}
 use Rattle.bands.proofs.Spread.{place-whole}
+use Rattle.progressive_encoder.specs.Encode.{floorRule}
 use Rattle.progressive_encoder.specs.declared.Written.the-variants.{Bytes}
 use Rattle.upgrade_steps.specs.Steps.{steps, stepOf}
 use Rattle.progressive_encoder.specs.Inner.{passLists, endLength, endOut}
@@ -26,9 +27,9 @@ returns c =
     let cs = a .coefficients .now in
     let ps = a .prev-coefficients .now in
     let ss = a .sign .now in
-    let l = passLists ts cs ps ss in
+    let l = passLists floorRule ts cs ps ss in
     let all = place-whole (a .use-reduce-extrapolate) (stepOf (a .prev) (a .curr)) in
-    let same = same-length ts cs ps ss (omega (arith, all, k .pre .3 .coefficients)) (omega (arith, all, k .pre .3 .previous)) (omega (arith, all, k .pre .3 .sign)) in
+    let same = same-length floorRule ts cs ps ss (omega (arith, all, k .pre .3 .coefficients)) (omega (arith, all, k .pre .3 .previous)) (omega (arith, all, k .pre .3 .sign)) in
     let x = stream-end (l .widths) (l .values) (a .srl-out .now) q d same (s .srl-after []) (s .srl-write []) in
     let y = raw-end (l .numberWidths) (l .numbers) (a .raw-out .now) (w .last .1 .1 .1 .1 .1 .1 .1 .1 .0) (w .result .raw) (s .raw-after [] []) (s .raw-write [] []) (m .0) (m .1) in
     let i = n .0 ∙ ap (λ j. endLength j d) (k .pre .4) ∙ x .0 in
