@@ -1,15 +1,16 @@
 -- Signs and magnitudes. Assumes nothing.
-use mathlib.Core.Path.{_≡_, refl, sym, ap}
+use mathlib.Core.Path.{_≡_, refl, sym, ap, _∙_, subst}
 use mathlib.Core.Bool.{Bool, true, false, true≢false}
-use Prim.Native.Nat.{ℕ, zero, suc}
+use Prim.Native.Nat.{ℕ, zero, suc, _<_}
 use native.Mathlib.Omega.{arith}
 use borrow.Author.Tests.{ltb-true, ltb-false}
-use lib.IntN.{ℤ, pos, negsuc, natAbs, negℤ, _-ℤ_, +ℤ-idl}
-use lib.Signed.{ltZ}
+use lib.IntN.{ℤ, pos, negsuc, natAbs, negℤ, _+ℤ_, _-ℤ_, +ℤ-idl, +ℤ-comm, negℤ-+ℤ, negℤ-negℤ}
+use lib.Signed.{ltZ, mag}
 use mir.Syntax.{Width}
 use mir.Val.{SFits, ofZ}
 use Rattle.fixed.specs.Fixed.{isZero, isOne, signOf, withSign}
 use Rattle.fixed.proofs.Machine.{same-bits}
+use Rattle.fixed.proofs.Sizes.{sub-mag}
 
 -- ---- tests, at every width: what `v == 0` and `v == 1` say of the bits
 -- bits of 0: the number is 0
@@ -87,3 +88,21 @@ with-minus m b e = rw e (+ℤ-idl (negℤ (pos m)))
 -- without a minus it is the magnitude itself
 pub with-plus : (m : ℕ) (b : Bool) → b ≡ false → pos m ≡ withSign b m
 with-plus m b e = rw e
+
+-- ---- how far two numbers are from each other
+
+-- the difference the other way round is its negative
+swapped : (a b : ℤ) → b -ℤ a ≡ negℤ (a -ℤ b)
+swapped a b = sym (negℤ-+ℤ a (negℤ b) ∙ ap (λ z. negℤ a +ℤ z) (negℤ-negℤ b) ∙ +ℤ-comm (negℤ a) b)
+
+minus-abs : (v : ℤ) → ltZ v (pos 0) ≡ true → negℤ v ≡ pos (natAbs v)
+minus-abs (pos n) e = absurd (omega (arith, ltb-true))
+minus-abs (negsuc n) e = refl
+
+-- below b, a is as far from it as b is from a
+pub apart-below : (a b : ℤ) → ltZ (a -ℤ b) (pos 0) ≡ true → b -ℤ a ≡ pos (natAbs (a -ℤ b))
+apart-below a b e = swapped a b ∙ minus-abs (a -ℤ b) e
+
+-- a difference that is not negative has sixteen bits
+pub apart-small : (a b : ℤ) {n : ℕ} → mag a < 32768 → mag b < 32768 → a -ℤ b ≡ pos n → n < 65536
+apart-small a b h k e = subst (λ (z : ℤ). mag z < 65536) e (sub-mag a b 65536 h k)

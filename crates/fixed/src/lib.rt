@@ -188,6 +188,30 @@ pub fn magnitude(value: i16) -> u16
     value as u16
 }
 
+// `a - b`, which an i16 may not hold.
+fn difference(a: i16, b: i16) -> i32
+    ensures { λ r. ⌜ r ≡ a -ℤ b ⌝ }
+{
+    a as i32 - b as i32
+}
+
+// Whether `a` is below `b`.
+pub fn is_below(a: i16, b: i16) -> bool
+    ensures { λ r. ⌜ r ≡ isNegative (a -ℤ b) ⌝ }
+{
+    difference(a, b) < 0
+}
+
+// How far `a` is from `b`: at most 65535.
+pub fn distance(a: i16, b: i16) -> u16
+    ensures { λ r. ⌜ r ≡ natAbs (a -ℤ b) ⌝ }
+{
+    if is_below(a, b) {
+        return difference(b, a) as u16;
+    }
+    difference(a, b) as u16
+}
+
 // `magnitude` with a sign, clamped: exact up to 32767, and -32768.
 pub fn with_sign(magnitude: u16, negative: bool) -> i16
     ensures { λ r. ⌜ r ≡ clampI16 (withSign negative magnitude) ⌝ }
