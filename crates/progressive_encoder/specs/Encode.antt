@@ -50,9 +50,13 @@ abbrev pub notBelow : ℤ → ℕ
 notBelow (pos n) = n
 notBelow (negsuc n) = 0
 
--- "in the bottom: the difference of the two floors, not below 0"; "at other signs outside the bottom as above"
+-- "in the bottom: the difference of the two floors, not below 0"
+abbrev pub floorsApart : ℕ → ℤ → ℤ → ℕ
+floorsApart q c p = notBelow (floorShift c q -ℤ floorShift p q)
+
+-- "at other signs outside the bottom as above"
 abbrev pub cutNumber : Bool → ℕ → ℤ → ℤ → ℕ
-cutNumber true q c p = notBelow (floorShift c q -ℤ floorShift p q)
+cutNumber true q c p = floorsApart q c p
 cutNumber false q c p = rawDifference q c p
 
 -- "symmetric": a negative coefficient as its positive twin

@@ -1,28 +1,34 @@
--- For inner functions only: what those of the writer ask and promise. A pass is surveyed, measured and stored by three walks over its places. Each walk's
--- promise is a relation of what stands before some places and what stands after them, whatever comes behind them; so places in a row are
+-- For inner functions only: what those of the writer ask and promise. A look over the places of a pass leaves two lists of words: the numbers for the raw
+-- stream, and the values for the SRL stream that are not 0, each with the zeros before it. Both streams are measured and stored from these.
+-- The look's promise is a relation of what stands before some places and what stands after them, whatever comes behind them; so places in a row are
 -- relations in a row (proofs/Placewise.antt).
 use mathlib.Core.Path.{_≡_}
-use mathlib.Core.Bool.{Bool, true, false, _||_}
+use mathlib.Core.Bool.{Bool, true, false, cond, _||_}
 use mathlib.Core.List.{List, [], _∷_, _++_}
-use Prim.Native.Nat.{ℕ, zero, suc, _+_, _*_, _≤_, max}
-use lib.IntN.{ℤ, natAbs}
-use lib.ListN.{length, set, replicate}
+use Prim.Native.Nat.{ℕ, zero, suc, _+_, _-_, _*_, _/_, _%_, _^_, _≤_, _<_}
+use lib.Dec.{ltb, eqb}
+use lib.IntN.{ℤ, pos}
+use lib.ListN.{length, getD, take, replicate}
 use lib.Seq.{sets}
-use Rattle.bits.specs.Written.{bitsOfAll, writer, after}
-use Rattle.bits.specs.Inner.{Sound, write, padCount, padOut, counted}
-use Rattle.bits.specs.declared.writer.BitWriter.{BitWriter}
-use Rattle.bits.specs.declared.writer.BitCount.{BitCount}
+use Rattle.bits.specs.Written.{bitsOf, bitsOfAll}
 use Rattle.answer.specs.Refusals.{firstOf, stored}
+use Rattle.fixed.specs.Fixed.{isZero}
+use Rattle.srl_encoder.specs.Encode.{nonzeroBits, runBits, runKp}
 use Rattle.srl_encoder.specs.Finish.{flush, streamBits}
-use Rattle.srl_encoder.specs.Inner.{largest, bitCountOf, Good, GoodMeasure}
-use Rattle.srl_encoder.specs.declared.encoder.CallState.{CallState}
-use Rattle.srl_encoder.specs.declared.encoder.Measured.{Measured}
 use Rattle.upgrade_steps.specs.Steps.{Step, srlWidths, rawWidths}
-use Rattle.progressive_encoder.specs.Encode.{Rule, srlDifferences, rawDifferences, srlStream, rawStream, anyTooLarge, valuesFault, noRoomFor, written}
+use Rattle.upgrade_steps.specs.Inner.{fromSrl}
+use Rattle.progressive_encoder.specs.Encode.{Rule, floorRule, symmetricRule, srlDifferences, rawDifferences, srlStream, rawStream, anyTooLarge, valuesFault, noRoomFor, written}
 use Rattle.progressive_encoder.specs.declared.Written.{Written}
-use Rattle.progressive_encoder.specs.declared.writer.Survey.{Survey}
-use Rattle.progressive_encoder.specs.declared.writer.Total.{Total}
-use Rattle.progressive_encoder.specs.declared.writer.Sinks.{Sinks}
+use Rattle.progressive_encoder.specs.declared.events.Events.{Events}
+use Rattle.progressive_encoder.specs.declared.look.Found.{Found}
+use Rattle.progressive_encoder.specs.declared.measure.Lengths.{Lengths}
+
+-- ════ the rule, as the code has it ════
+
+-- by the flag `symmetric`
+abbrev pub ruleOf : Bool → Rule
+ruleOf true = symmetricRule
+ruleOf false = floorRule
 
 -- ════ what places give ════
 
@@ -85,136 +91,204 @@ pub record Before {X : Type 0} (B : X → ℕ → Type 0) (x : X) (k : ℕ) : Ty
   pub bound : B x done
   pub left : done + k ≤ 4096
 
--- ════ surveying ════
+-- ════ the numbers for the raw stream ════
 
--- a truth value as a count
-abbrev pub oneIf : Bool → ℕ
-oneIf true = 1
-oneIf false = 0
+-- a word is a number and its width
+abbrev pub numberOf : ℕ → ℕ
+numberOf x = x % 65536
 
--- a number where it counts, and else 0
-abbrev pub onlyIf : Bool → ℕ → ℕ
-onlyIf true m = m
-onlyIf false m = 0
+abbrev pub numberWidthOf : ℕ → ℕ
+numberWidthOf x = x / 65536
 
--- the sum of the magnitudes
-abbrev pub magnitudes : List ℤ → ℕ
-magnitudes [] = 0
-magnitudes (v ∷ vs) = natAbs v + magnitudes vs
+-- the bits of some words
+unfoldable pub numberBits : List ℕ → List Bool
+numberBits [] = []
+numberBits (x ∷ xs) = bitsOf (numberWidthOf x) (numberOf x) ++ numberBits xs
 
--- a survey by its three parts
-abbrev pub surveyOf : ℕ → ℕ → ℕ → Survey
-surveyOf n m k = record { count = n; sum = m; largest = k }
+-- a list of words, and how many of its elements count
+pub record Words : Type 0 where
+  pub list : List ℕ
+  pub count : ℕ
 
--- the values of some places are counted, with their magnitudes and the largest of them
-pub record Counts (l : Lists) (x y : Survey) : Type 0 where
-  pub count : y .count ≡ x .count + length (l .values)
-  pub sum : y .sum ≡ x .sum + magnitudes (l .values)
-  pub most : y .largest ≡ max (x .largest) (largest (l .values))
+-- by its two parts
+abbrev pub wordsOf : List ℕ → ℕ → Words
+wordsOf l n = record { list = l; count = n }
 
--- those of a band that is not skipped, from none on: there are no more than its places, and each has sixteen bits
-pub record CountsBand (rule : Rule) (t : Step) (cs ps ss : List ℤ) (r : Survey) : Type 0 where
-  pub counts : Counts (bandLists rule t (length cs) cs ps ss) (surveyOf 0 0 0) r
-  pub few : r .count ≤ length cs
-  pub small : r .sum ≤ 32768 * length cs
+-- those that count
+abbrev pub held : Words → List ℕ
+held x = take (x .count) (x .list)
 
--- the same, with the raw bits and whether a value is too large
-pub record Surveys (l : Lists) (x y : Total) : Type 0 where
-  pub count : y .count ≡ x .count + length (l .values)
-  pub sum : y .sum ≡ x .sum + magnitudes (l .values)
-  pub bits : (ns ms : List ℕ) → x .«raw_bits» + length (bitsOfAll (l .numberWidths ++ ns) (l .numbers ++ ms)) ≡ y .«raw_bits» + length (bitsOfAll ns ms)
-  pub bad : (ws : List ℕ) (us : List ℤ) → (x .bad || anyTooLarge (l .widths ++ ws) (l .values ++ us)) ≡ (y .bad || anyTooLarge ws us)
+-- the bits of the raw stream, from here on
+abbrev pub rawThen : Words → List ℕ → List ℕ → List Bool
+rawThen x ns ms = numberBits (held x) ++ bitsOfAll ns ms
+
+-- the numbers of some places are listed
+pub record ListsNumbers (l : Lists) (x y : Words) : Type 0 where
+  pub bits : (ns ms : List ℕ) → rawThen x (l .numberWidths ++ ns) (l .numbers ++ ms) ≡ rawThen y ns ms
+
+-- n places have at most n words
+pub record FewWords (x : Words) (n : ℕ) : Type 0 where
+  pub few : x .count ≤ n
+
+-- ════ the values for the SRL stream that are not 0: events ════
+
+-- a word is a magnitude, whether it is negative, its width, and how many zeros come before it
+abbrev pub eventMagnitude : ℕ → ℕ
+eventMagnitude x = x % 65536
+
+abbrev pub eventNegative : ℕ → Bool
+eventNegative x = eqb (x / 65536 % 2) 1
+
+abbrev pub eventWidth : ℕ → ℕ
+eventWidth x = x / 131072 % 16
+
+abbrev pub eventZeros : ℕ → ℕ
+eventZeros x = x / 2097152
+
+-- a word that stands for a value of a width from 1 to 15
+pub record Event (x : ℕ) : Type 0 where
+  pub some : 1 ≤ eventMagnitude x
+  pub wide : 1 ≤ eventWidth x
+  pub few : eventZeros x ≤ 4096
+
+-- its bits: the run of zeros, and then the value
+abbrev pub eventBits : ℕ → ℕ → List Bool
+eventBits kp x =
+    runBits (suc (eventZeros x)) kp (eventZeros x) ++ nonzeroBits (eventWidth x) (eventNegative x) (eventMagnitude x - 1)
+
+-- kp then
+abbrev pub eventKp : ℕ → ℕ → ℕ
+eventKp kp x = runKp (suc (eventZeros x)) kp (eventZeros x)
+
+-- the bits of some events, and what follows at the kp that they leave
+unfoldable pub eventsThen : ℕ → List ℕ → (ℕ → List Bool) → List Bool
+eventsThen kp [] f = f kp
+eventsThen kp (x ∷ xs) f = eventBits kp x ++ eventsThen (eventKp kp x) xs f
+
+-- whether one has "a magnitude above the maximum of its width"
+unfoldable pub anyEventTooLarge : List ℕ → Bool
+anyEventTooLarge [] = false
+anyEventTooLarge (x ∷ xs) = ltb (2 ^ eventWidth x - 1) (eventMagnitude x) || anyEventTooLarge xs
+
+-- how many values they are, with the zeros before them
+unfoldable pub eventValues : List ℕ → ℕ
+eventValues [] = 0
+eventValues (x ∷ xs) = eventZeros x + 1 + eventValues xs
+
+-- each of them is one
+pub data AllEvents : List ℕ → Type 0 where
+  none : AllEvents []
+  one : {x : ℕ} {xs : List ℕ} → Event x → AllEvents xs → AllEvents (x ∷ xs)
+
+-- a list of events and the zeros pending behind them
+pub record Listed : Type 0 where
+  pub words : Words
+  pub zeros : ℕ
+
+-- by its parts
+abbrev pub listedOf : List ℕ → ℕ → ℕ → Listed
+listedOf l n z = record { words = wordsOf l n; zeros = z }
+
+-- of what the code has of it
+abbrev pub listedBy : List ℕ → Events → Listed
+listedBy l e = listedOf l (e .count) (e .zeros)
+
+-- the bits of the SRL stream, from here on
+abbrev pub srlThen : Listed → List ℕ → List ℤ → List Bool
+srlThen x ws us = eventsThen 8 (held (x .words)) (λ kp. streamBits kp (x .zeros) ws us)
+
+-- whether a value is too large, from here on
+abbrev pub largeThen : Listed → List ℕ → List ℤ → Bool
+largeThen x ws us = anyEventTooLarge (held (x .words)) || anyTooLarge ws us
+
+-- the values of some places are listed
+pub record ListsEvents (l : Lists) (x y : Listed) : Type 0 where
+  pub bits : (ws : List ℕ) (us : List ℤ) → srlThen x (l .widths ++ ws) (l .values ++ us) ≡ srlThen y ws us
+  pub large : (ws : List ℕ) (us : List ℤ) → largeThen x (l .widths ++ ws) (l .values ++ us) ≡ largeThen y ws us
+  pub count : eventValues (held (x .words)) + x .zeros + length (l .values) ≡ eventValues (held (y .words)) + y .zeros
+
+-- n places have at most n events, each of which is one, and at most n zeros pending
+pub record FewEvents (x : Listed) (n : ℕ) : Type 0 where
+  pub few : x .words .count ≤ n
+  pub zeros : x .zeros ≤ n
+  pub all : AllEvents (held (x .words))
+
+-- ════ both lists ════
+
+pub record Looked : Type 0 where
+  pub numbers : Words
+  pub events : Listed
+
+-- of what the code has of them
+abbrev pub lookedBy : List ℕ → List ℕ → Found → Looked
+lookedBy raws words f = record { numbers = wordsOf raws (f .numbers); events = listedOf words (f .events) (f .zeros) }
 
 -- before the first place
-abbrev pub noTotal : Total
-noTotal = record { count = 0; sum = 0; «raw_bits» = 0; bad = false }
+abbrev pub nothingFound : Found
+nothingFound = record { numbers = 0; events = 0; zeros = 0 }
+
+-- some places are looked at
+pub record Looks (l : Lists) (x y : Looked) : Type 0 where
+  pub numbers : ListsNumbers l (x .numbers) (y .numbers)
+  pub events : ListsEvents l (x .events) (y .events)
 
 -- what n places can amount to
-pub record Few (d : Total) (n : ℕ) : Type 0 where
-  pub count : d .count ≤ n
-  pub sum : d .sum ≤ 32768 * n
-  pub bits : d .«raw_bits» ≤ 15 * n
+pub record FewFound (x : Looked) (n : ℕ) : Type 0 where
+  pub numbers : FewWords (x .numbers) n
+  pub events : FewEvents (x .events) n
+
+-- ════ what the loops of a band leave for each other ════
+
+-- what a place gives: 0, a value 0 for the SRL stream; 1, a number for the raw stream; 2, another value
+abbrev pub classOf : Rule → Step → ℤ → ℤ → ℤ → ℕ
+classOf r t c p s = cond (fromSrl t s) (cond (isZero (r .value (t .position) c p)) 0 2) 1
+
+-- of each place of a band
+abbrev pub Classed : Rule → Step → List ℤ → List ℤ → List ℤ → List ℕ → Type 0
+Classed r t cs ps ss ks =
+    (k : ℕ) → k < length cs → getD ks k 0 ≡ classOf r t (getD cs k (pos 0)) (getD ps k (pos 0)) (getD ss k (pos 0))
+
+-- the low bits of the number that each place would give
+abbrev pub Numbered : Rule → Step → List ℤ → List ℤ → List ℕ → Type 0
+Numbered r t cs ps ns =
+    (k : ℕ) → k < length cs → getD ns k 0 ≡ r .number (t .bottom) (t .position) (getD cs k (pos 0)) (getD ps k (pos 0)) % 2 ^ t .width
+
+-- the places from one to another, behind whatever stands for those before them
+pub record PlacesOver (r : Rule) {X : Type 0} (R : Lists → X → X → Type 0) (B : X → ℕ → Type 0) (t : Step) (cs ps ss : List ℤ) (from to : ℕ) (y z : X) : Type 0 where
+  pub on : (x : X) → GoesOver R B (bandLists r t from cs ps ss) from x y → GoesOver R B (bandLists r t to cs ps ss) to x z
+
+-- the numbers of these places are listed, by the classes and the numbers of a band, whatever the band is
+pub record TakesNumbers (t : Step) (ks ns : List ℕ) (from to : ℕ) (y z : Words) : Type 0 where
+  pub over : (r : Rule) (cs ps ss : List ℤ) → Part cs ps ss → to ≤ length cs → Classed r t cs ps ss ks → Numbered r t cs ps ns
+      → PlacesOver r ListsNumbers FewWords t cs ps ss from to y z
+  pub few : z .count ≤ y .count + (to - from)
+
+-- the same of the values
+pub record TakesEvents (r : Rule) (t : Step) (cs ps : List ℤ) (ks : List ℕ) (from to : ℕ) (y z : Listed) : Type 0 where
+  pub over : (ss : List ℤ) → Part cs ps ss → to ≤ length cs → Classed r t cs ps ss ks → PlacesOver r ListsEvents FewEvents t cs ps ss from to y z
+  pub few : z .words .count ≤ y .words .count + (to - from)
+  pub zeros : z .zeros ≤ y .zeros + (to - from)
+
+-- the sum of k classes from place i on
+unfoldable pub sumFrom : List ℕ → ℕ → ℕ → ℕ
+sumFrom ks i zero = 0
+sumFrom ks i (suc k) = getD ks i 0 + sumFrom ks (suc i) k
 
 -- ════ measuring ════
 
--- the parts of a place that was measured
-abbrev pub measuredOf : ℕ → ℕ → ℕ → ℕ → Measured
-measuredOf at n kp z = record { at = at; «bit_count» = n; kp = kp; zeros = z }
+-- the lengths of both streams, and whether a value is too large
+pub record MeasuresStreams (l : Lists) (r : Lengths) : Type 0 where
+  pub large : r .«too_large» ≡ anyTooLarge (l .widths) (l .values)
+  pub srl : r .srl ≡ length (srlStream (l .widths) (l .values))
+  pub raw : r .raw ≡ length (rawStream (l .numberWidths) (l .numbers))
 
--- the place after the rest of an SRL stream, measured from here
-abbrev pub endCount : Measured → List ℕ → List ℤ → BitCount
-endCount p ws vs = counted (bitCountOf p) (length (streamBits (p .kp) (p .zeros) ws vs))
-
--- the values of some places are measured
-pub record Measures (l : Lists) (p q : Measured) : Type 0 where
-  pub count : (ws : List ℕ) (us : List ℤ) → endCount p (l .widths ++ ws) (l .values ++ us) ≡ endCount q ws us
-
--- what is measured can go on after n places
-pub record Measurable (p : Measured) (n : ℕ) : Type 0 where
-  pub good : GoodMeasure p
-  pub early : p .at + p .zeros ≤ 40000 * n
-  pub few : p .zeros ≤ n
-
--- ════ storing ════
-
--- both writers by their parts
-abbrev pub sinksOf : ℕ → ℕ → ℕ → ℕ → ℕ → ℕ → ℕ → ℕ → Sinks
-sinksOf at current n kp z rawAt rawCurrent rawN =
-    record { srl = record { sink = writer at current n; kp = kp; zeros = z }; raw = writer rawAt rawCurrent rawN }
-
--- at the start of both streams
-abbrev pub freshSinks : Sinks
-freshSinks = sinksOf 0 0 0 8 0 0 0 0
-
--- the writer after the rest of an SRL stream, written from here, and the output
-abbrev pub streamAfter : CallState → List ℕ → List ℤ → BitWriter
-streamAfter c ws vs = after (c .sink) (streamBits (c .kp) (c .zeros) ws vs)
-
--- the output then
-abbrev pub streamWrite : List ℕ → CallState → List ℕ → List ℤ → List ℕ
-streamWrite out c ws vs = write out (c .sink) (streamBits (c .kp) (c .zeros) ws vs)
-
--- both outputs and their writers
-pub record Outputs : Type 0 where
-  pub srlOut : List ℕ
-  pub rawOut : List ℕ
-  pub sinks : Sinks
-
--- by its three parts
-abbrev pub outputs : List ℕ → List ℕ → Sinks → Outputs
-outputs o p k = record { srlOut = o; rawOut = p; sinks = k }
-
--- the values and numbers of some places are stored
-pub record Stores (l : Lists) (x y : Outputs) : Type 0 where
-  pub srl-after : (ws : List ℕ) (us : List ℤ) → streamAfter (x .sinks .srl) (l .widths ++ ws) (l .values ++ us) ≡ streamAfter (y .sinks .srl) ws us
-  pub srl-write : (ws : List ℕ) (us : List ℤ) → streamWrite (x .srlOut) (x .sinks .srl) (l .widths ++ ws) (l .values ++ us) ≡ streamWrite (y .srlOut) (y .sinks .srl) ws us
-  pub raw-after : (ns ms : List ℕ) → after (x .sinks .raw) (bitsOfAll (l .numberWidths ++ ns) (l .numbers ++ ms)) ≡ after (y .sinks .raw) (bitsOfAll ns ms)
-  pub raw-write : (ns ms : List ℕ) → write (x .rawOut) (x .sinks .raw) (bitsOfAll (l .numberWidths ++ ns) (l .numbers ++ ms)) ≡ write (y .rawOut) (y .sinks .raw) (bitsOfAll ns ms)
-
--- the writers can go on after n places
-pub record Writable (k : Sinks) (n : ℕ) : Type 0 where
-  pub good : Good (k .srl)
-  pub early : k .srl .sink .at + k .srl .zeros ≤ 40000 * n
-  pub sound : Sound (k .raw)
-  pub raw-early : k .raw .at ≤ 16 * n
-
--- and so can those of two outputs
-abbrev pub Ready : Outputs → ℕ → Type 0
-Ready o n = Writable (o .sinks) n
-
--- the end of an SRL stream that has so many values: how many bytes the stream has, and the output
-abbrev pub endLength : ℕ → CallState → ℕ
-endLength zero c = 0
-endLength (suc n) c = padCount (after (c .sink) (flush (c .kp) (c .zeros))) + 1
-
--- the output then: the pending zeros, the padding and a byte 0, unless there is no value
-abbrev pub endOut : ℕ → List ℕ → CallState → List ℕ
-endOut zero out c = out
-endOut (suc n) out c =
-    set
-    (padOut (write out (c .sink) (flush (c .kp) (c .zeros))) (after (c .sink) (flush (c .kp) (c .zeros))))
-    (padCount (after (c .sink) (flush (c .kp) (c .zeros))))
-    0
+-- what was found of places, all of them
+pub record FoundAll (l : Lists) (x : Looked) : Type 0 where
+  pub srl-bits : streamBits 8 0 (l .widths) (l .values) ≡ eventsThen 8 (held (x .events .words)) (λ kp. flush kp (x .events .zeros))
+  pub large : anyTooLarge (l .widths) (l .values) ≡ anyEventTooLarge (held (x .events .words))
+  pub count : length (l .values) ≡ eventValues (held (x .events .words)) + x .events .zeros
+  pub raw-bits : bitsOfAll (l .numberWidths) (l .numbers) ≡ numberBits (held (x .numbers))
+  pub few : FewFound x 4096
 
 -- ════ both streams: the answer, and what the two outputs hold then ════
 
