@@ -1,4 +1,7 @@
 -- Laws of a pass, written, for the proofs here and in the crates above.
 pub mod BothStreams
 pub mod Placewise
+mod Rules
+mod ListedNumbers
+mod Classed
 mod Pending

@@ -40,7 +40,8 @@ fn list_place(
     requires { ⌜ (1 ≤ t .width)
         × (t .width ≤ 15)
         × (t .position ≤ 15)
-        × (count < length (now words))
+        × (4096 ≤ length (now words))
+        × (count < 4096)
         × (zeros < 4096) ⌝ }
     ensures { λ r. ⌜ ((s : ℤ) → class ≡ classOf (ruleOf symmetric) (bandStep t) c p s
         → GoesOver ListsEvents FewEvents (placeLists (ruleOf symmetric) (bandStep t) c p s) 1
@@ -82,7 +83,8 @@ fn list_places(
         × (1 ≤ t .width)
         × (t .width ≤ 15)
         × (t .position ≤ 15)
-        × (start .count + (to - from) ≤ length (now words))
+        × (4096 ≤ length (now words))
+        × (start .count + (to - from) ≤ 4096)
         × (start .zeros + (to - from) ≤ 4096) ⌝ }
     ensures { λ r. ⌜ TakesEvents (ruleOf symmetric) (bandStep t)
         (now (coefficients .entry)) (now («prev_coefficients» .entry)) (now (classes .entry)) from to
@@ -119,7 +121,8 @@ fn list_eight(
         × (1 ≤ t .width)
         × (t .width ≤ 15)
         × (t .position ≤ 15)
-        × (start .count + 8 ≤ length (now words))
+        × (4096 ≤ length (now words))
+        × (start .count + 8 ≤ 4096)
         × (start .zeros + 8 ≤ 4096) ⌝ }
     ensures { λ r. ⌜ TakesEvents (ruleOf symmetric) (bandStep t)
         (now (coefficients .entry)) (now («prev_coefficients» .entry)) (now (classes .entry)) i (i + 8)
@@ -159,7 +162,8 @@ pub fn list_events(
         × (1 ≤ t .width)
         × (t .width ≤ 15)
         × (t .position ≤ 15)
-        × (start .count + length (now coefficients) ≤ length (now words))
+        × (4096 ≤ length (now words))
+        × (start .count + length (now coefficients) ≤ 4096)
         × (start .zeros + length (now coefficients) ≤ 4096) ⌝ }
     ensures { λ r. ⌜ TakesEvents (ruleOf symmetric) (bandStep t)
         (now (coefficients .entry)) (now («prev_coefficients» .entry)) (now (classes .entry)) 0 (length (now (coefficients .entry)))

@@ -1,7 +1,7 @@
 // The numbers of a band for the raw stream: first the number that each place would give, several places at a time, and then those of the places that
 // give one go into the list.
 ghost use mathlib.Core.Path.{_≡_};
-ghost use Prim.Native.Nat.{_+_, _-_, _*_, _%_, _<_, _≤_};
+ghost use Prim.Native.Nat.{_+_, _-_, _*_, _%_, _^_, _≤_};
 ghost use mathlib.Core.List.{List};
 ghost use lib.IntN.{ℤ};
 ghost use lib.ListN.{length};
@@ -9,6 +9,14 @@ ghost use Rattle.upgrade_steps.specs.Inner.{bandStep};
 ghost use Rattle.progressive_encoder.specs.Inner.{ruleOf, Part, GoesOverBand, wordsOf, ListsNumbers, FewWords, Classed, Numbered, TakesNumbers};
 use crate::classes;
 use crate::rule;
+
+// The low bits of a number.
+fn low_bits(m: u16, width: u8) -> u16
+    requires { ⌜ width ≤ 15 ⌝ }
+    ensures { λ r. ⌜ r ≡ m % 2 ^ width ⌝ }
+{
+    m % (1u16 << width)
+}
 
 // The low bits of what each place would give. There is no branch, so the compiler does several places at a time.
 fn number_places(
@@ -33,7 +41,7 @@ fn number_places(
             prev_coefficients[i],
             t.position,
         );
-        numbers[i] = m % (1u16 << t.width);
+        numbers[i] = low_bits(m, t.width);
         i += 1;
     }
 }
@@ -61,7 +69,8 @@ fn take_places(
         × (to ≤ length (now numbers))
         × (1 ≤ t .width)
         × (t .width ≤ 15)
-        × (start + (to - from) ≤ length (now raws)) ⌝ }
+        × (4096 ≤ length (now raws))
+        × (start + (to - from) ≤ 4096) ⌝ }
     ensures { λ r. ⌜ TakesNumbers (bandStep t) (now (classes .entry)) (now (numbers .entry)) from to
         (wordsOf (now (raws .entry)) start) (wordsOf (now (raws .exit)) r) ⌝ }
 {
@@ -88,7 +97,8 @@ fn take_eight(
         × (i + 8 ≤ length (now numbers))
         × (1 ≤ t .width)
         × (t .width ≤ 15)
-        × (start + 8 ≤ length (now raws)) ⌝ }
+        × (4096 ≤ length (now raws))
+        × (start + 8 ≤ 4096) ⌝ }
     ensures { λ r. ⌜ TakesNumbers (bandStep t) (now (classes .entry)) (now (numbers .entry)) i (i + 8)
         (wordsOf (now (raws .entry)) start) (wordsOf (now (raws .exit)) r) ⌝ }
 {
@@ -111,7 +121,8 @@ fn take_all(
         × (len ≤ length (now numbers))
         × (1 ≤ t .width)
         × (t .width ≤ 15)
-        × (start + len ≤ length (now raws)) ⌝ }
+        × (4096 ≤ length (now raws))
+        × (start + len ≤ 4096) ⌝ }
     ensures { λ r. ⌜ TakesNumbers (bandStep t) (now (classes .entry)) (now (numbers .entry)) 0 len
         (wordsOf (now (raws .entry)) start) (wordsOf (now (raws .exit)) r) ⌝ }
 {
@@ -140,7 +151,8 @@ pub fn list_numbers(
         × (1 ≤ t .width)
         × (t .width ≤ 15)
         × (t .position ≤ 15)
-        × (start + length (now coefficients) ≤ length (now raws)) ⌝ }
+        × (4096 ≤ length (now raws))
+        × (start + length (now coefficients) ≤ 4096) ⌝ }
     ensures { λ r. ⌜ ((ss : List ℤ) → Part (now (coefficients .entry)) (now («prev_coefficients» .entry)) ss
         → Classed (ruleOf symmetric) (bandStep t) (now (coefficients .entry)) (now («prev_coefficients» .entry)) ss (now (classes .entry))
         → GoesOverBand (ruleOf symmetric) ListsNumbers FewWords (bandStep t)
