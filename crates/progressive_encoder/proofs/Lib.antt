@@ -2,6 +2,7 @@
 pub mod BothStreams
 pub mod Placewise
 mod Rules
+mod ListedEvents
 mod ListedNumbers
 mod Classed
 mod Pending
