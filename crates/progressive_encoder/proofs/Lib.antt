@@ -2,6 +2,7 @@
 pub mod BothStreams
 pub mod Placewise
 mod Rules
+mod BothLists
 mod ListedEvents
 mod ListedNumbers
 mod Classed
