@@ -6,13 +6,20 @@ ghost use Prim.Native.Nat.{_+_, _*_, _%_, _^_, _≤_, _<_};
 ghost use lib.ListN.{set, replicate};
 ghost use Rattle.bits.specs.Bits.{bitOf};
 ghost use Rattle.bits.specs.Written.{bitsOf, writer};
-ghost use Rattle.bits.specs.Inner.{Sound, Room, write, Wrote, padCount, padOut, counted};
+ghost use Rattle.bits.specs.Inner.{Sound, Room, write, Wrote, padCount, padOut, counted, settled, settledOut, SoundWord, WroteWords, fourStored, wordStored};
 
 // Where bits go: `at` whole bytes are written, and `bit_count` bits, the number `current`, wait for the next byte.
 pub struct BitWriter {
     pub at: usize,
     pub current: u8,
     pub bit_count: u8,
+}
+
+// A writer that stores four bytes at a time: `at` bytes are stored, and `held` bits, the number `word`, wait: at most 31.
+pub struct WordWriter {
+    pub at: usize,
+    pub word: u64,
+    pub held: u8,
 }
 
 // A writer's place without its bits, for measuring.
@@ -176,4 +183,120 @@ pub fn count_bits(p: BitCount, n: usize) -> BitCount
         at: p.at + total / 8,
         bit_count: (total % 8) as u8,
     }
+}
+
+// ---- bits by the word
+
+// The last n bits of a number.
+fn last_bits(x: u64, n: u8) -> u64
+    requires { ⌜ n < 64 ⌝ }
+    ensures { λ r. ⌜ r ≡ x % 2 ^ n ⌝ }
+{
+    x % (1u64 << n)
+}
+
+// The low byte of a number.
+fn low_byte(x: u64) -> u8
+    ensures { λ r. ⌜ r ≡ x % 256 ⌝ }
+{
+    (x % 256) as u8
+}
+
+// Four bytes in a row. Inside the slice the compiler makes one store of them.
+fn store_four(out: &mut [u8], at: usize, a: u8, b: u8, c: u8, d: u8)
+    requires { ⌜ at + 8 < 2 ^ 64 ⌝ }
+    ensures { λ _. ⌜ now (out .exit) ≡ fourStored (now (out .entry)) at a b c d ⌝ }
+{
+    if at + 4 <= out.len() {
+        out[at] = a;
+        out[at + 1] = b;
+        out[at + 2] = c;
+        out[at + 3] = d;
+        return;
+    }
+    store(out, at, a);
+    store(out, at + 1, b);
+    store(out, at + 2, c);
+    store(out, at + 3, d);
+}
+
+// The low 32 bits of a number, highest byte first.
+fn store_word(out: &mut [u8], at: usize, x: u64)
+    requires { ⌜ at + 8 < 2 ^ 64 ⌝ }
+    ensures { λ _. ⌜ now (out .exit) ≡ wordStored (now (out .entry)) at x ⌝ }
+{
+    let a = low_byte(x >> 24);
+    let b = low_byte(x >> 16);
+    let c = low_byte(x >> 8);
+    store_four(out, at, a, b, c, low_byte(x));
+}
+
+// n bits, the number `value`: they wait with the others, or the first 32 bits are stored.
+pub fn put_word(out: &mut [u8], k: WordWriter, value: u64, n: u8) -> WordWriter
+    requires { ⌜ SoundWord k × (k .at + 8 < 2 ^ 64) × (n ≤ 32) × (value < 2 ^ n) ⌝ }
+    ensures { λ r. ⌜ WroteWords (now (out .entry)) k (bitsOf n value) r (now (out .exit)) ⌝ }
+{
+    let word = (k.word << n) + value;
+    let held = k.held + n;
+    let at = k.at;
+    if held < 32 {
+        return WordWriter { at, word, held };
+    }
+    let left = held - 32;
+    store_word(out, at, word >> left);
+    WordWriter {
+        at: at + 4,
+        word: last_bits(word, left),
+        held: left,
+    }
+}
+
+// n zeros.
+pub fn put_zero_words(out: &mut [u8], k: WordWriter, n: usize) -> WordWriter
+    requires { ⌜ SoundWord k × (k .at + n + 16 < 2 ^ 64) ⌝ }
+    ensures { λ r. ⌜ WroteWords (now (out .entry)) k (replicate n false) r (now (out .exit)) ⌝ }
+{
+    let mut at = k.at;
+    let mut word = k.word;
+    let mut held = k.held;
+    let mut left = n;
+    while 32 < left {
+        let next = put_word(out, WordWriter { at, word, held }, 0, 32);
+        at = next.at;
+        word = next.word;
+        held = next.held;
+        left -= 32;
+    }
+    put_word(out, WordWriter { at, word, held }, 0, left as u8)
+}
+
+// The whole bytes that wait are stored: fewer than 8 bits wait then.
+pub fn settle(out: &mut [u8], k: WordWriter) -> BitWriter
+    requires { ⌜ SoundWord k × (k .at + 8 < 2 ^ 64) ⌝ }
+    ensures { λ r. ⌜ (r ≡ settled k) × (now (out .exit) ≡ settledOut (now (out .entry)) k) ⌝ }
+{
+    let word = k.word;
+    let mut at = k.at;
+    let mut held = k.held;
+    while 8 <= held {
+        held -= 8;
+        store(out, at, low_byte(word >> held));
+        at += 1;
+    }
+    BitWriter {
+        at,
+        current: last_bits(word, held) as u8,
+        bit_count: held,
+    }
+}
+
+// The last bits, padded with zeros: how many bytes there are then.
+pub fn end_words(out: &mut [u8], k: WordWriter) -> usize
+    requires { ⌜ SoundWord k × (k .at + 8 < 2 ^ 64) ⌝ }
+    ensures { λ r. ⌜
+        (r ≡ padCount (settled k))
+        × (now (out .exit) ≡ padOut (settledOut (now (out .entry)) k) (settled k)) ⌝ }
+{
+    let last = settle(out, k);
+    put_pad(out, last)
 }
