@@ -1,17 +1,15 @@
 -- Laws of a writer by words: bits behind those that wait, four bytes at once, bits in a row. Assumes nothing.
 use mathlib.Core.Path.{_≡_, refl, ap, sym, _∙_, subst}
-use mathlib.Core.Bool.{Bool, false}
+use mathlib.Core.Bool.{Bool}
 use mathlib.Core.List.{List, [], _++_}
-use Prim.Native.Nat.{ℕ, _+_, _*_, _/_, _%_, _^_, _≤_, _<_}
-use native.Mathlib.Nat.{mod-lt, mod-eq-of-lt}
+use Prim.Native.Nat.{ℕ, _+_, _*_, _/_, _%_, _^_}
 use native.Mathlib.Omega.{arith}
 use lib.ListN.{length, set, length-append}
-use lib.Pow.{pow-pos, shl-lt, pow-add}
 use Rattle.bits.specs.Written.{bitsOf, writer, after}
 use Rattle.bits.specs.Inner.{Sound, write, Wrote, byteStart, waiting, settled, settledOut, SoundWord, WroteWords, wordStored, wordOf}
 use Rattle.bits.specs.declared.writer.BitWriter.{BitWriter}
 use Rattle.bits.specs.declared.writer.WordWriter.{WordWriter}
-use Rattle.bits.proofs.Puts.{after-sound, after-append, write-append, then, renamed, length-bitsOf, bits-append, bits-join, bits-mod, byte, byte-then, fresh}
+use Rattle.bits.proofs.Puts.{after-sound, after-append, write-append, then, renamed, length-bitsOf, bits-append, bits-mod, byte, byte-then, fresh}
 use Rattle.bits.proofs.Packed.{count-after}
 
 -- ════ four bytes ════

@@ -1,12 +1,11 @@
 // The writer: bits go into a slice that the caller lends. A byte past the slice's end is counted and not stored.
 ghost use mathlib.Core.Path.{_≡_};
 ghost use mathlib.Core.Bool.{false};
-ghost use mathlib.Core.List.{[], _∷_};
-ghost use Prim.Native.Nat.{_+_, _*_, _%_, _^_, _≤_, _<_};
+ghost use Prim.Native.Nat.{_+_, _%_, _^_, _≤_, _<_};
 ghost use lib.ListN.{set, replicate};
 ghost use Rattle.bits.specs.Bits.{bitOf};
-ghost use Rattle.bits.specs.Written.{bitsOf, writer};
-ghost use Rattle.bits.specs.Inner.{Sound, Room, write, Wrote, padCount, padOut, counted, settled, settledOut, SoundWord, WroteWords, fourStored, wordStored};
+ghost use Rattle.bits.specs.Written.{bitsOf};
+ghost use Rattle.bits.specs.Inner.{Sound, Room, padCount, padOut, counted, settled, settledOut, SoundWord, WroteWords, fourStored, wordStored};
 
 // Where bits go: `at` whole bytes are written, and `bit_count` bits, the number `current`, wait for the next byte.
 pub struct BitWriter {
@@ -44,151 +43,10 @@ pub fn bit_of(b: bool) -> u8
     if b { 1 } else { 0 }
 }
 
-// One bit.
-pub fn put_bit(out: &mut [u8], k: BitWriter, b: bool) -> BitWriter
-    requires { ⌜ Sound k × Room k 1 ⌝ }
-    ensures { λ r. ⌜ Wrote (now (out .entry)) k (b ∷ []) r (now (out .exit)) ⌝ }
-{
-    let byte = k.current * 2 + bit_of(b);
-    let at = k.at;
-    if k.bit_count == 7 {
-        store(out, at, byte);
-        return BitWriter {
-            at: at + 1,
-            current: 0,
-            bit_count: 0,
-        };
-    }
-    BitWriter {
-        at,
-        current: byte,
-        bit_count: k.bit_count + 1,
-    }
-}
-
-// ---- the bits of a number, a byte at a time
-
-// The low n bits of a number.
-fn low_bits(value: usize, n: u8) -> usize
-    requires { ⌜ n ≤ 16 ⌝ }
-    ensures { λ r. ⌜ r ≡ value % 2 ^ n ⌝ }
-{
-    value % (1usize << n)
-}
-
-// The bits that wait, and the low n bits of a number behind them, as one number.
-fn joined(k: BitWriter, value: usize, n: u8) -> usize
-    requires { ⌜ Sound k × (n ≤ 16) ⌝ }
-    ensures { λ r. ⌜ r ≡ k .current * 2 ^ n + value % 2 ^ n ⌝ }
-{
-    ((k.current as usize) << n) + low_bits(value, n)
-}
-
-// The low n bits of a number, at the start of a byte: a byte of them where there are 8, and the rest waits.
-fn put_start(out: &mut [u8], at: usize, value: usize, n: u8) -> BitWriter
-    requires { ⌜ (n ≤ 15) × (at + 1 < 2 ^ 64) ⌝ }
-    ensures { λ r. ⌜ Wrote (now (out .entry)) (writer at 0 0) (bitsOf n value) r (now (out .exit)) ⌝ }
-{
-    if n < 8 {
-        return BitWriter {
-            at,
-            current: low_bits(value, n) as u8,
-            bit_count: n,
-        };
-    }
-    let left = n - 8;
-    store(out, at, ((value >> left) % 256) as u8);
-    BitWriter {
-        at: at + 1,
-        current: low_bits(value, left) as u8,
-        bit_count: left,
-    }
-}
-
-// The low n bits of a number, highest first.
-pub fn put_bits(out: &mut [u8], k: BitWriter, value: usize, n: u8) -> BitWriter
-    requires { ⌜ Sound k × Room k 2 × (n ≤ 16) ⌝ }
-    ensures { λ r. ⌜ Wrote (now (out .entry)) k (bitsOf n value) r (now (out .exit)) ⌝ }
-{
-    let word = joined(k, value, n);
-    let at = k.at;
-    let len = k.bit_count + n;
-    if len < 16 {
-        return put_start(out, at, word, len);
-    }
-    let left = len - 8;
-    store(out, at, ((word >> left) % 256) as u8);
-    put_start(out, at + 1, word, left)
-}
-
-// ---- zeros
-
-// Bytes 0.
-fn put_zero_bytes(out: &mut [u8], at: usize, count: usize)
-    requires { ⌜ at + count < 2 ^ 64 ⌝ }
-    ensures { λ _. ⌜ now (out .exit) ≡ write (now (out .entry)) (writer at 0 0) (replicate (8 * count) false) ⌝ }
-{
-    let mut next = at;
-    let mut left = count;
-    while 0 < left {
-        store(out, next, 0);
-        next += 1;
-        left -= 1;
-    }
-}
-
-// n zeros.
-pub fn put_zeros(out: &mut [u8], k: BitWriter, n: usize) -> BitWriter
-    requires { ⌜ Sound k × Room k (n + 2) ⌝ }
-    ensures { λ r. ⌜ Wrote (now (out .entry)) k (replicate n false) r (now (out .exit)) ⌝ }
-{
-    if n <= 16 {
-        return put_bits(out, k, 0, n as u8);
-    }
-    let first = 8 - k.bit_count;
-    let full = put_bits(out, k, 0, first);
-    let at = full.at;
-    let left = n - (first as usize);
-    put_zero_bytes(out, at, left / 8);
-    BitWriter {
-        at: at + left / 8,
-        current: 0,
-        bit_count: (left % 8) as u8,
-    }
-}
-
-// ---- the end, and measuring
-
-// The last bits, padded with zeros: how many bytes there are then.
-pub fn put_pad(out: &mut [u8], k: BitWriter) -> usize
-    requires { ⌜ Sound k × Room k 1 ⌝ }
-    ensures { λ r. ⌜ (r ≡ padCount k) × (now (out .exit) ≡ padOut (now (out .entry)) k) ⌝ }
-{
-    let at = k.at;
-    if k.bit_count == 0 {
-        return at;
-    }
-    let left = 8 - k.bit_count;
-    store(out, at, k.current << left);
-    at + 1
-}
-
-// The place after n more bits, with nothing written.
-pub fn count_bits(p: BitCount, n: usize) -> BitCount
-    requires { ⌜ (p .«bit_count» ≤ 7) × (p .at + n + 7 < 2 ^ 64) ⌝ }
-    ensures { λ r. ⌜ r ≡ counted p n ⌝ }
-{
-    let total = (p.bit_count as usize) + n;
-    BitCount {
-        at: p.at + total / 8,
-        bit_count: (total % 8) as u8,
-    }
-}
-
 // ---- bits by the word
 
-// The last n bits of a number.
-fn last_bits(x: u64, n: u8) -> u64
+// The low n bits of a number.
+fn low_bits(x: u64, n: u8) -> u64
     requires { ⌜ n < 64 ⌝ }
     ensures { λ r. ⌜ r ≡ x % 2 ^ n ⌝ }
 {
@@ -246,7 +104,7 @@ pub fn put_word(out: &mut [u8], k: WordWriter, value: u64, n: u8) -> WordWriter
     store_word(out, at, word >> left);
     WordWriter {
         at: at + 4,
-        word: last_bits(word, left),
+        word: low_bits(word, left),
         held: left,
     }
 }
@@ -285,9 +143,25 @@ pub fn settle(out: &mut [u8], k: WordWriter) -> BitWriter
     }
     BitWriter {
         at,
-        current: last_bits(word, held) as u8,
+        current: low_bits(word, held) as u8,
         bit_count: held,
     }
+}
+
+// ---- the end, and measuring
+
+// The bits of an unfinished byte, padded with zeros: how many bytes there are then.
+pub fn put_pad(out: &mut [u8], k: BitWriter) -> usize
+    requires { ⌜ Sound k × Room k 1 ⌝ }
+    ensures { λ r. ⌜ (r ≡ padCount k) × (now (out .exit) ≡ padOut (now (out .entry)) k) ⌝ }
+{
+    let at = k.at;
+    if k.bit_count == 0 {
+        return at;
+    }
+    let left = 8 - k.bit_count;
+    store(out, at, k.current << left);
+    at + 1
 }
 
 // The last bits, padded with zeros: how many bytes there are then.
@@ -299,4 +173,16 @@ pub fn end_words(out: &mut [u8], k: WordWriter) -> usize
 {
     let last = settle(out, k);
     put_pad(out, last)
+}
+
+// The place after n more bits, with nothing written.
+pub fn count_bits(p: BitCount, n: usize) -> BitCount
+    requires { ⌜ (p .«bit_count» ≤ 7) × (p .at + n + 7 < 2 ^ 64) ⌝ }
+    ensures { λ r. ⌜ r ≡ counted p n ⌝ }
+{
+    let total = (p.bit_count as usize) + n;
+    BitCount {
+        at: p.at + total / 8,
+        bit_count: (total % 8) as u8,
+    }
 }

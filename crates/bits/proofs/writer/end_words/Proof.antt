@@ -2,7 +2,7 @@
 use mathlib.Core.Path.{ap, _∙_}
 use native.Mathlib.Omega.{arith}
 use borrow.Author.Needs.{needs}
-use Rattle.bits.specs.Inner.{settled, padCount, padOut}
+use Rattle.bits.specs.Inner.{padCount, padOut}
 use Rattle.bits.proofs.Words.{settled-at, settled-sound}
 use Rattle.bits.proofs.writer.end_words.Statement.{statement}
 use Rattle.bits.proofs.writer.end_words.Tie as tie

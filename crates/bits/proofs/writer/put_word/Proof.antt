@@ -54,8 +54,8 @@ returns-2 c =
     let word = (k .word * 2 ^ a .n) % 2 ^ 64 + a .value in
     let left = k .held + a .n - 32 in
     words-wrote (a .out .now) k (bitsOf (a .n) (a .value)) (bitsOf (k .held + a .n) word) (bits start)
-    (word-then (a .out .now) (k .at) (k .held + a .n) left word _ (omega (arith, test .if1 .left)) refl refl (c .last-bits .ensures) (stored .store-word .ensures))
-    (omega (arith, start .pre .0 .0, start .pre .2), rw (c .last-bits .ensures) (mod-lt word (pow-pos left)))
+    (word-then (a .out .now) (k .at) (k .held + a .n) left word _ (omega (arith, test .if1 .left)) refl refl (c .low-bits .ensures) (stored .store-word .ensures))
+    (omega (arith, start .pre .0 .0, start .pre .2), rw (c .low-bits .ensures) (mod-lt word (pow-pos left)))
     (omega (arith, test .if1 .left, length-bitsOf (a .n) (a .value)))
 
 pub put-word-spec : {M : Type 1} → statement M

@@ -47,14 +47,14 @@ loop-again c =
 cast-t14 : tie.Need-cast-t14 Inv-loop μ-loop
 cast-t14 c =
     let l = c .before .before in
-    rw (c .last-bits .ensures) (record { fits = low-small (l .before .before .args .k .word) (l .loop .held) 8 (omega (arith, c .before .loop-test .left)) })
+    rw (c .low-bits .ensures) (record { fits = low-small (l .before .before .args .k .word) (l .loop .held) 8 (omega (arith, c .before .loop-test .left)) })
 
 returns : tie.Need-returns Inv-loop μ-loop
 returns c =
     let l = c .before .before in
     let a = l .before .before .args in
     let w = waits (l .loop .out) (l .loop .at) (l .loop .held) (a .k .word) (omega (arith, c .before .loop-test .left)) in
-    (ap (λ x. writer (l .loop .at) x (l .loop .held)) (c .last-bits .ensures) ∙ w .0 ∙ sym (l .loop .inv .3), w .1 ∙ sym (l .loop .inv .4))
+    (ap (λ x. writer (l .loop .at) x (l .loop .held)) (c .low-bits .ensures) ∙ w .0 ∙ sym (l .loop .inv .3), w .1 ∙ sym (l .loop .inv .4))
 
 pub settle-spec : {M : Type 1} → statement M
 settle-spec =

@@ -1,8 +1,8 @@
 -- `bits::writer::store_four` meets its contract: past the end each byte is stored by itself. Assumes nothing.
-use mathlib.Core.Path.{_≡_, ap, _∙_}
+use mathlib.Core.Path.{ap, _∙_}
 use Prim.Native.Nat.{_+_}
 use native.Mathlib.Omega.{arith}
-use lib.ListN.{length, set, length-set}
+use lib.ListN.{set, length-set}
 use borrow.Author.Needs.{needs}
 use Rattle.bits.proofs.writer.store_four.Statement.{statement}
 use Rattle.bits.proofs.writer.store_four.Tie as tie

@@ -1,7 +1,5 @@
 -- `bits::writer::store_word` meets its contract. Assumes nothing.
-use mathlib.Core.Path.{ap, _∙_}
 use borrow.Author.Needs.{needs}
-use Rattle.bits.specs.Inner.{fourStored}
 use Rattle.bits.proofs.writer.store_word.Statement.{statement}
 use Rattle.bits.proofs.writer.store_word.Tie as tie
 

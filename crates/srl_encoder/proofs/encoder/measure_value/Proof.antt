@@ -4,13 +4,13 @@ use mathlib.Core.Bool.{true}
 use mathlib.Core.List.{_++_}
 use Prim.Native.Nat.{suc, _+_, _-_, _≤_}
 use native.Mathlib.Omega.{arith}
-use lib.ListN.{length, length-append}
+use lib.ListN.{length}
 use lib.IntN.{pos}
 use borrow.Author.Needs.{needs}
 use Rattle.bits.specs.Inner.{counted}
 use Rattle.bits.proofs.Packed.{counted-none}
 use Rattle.srl_encoder.specs.Encode.{runBits, nonzeroBits, valueBits, valueKp, valueZeros}
-use Rattle.srl_encoder.specs.Inner.{planBits, bitCountOf, valueMeasure}
+use Rattle.srl_encoder.specs.Inner.{bitCountOf, valueMeasure}
 use Rattle.srl_encoder.proofs.EncodedValues.{nonzero-value}
 use Rattle.srl_encoder.proofs.Nonzeros.{sign-length, planned-le}
 use Rattle.srl_encoder.proofs.encoder.measure_value.Statement.{statement}

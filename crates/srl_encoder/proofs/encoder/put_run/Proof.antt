@@ -1,5 +1,5 @@
 -- `srl_encoder::encoder::put_run` meets its contract: zeros, and then one number. Assumes nothing.
-use mathlib.Core.Path.{_≡_, ap, _∙_}
+use mathlib.Core.Path.{ap, _∙_}
 use mathlib.Core.Bool.{true, false}
 use mathlib.Core.List.{_∷_}
 use Prim.Native.Nat.{_+_, _/_, _^_, _≤_}
