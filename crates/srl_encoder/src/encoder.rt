@@ -498,10 +498,10 @@ pub fn flush_length(kp: u8, zeros: usize) -> usize
     requires { ⌜ (kp ≤ 80) × (zeros ≤ 4096) ⌝ }
     ensures { λ r. ⌜ r ≡ length (flush kp zeros) ⌝ }
 {
-    if zeros == 0 {
-        return 0;
+    if zeros != 0 {
+        return run_length(plan_run(kp, zeros));
     }
-    run_length(plan_run(kp, zeros))
+    0
 }
 
 // How many bytes the end of a stream takes.

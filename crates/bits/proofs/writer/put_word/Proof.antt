@@ -42,7 +42,8 @@ returns : tie.Need-returns
 returns c =
     let start = c .before .before .before .before in
     let a = start .args in
-    words-wrote (a .out .now) (a .k) (bitsOf (a .n) (a .value)) _ (bits start) (refl, refl) (omega (arith, c .if1 .taken), rw (exact start) (small start)) (omega (arith, length-bitsOf (a .n) (a .value)))
+    let few : a .k .held + a .n < 32 = c .if1 .taken in
+    words-wrote (a .out .now) (a .k) (bitsOf (a .n) (a .value)) _ (bits start) (refl, refl) (omega (arith, few), rw (exact start) (small start)) (omega (arith, length-bitsOf (a .n) (a .value)))
 
 returns-2 : tie.Need-returns-2
 returns-2 c =

@@ -12,7 +12,7 @@ returns : tie.Need-returns
 returns c =
     let start = c .before .before in
     let a = start .args in
-    let none : a .zeros ≡ 0 = omega (arith, c .if1 .taken) in
+    let none : a .zeros ≡ 0 = c .if1 .taken in
     words-renamed (a .out .now) (a .k) (sym (ap (flush (a .kp)) none)) (words-none (a .out .now) (a .k) (start .pre .0))
 
 put-run-requires : tie.Need-put-run-requires
