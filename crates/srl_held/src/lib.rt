@@ -121,7 +121,8 @@ fn stream_exceeds(values: &[i16], num_bits: u8, room: usize) -> bool
     let mut scratch = [0u8; 1];
     let done = srl_encoder::encoder::put_call(values, fresh, &mut scratch, num_bits);
     let last = done.state;
-    room - done.count < srl_encoder::encoder::end_length(last)
+    let need = srl_encoder::encoder::end_length(last);
+    room - done.count < need
 }
 
 // The stream of the values, from the start of `out`: how many bytes it is. The caller has measured it.

@@ -40,23 +40,23 @@ wrote c =
     let e = c .before .before .before .before .new .ensures in
     (c .put-call .ensures .count ∙ ap (λ st. length (callBytes (a .num-bits) st (a .values .now))) e, c .put-call .ensures .state ∙ ap (λ st. callAfter (a .num-bits) st (a .values .now)) e)
 
-sub-result : tie.Need-sub-result
-sub-result c = let put = c .before .before .before in omega (arith, wrote put .0, fits (put .before .before))
-
 end-length-requires : tie.Need-end-length-requires
 end-length-requires c κs =
-    let put = c .before .before .before in
+    let put = c .before .before in
     let start = put .before .before .before .before .before in
     rw (wrote put .1) (last-good (start .args .num-bits) (start .args .values .now) (start .pre .1))
+
+sub-result : tie.Need-sub-result
+sub-result c = let put = c .before .before .before .before in omega (arith, wrote put .0, fits (put .before .before))
 
 returns-2 : tie.Need-returns-2
 returns-2 c =
     let put = c .before .before .before .before in
     let a = put .before .before .before .before .before .args in
     end-exceeds (a .num-bits) (a .values .now) (a .room) (omega (arith, wrote put .0, fits (put .before .before))) (wrote put .0)
-    (c .end-length .ensures ∙ ap (λ st. length (finishBytes st)) (wrote put .1))
+    (c .before .end-length .ensures ∙ ap (λ st. length (finishBytes st)) (wrote put .1))
 
 pub stream-exceeds-spec : {M : Type 1} → statement M
 stream-exceeds-spec =
     tie.close
-    (tie.spec (λ c κs. search needs) exceeds-requires returns (λ c. search needs) put-call-requires sub-result end-length-requires returns-2)
+    (tie.spec (λ c κs. search needs) exceeds-requires returns (λ c. search needs) put-call-requires end-length-requires sub-result returns-2)

@@ -1,5 +1,5 @@
 -- `bits::writer::store_four` meets its contract: past the end each byte is stored by itself. Assumes nothing.
-use mathlib.Core.Path.{ap, _∙_}
+use mathlib.Core.Path.{refl, ap, _∙_}
 use Prim.Native.Nat.{_+_}
 use native.Mathlib.Omega.{arith}
 use lib.ListN.{set, length-set}
@@ -47,7 +47,7 @@ store-four-spec =
     (λ c. search needs)
     slice-write-out-4
     (λ c. search needs)
-    (λ c. search needs)
+    (λ c. refl)
     (λ c κs. search needs)
     (λ c. search needs)
     (λ c κs. search needs)
