@@ -9,5 +9,6 @@ pub mod Turns
 pub mod Powers
 pub mod Puts
 pub mod Packed
+pub mod Words
 pub mod Holds
 pub mod Longer

@@ -1,14 +1,14 @@
 -- Laws of writing bits: bits in a row, the bits of a number, zeros. Assumes nothing.
-use mathlib.Core.Path.{_≡_, refl, ap, sym, _∙_, subst}
+use mathlib.Core.Path.{_≡_, refl, ap, sym, _∙_}
 use mathlib.Core.Bool.{Bool, true, false, cond}
 use mathlib.Core.List.{List, [], _∷_, _++_, append-assoc, append-nil}
 use Prim.Native.Nat.{ℕ, zero, suc, _+_, _*_, _/_, _%_, _^_, _≤_, _<_}
-use native.Mathlib.Nat.{pow-suc, add-suc, add-zero, mul-assoc, mod-eq-of-lt, mod-lt, zero-mod}
+use native.Mathlib.Nat.{pow-suc, add-suc, add-zero, mul-assoc, mod-eq-of-lt}
 use native.Mathlib.Numerals.{add-one}
 use native.Mathlib.Omega.{arith}
 use lib.Dec.{eqb}
 use lib.ListN.{length, set, replicate, length-append, replicate-append-replicate}
-use lib.Pow.{pow-pos, shr-shr, mod-pow-add, high, split}
+use lib.Pow.{shr-shr, mod-pow-add, high, split}
 use borrow.Author.Tests.{eqb-false, ne-eqb}
 use Rattle.bits.specs.Bits.{isOdd, bitOf}
 use Rattle.bits.specs.Written.{bitsOf, writer, afterBit, after}
@@ -73,14 +73,6 @@ then out k a b {x = x} {o = o} d e = (
 -- the same bits by another name
 pub renamed : (out : List ℕ) (k : BitWriter) {a b : List Bool} {x : BitWriter} {o : List ℕ} → a ≡ b → Wrote out k a x o → Wrote out k b x o
 renamed out k q d = (d .0 ∙ ap (after k) q, d .1 ∙ ap (write out k) q)
-
--- a writer that wrote some bits keeps fewer than 8, as a number
-pub wrote-sound : (k : BitWriter) (bs : List Bool) {x : BitWriter} → x ≡ after k bs → Sound k → Sound x
-wrote-sound k bs e h = subst Sound (sym e) (after-sound k bs h)
-
--- a writer that wrote some bits has at most as many bytes more
-pub wrote-at : (k : BitWriter) (bs : List Bool) {x : BitWriter} → x ≡ after k bs → x .at ≤ k .at + length bs
-wrote-at k bs e = subst (λ x. x .at ≤ k .at + length bs) (sym e) (after-at k bs .1)
 
 -- ════ the bits of a number ════
 
@@ -162,19 +154,6 @@ fresh out k h =
     let w = waits out (k .at) (k .«bit_count») (k .current) (h .0) in
     (ap (λ c. writer (k .at) c (k .«bit_count»)) (sym (mod-eq-of-lt (h .1))) ∙ w .0, w .1)
 
--- so bits behind them are written as both together from the start of the byte
-pub behind : (out : List ℕ) (k : BitWriter) (n x : ℕ) {r : BitWriter} {o : List ℕ} → Sound k
-    → Wrote out (writer (k .at) 0 0) (bitsOf (k .«bit_count» + n) (k .current * 2 ^ n + x % 2 ^ n)) r o → Wrote out k (bitsOf n x) r o
-behind out k n x h d =
-    let o = writer (k .at) 0 0 in
-    let c = bitsOf (k .«bit_count») (k .current) in
-    let bits : bitsOf (k .«bit_count» + n) (k .current * 2 ^ n + x % 2 ^ n) ≡ c ++ bitsOf n x =
-    bits-join (k .«bit_count») n (k .current) (x % 2 ^ n) (mod-lt x (pow-pos n)) ∙ ap (λ l. c ++ l) (bits-mod n x) in
-    let f = fresh out k h in (
-      d .0 ∙ ap (after o) bits ∙ after-append o c (bitsOf n x) ∙ ap (λ z. after z (bitsOf n x)) (sym (f .0)),
-      d .1 ∙ ap (write out o) bits ∙ write-append out o c (bitsOf n x) ∙ ap (λ z. write z (after o c) (bitsOf n x)) (sym (f .1)) ∙ ap (λ z. write out z (bitsOf n x)) (sym (f .0)),
-    )
-
 -- 8 and some more
 pub byte-then : (out : List ℕ) (at n left x : ℕ) {r : BitWriter} {o : List ℕ} → n ≡ 8 + left
     → Wrote (set out at (x / 2 ^ left % 256)) (writer (at + 1) 0 0) (bitsOf left x) r o → Wrote out (writer at 0 0) (bitsOf n x) r o
@@ -182,48 +161,8 @@ byte-then out at n left x e d =
     renamed out (writer at 0 0) (sym (ap (λ j. bitsOf j x) e ∙ bits-append 8 left x))
     (then out (writer at 0 0) (bitsOf 8 (x / 2 ^ left)) (bitsOf left x) (byte out at (x / 2 ^ left)) d)
 
--- as many as the byte wants
-pub fills : (k : BitWriter) (n x : ℕ) → Sound k → k .«bit_count» + n ≡ 8 → after k (bitsOf n x) ≡ writer (k .at + 1) 0 0
-fills k n x h e =
-    let word = k .current * 2 ^ n + x % 2 ^ n in
-    sym (behind [] k n x h (renamed [] (writer (k .at) 0 0) (ap (λ j. bitsOf j word) (sym e)) (byte [] (k .at) word)) .0)
-
--- ════ zeros, a byte at a time ════
+-- ════ zeros ════
 
 -- zeros are those of two parts in a row
 pub zeros-two : (n i j : ℕ) → n ≡ i + j → replicate n false ≡ replicate i false ++ replicate j false
 zeros-two n i j e = ap (λ m. replicate m false) e ∙ sym (replicate-append-replicate i j false)
-
--- a byte of them
-pub zero-byte : (out : List ℕ) (at n left : ℕ) {r : BitWriter} {o : List ℕ} → n ≡ 8 + left
-    → Wrote (set out at 0) (writer (at + 1) 0 0) (replicate left false) r o → Wrote out (writer at 0 0) (replicate n false) r o
-zero-byte out at n left e d =
-    renamed out (writer at 0 0) (sym (zeros-two n 8 left e))
-    (then out (writer at 0 0) (replicate 8 false) (replicate left false) (refl, refl) d)
-
--- some bytes of them
-pub after-zeros : (at n : ℕ) → after (writer at 0 0) (replicate (8 * n) false) ≡ writer (at + n) 0 0
-after-zeros at zero =
-    let z : 8 * 0 ≡ 0 = omega arith in
-    ap (λ j. after (writer at 0 0) (replicate j false)) z ∙ ap (λ j. writer j 0 0) (sym (add-zero at))
-after-zeros at (suc n) =
-    let e : at + 1 + n ≡ at + suc n = omega arith in
-    let z = zero-byte [] at (8 * suc n) (8 * n) (omega arith) (refl, refl) in
-    sym (z .0) ∙ after-zeros (at + 1) n ∙ ap (λ j. writer j 0 0) e
-
--- zeros that fill a byte, whole bytes of them, and fewer than 8
-pub zeros-three : (out : List ℕ) (k : BitWriter) (n i q j : ℕ) {x : BitWriter} {o p : List ℕ} → Sound k → k .«bit_count» + i ≡ 8 → n ≡ i + (8 * q + j) → j ≤ 7
-    → Wrote out k (bitsOf i 0) x o → p ≡ write o (writer (x .at) 0 0) (replicate (8 * q) false)
-    → Wrote out k (replicate n false) (writer (x .at + q) 0 j) p
-zeros-three out k n i q j {x = x} {o = o} {p = p} s t e h d w =
-    let full : x ≡ writer (k .at + 1) 0 0 = d .0 ∙ fills k i 0 s t in
-    let start : writer (x .at) 0 0 ≡ x = ap (λ y. writer (y .at) 0 0) full ∙ sym full in
-    let b = waits p (x .at + q) j 0 h in
-    let last : Wrote p (writer (x .at + q) 0 0) (replicate j false) (writer (x .at + q) 0 j) p =
-    renamed p (writer (x .at + q) 0 0) (bits-zero j) (ap (λ c. writer (x .at + q) c j) (sym (zero-mod (2 ^ j))) ∙ b .0, b .1) in
-    let bytes : Wrote o x (replicate (8 * q) false) (writer (x .at + q) 0 0) p = (
-      sym (after-zeros (x .at) q) ∙ ap (λ y. after y (replicate (8 * q) false)) start,
-      w ∙ ap (λ y. write o y (replicate (8 * q) false)) start,
-    ) in
-    renamed out k (sym (zeros-two n i (8 * q + j) e ∙ ap (λ l. replicate i false ++ l) (zeros-two (8 * q + j) (8 * q) j refl)))
-    (then out k (replicate i false) (replicate (8 * q) false ++ replicate j false) (renamed out k (bits-zero i) d) (then o x (replicate (8 * q) false) (replicate j false) bytes last))

@@ -6,11 +6,12 @@ use Rattle.bits.specs.Bits.{num, bitOf, zeros}
 use Rattle.bits.specs.Turns.{stillHeld, wordTurns}
 use mathlib.Core.Bool.{Bool, cond}
 use lib.Dec.{eqb}
-use lib.ListN.{set}
+use lib.ListN.{set, length}
 use Rattle.bits.specs.declared.reader.ZerosCounted.{ZerosCounted}
 use Rattle.bits.specs.declared.writer.BitWriter.{BitWriter}
 use Rattle.bits.specs.declared.writer.BitCount.{BitCount}
-use Rattle.bits.specs.Written.{afterBit, after}
+use Rattle.bits.specs.declared.writer.WordWriter.{WordWriter}
+use Rattle.bits.specs.Written.{bitsOf, writer, afterBit, after}
 
 -- the top v bits of the word a are the v bits from bit n of the stream on, and its other bits are 0
 pub record Top (v a : ℕ) (s : List ℕ) (n : ℕ) : Type 0 where
@@ -66,3 +67,45 @@ writerCount k = record { at = k .at; «bit_count» = k .«bit_count» }
 -- the same after n more bits
 abbrev pub counted : BitCount → ℕ → BitCount
 counted p n = record { at = p .at + (p .«bit_count» + n) / 8; «bit_count» = (p .«bit_count» + n) % 8 }
+
+-- ════ a writer by words ════
+
+-- where its waiting bits begin
+abbrev pub byteStart : WordWriter → BitWriter
+byteStart k = writer (k .at) 0 0
+
+-- the bits that wait
+abbrev pub waiting : WordWriter → List Bool
+waiting k = bitsOf (k .held) (k .word)
+
+-- the writer, bit by bit, that it stands for
+abbrev pub settled : WordWriter → BitWriter
+settled k = after (byteStart k) (waiting k)
+
+-- and the output
+abbrev pub settledOut : List ℕ → WordWriter → List ℕ
+settledOut out k = write out (byteStart k) (waiting k)
+
+-- what it keeps: fewer than 32 bits, as a number
+abbrev pub SoundWord : WordWriter → Type 0
+SoundWord k = (k .held ≤ 31) × (k .word < 2 ^ k .held)
+
+-- bits were written: x is the writer after them, o′ the output
+pub record WroteWords (o : List ℕ) (k : WordWriter) (bs : List Bool) (x : WordWriter) (o′ : List ℕ) : Type 0 where
+  pub writer : settled x ≡ after (settled k) bs
+  pub out : settledOut o′ x ≡ write (settledOut o k) (settled k) bs
+  pub sound : SoundWord x
+  -- stored and waiting, there are so many bits more
+  pub near : 8 * x .at + x .held ≡ 8 * k .at + k .held + length bs
+
+-- four bytes in a row
+abbrev pub fourStored : List ℕ → ℕ → ℕ → ℕ → ℕ → ℕ → List ℕ
+fourStored out at a b c d = set (set (set (set out at a) (at + 1) b) (at + 2) c) (at + 3) d
+
+-- the low 32 bits of a number as four bytes
+abbrev pub wordStored : List ℕ → ℕ → ℕ → List ℕ
+wordStored out at x = fourStored out at (x / 2 ^ 24 % 256) (x / 2 ^ 16 % 256) (x / 2 ^ 8 % 256) (x % 256)
+
+-- a writer by words that begins with the bits that another keeps
+abbrev pub wordOf : BitWriter → WordWriter
+wordOf k = record { at = k .at; word = k .current; held = k .«bit_count» }

@@ -1,32 +1,34 @@
 -- Laws of a call of `encode`, value by value, measured and as a whole, and of the end of a stream. Assumes nothing.
-use mathlib.Core.Path.{_≡_, refl, ap, sym, _∙_}
+use mathlib.Core.Path.{_≡_, refl, ap, sym, _∙_, subst}
 use mathlib.Core.Bool.{Bool, true, false, cond}
-use mathlib.Core.List.{List, [], _∷_, _++_}
-use Prim.Native.Nat.{ℕ, zero, suc, _+_, _≤_}
+use mathlib.Core.List.{List, [], _∷_, _++_, append-assoc, append-nil}
+use Prim.Native.Nat.{ℕ, zero, suc, _+_, _-_, _≤_}
 use native.Mathlib.Nat.{zero-add}
 use native.Mathlib.Omega.{arith}
 use lib.Dec.{ltb, leb}
-use lib.IntN.{ℤ, pos, negsuc}
-use lib.ListN.{length, drop, set, length-append}
+use lib.IntN.{ℤ, pos, negsuc, natAbs}
+use lib.ListN.{length, take, drop, set, length-append, take-append-drop}
 use lib.Seq.{sets}
 use borrow.Author.Tests.{ltb-true, leb-true}
 use Rattle.bits.specs.Written.{pack, after}
-use Rattle.bits.specs.Inner.{Sound, Room, write, Wrote, padCount, padOut, counted}
+use Rattle.bits.specs.Inner.{Sound, write, padCount, padOut, counted, settled, settledOut, SoundWord, wordOf}
 use Rattle.bits.specs.declared.writer.BitWriter.{BitWriter}
-use Rattle.bits.proofs.Puts.{after-sound, after-append, write-append, wrote-sound, wrote-at}
+use Rattle.bits.proofs.Puts.{after-sound}
 use Rattle.bits.proofs.Packed.{write-whole, after-whole, count-after, counted-two, sets-start, sets-append, pad-count, pad-out}
+use Rattle.bits.proofs.Words.{words-none, words-then, words-renamed, word-of}
+use Rattle.fixed.specs.Fixed.{isNegative}
 use Rattle.answer.specs.Refusals.{invalidBitCount, outputTooShort, impossibleState, unless, firstOf, noRoom, stored}
 use Rattle.answer.proofs.Numbers.{first-none, passes, stored-some}
 use Rattle.srl_rules.specs.Rules.{widthOk}
-use Rattle.srl_encoder.specs.Encode.{valueBits, valueKp, valueZeros, callBits, callKp, callZeros, sink, bitsFrom, callBytes, callAfter, valueFault, fault, writerOk, encodeRefusal, encoded, EncodesSrl}
+use Rattle.srl_encoder.specs.Encode.{runBits, nonzeroBits, valueBits, valueKp, valueZeros, callBits, callKp, callZeros, sink, bitsFrom, callBytes, callAfter, valueFault, fault, writerOk, encodeRefusal, encoded, EncodesSrl}
 use Rattle.srl_encoder.specs.Finish.{flush, finishBytes}
-use Rattle.srl_encoder.specs.Inner.{callStart, measureStart, writerBack, valueState, valueWrite, callState, callWrite, bitCountOf, valueMeasure, callCount, GoodWriter}
+use Rattle.srl_encoder.specs.Inner.{callStart, measureStart, callDone, bitCountOf, valueMeasure, callCount, WroteNonzero, WroteValues, WroteCall, WroteEnd, flushed, flushedOut, GoodWriter}
 use Rattle.srl_encoder.specs.declared.SrlWriter.{SrlWriter}
 use Rattle.srl_encoder.specs.declared.Encoded.the-variants.{Bytes, Refused}
 use Rattle.srl_encoder.specs.declared.encoder.CallState.{CallState}
+use Rattle.srl_encoder.specs.declared.encoder.CallDone.{CallDone}
 use Rattle.srl_encoder.specs.declared.encoder.Measured.{Measured}
-use Rattle.srl_encoder.proofs.EncodedValues.{value-kp}
-use Rattle.srl_encoder.proofs.Runs.{length-flush}
+use Rattle.srl_encoder.proofs.EncodedValues.{nonzero-value, value-kp}
 use Rattle.srl_rules.proofs.Widths.{both}
 
 -- what the test of a state says
@@ -39,16 +41,62 @@ writerOk-good st h =
 
 -- ════ value by value ════
 
--- the state after one value and then the others
-pub call-step : (w : ℕ) (c : CallState) (v : ℤ) (vs : List ℤ) → callState w c (v ∷ vs) ≡ callState w (valueState w c v) vs
-call-step w c v vs =
-    let s = after-append (c .sink) (valueBits w (c .kp) (c .zeros) v) (callBits w (valueKp (c .kp) (c .zeros) v) (valueZeros (c .zeros) v) vs) in
-    λ i. record { sink = s i; kp = callKp (c .kp) (c .zeros) (v ∷ vs); zeros = callZeros (c .zeros) (v ∷ vs) }
+-- values in a row: their bits, and what they leave
+pub call-append : (w kp z : ℕ) (us vs : List ℤ)
+    → (callBits w kp z (us ++ vs) ≡ callBits w kp z us ++ callBits w (callKp kp z us) (callZeros z us) vs)
+    × (callKp kp z (us ++ vs) ≡ callKp (callKp kp z us) (callZeros z us) vs)
+    × (callZeros z (us ++ vs) ≡ callZeros (callZeros z us) vs)
+call-append w kp z [] vs = (refl, refl, refl)
+call-append w kp z (u ∷ us) vs =
+    let r = call-append w (valueKp kp z u) (valueZeros z u) us vs in
+    let k = valueKp kp z u in
+    let y = valueZeros z u in
+    (ap (λ l. valueBits w kp z u ++ l) (r .0) ∙ sym (append-assoc (valueBits w kp z u) (callBits w k y us) (callBits w (callKp k y us) (callZeros y us) vs)), r .1, r .2)
 
--- the output after one value and then the others
-pub write-step : (w : ℕ) (out : List ℕ) (c : CallState) (v : ℤ) (vs : List ℤ) → callWrite w out c (v ∷ vs) ≡ callWrite w (valueWrite w out c v) (valueState w c v) vs
-write-step w out c v vs =
-    write-append out (c .sink) (valueBits w (c .kp) (c .zeros) v) (callBits w (valueKp (c .kp) (c .zeros) v) (valueZeros (c .zeros) v) vs)
+-- no values are written
+pub wrote-none : (w : ℕ) (out : List ℕ) (c : CallState) → SoundWord (c .sink) → WroteValues w out c [] c out
+wrote-none w out c s = record { bits = words-none out (c .sink) s; kp = refl; zeros = refl }
+
+-- a nonzero value was written by its magnitude and its sign
+pub wrote-nonzero : (w : ℕ) (out : List ℕ) (c : CallState) (v : ℤ) {m : ℕ} {b : Bool} {d : CallState} {o : List ℕ} → m ≡ natAbs v → (m ≡ 0 → ⊥) → b ≡ isNegative v
+    → WroteNonzero w out c m b d o → WroteValues w out c (v ∷ []) d o
+wrote-nonzero w out c v {m = m} e n q r =
+    let nz = nonzero-value v w (c .kp) (c .zeros) m e n in
+    let run = runBits (suc (c .zeros)) (c .kp) (c .zeros) in
+    record {
+      bits = words-renamed out (c .sink) (ap (λ x. run ++ nonzeroBits w x (m - 1)) q ∙ sym (nz .0) ∙ sym (append-nil (valueBits w (c .kp) (c .zeros) v))) (r .bits);
+      kp = r .kp ∙ sym (nz .1);
+      zeros = r .zeros ∙ sym (nz .2);
+    }
+
+-- a zero was counted
+pub wrote-zero : (w : ℕ) (out : List ℕ) (c : CallState) (v : ℤ) {d : CallState} → SoundWord (c .sink) → v ≡ pos 0 → d ≡ record { sink = c .sink; kp = c .kp; zeros = c .zeros + 1 }
+    → WroteValues w out c (v ∷ []) d out
+wrote-zero w out c v s q e = rw (q, e) (record { bits = words-none out (c .sink) s; kp = refl; zeros = refl })
+
+-- values written in a row
+pub wrote-then : (w : ℕ) (out : List ℕ) (c : CallState) (us vs : List ℤ) {d e : CallState} {o p : List ℕ} → WroteValues w out c us d o → WroteValues w o d vs e p
+    → WroteValues w out c (us ++ vs) e p
+wrote-then w out c us vs {d = d} {e = e} {o = o} {p = p} a b =
+    let r = call-append w (c .kp) (c .zeros) us vs in
+    let k = callBits w (c .kp) (c .zeros) us in
+    let rest : callBits w (d .kp) (d .zeros) vs ≡ callBits w (callKp (c .kp) (c .zeros) us) (callZeros (c .zeros) us) vs = ap (λ x. callBits w x (d .zeros) vs) (a .kp) ∙ ap (λ x. callBits w (callKp (c .kp) (c .zeros) us) x vs) (a .zeros) in
+    record {
+      bits = words-renamed out (c .sink) (ap (λ l. k ++ l) rest ∙ sym (r .0)) (words-then out (c .sink) k (callBits w (d .kp) (d .zeros) vs) (a .bits) (b .bits));
+      kp = b .kp ∙ ap (λ x. callKp x (d .zeros) vs) (a .kp) ∙ ap (λ x. callKp (callKp (c .kp) (c .zeros) us) x vs) (a .zeros) ∙ sym (r .1);
+      zeros = b .zeros ∙ ap (λ x. callZeros x vs) (a .zeros) ∙ sym (r .2);
+    }
+
+-- values written from the same state by another name
+pub wrote-from : (w : ℕ) (out : List ℕ) (vs : List ℤ) {c e d : CallState} {o : List ℕ} → c ≡ e → WroteValues w out c vs d o → WroteValues w out e vs d o
+wrote-from w out vs {d = d} {o = o} q r = subst (λ x. WroteValues w out x vs d o) q r
+
+-- the first i of some values have no more bits than all
+pub call-part : (w kp z i : ℕ) (vs : List ℤ) → length (callBits w kp z (take i vs)) ≤ length (callBits w kp z vs)
+call-part w kp z i vs =
+    let us = take i vs in
+    let r = call-append w kp z us (drop i vs) .0 in
+    omega (arith, ap (λ l. length (callBits w kp z l)) (take-append-drop i vs), ap length r, length-append (callBits w kp z us) (callBits w (callKp kp z us) (callZeros z us) (drop i vs)))
 
 -- the bytes measured of one value and then the others
 pub count-step : (w : ℕ) (p : Measured) (v : ℤ) (vs : List ℤ) → callCount w p (v ∷ vs) ≡ callCount w (valueMeasure w p v) vs
@@ -76,11 +124,20 @@ call-sink w st vs =
 pub call-count : (w : ℕ) (st : SrlWriter) (vs : List ℤ) → st .«bit_count» ≤ 7 → callCount w (measureStart st) vs ≡ length (callBytes w st vs)
 call-count w st vs h = sym (ap (λ p. p .at) (count-after (sink st) (bitsFrom w st vs) h)) ∙ call-sink w st vs
 
--- the bytes that are stored are those of `callBytes`, where there is room for them
-pub call-out : (w : ℕ) (out : List ℕ) (st : SrlWriter) (vs : List ℤ) → length (callBytes w st vs) ≤ length out
-    → callWrite w out (callStart st) vs ≡ callBytes w st vs ++ drop (length (callBytes w st vs)) out
-call-out w out st vs h =
-    write-whole (bitsFrom w st vs) out 0 (st .current) (st .«bit_count») ∙ sets-start (callBytes w st vs) out h
+-- the values are written from a state on: k is the writer then, o the output with the whole bytes that waited
+pub call-wrote : (w : ℕ) (out : List ℕ) (st : SrlWriter) (vs : List ℤ) {c d : CallState} {k : BitWriter} {o p : List ℕ} → Sound (sink st) → c ≡ callStart st
+    → WroteValues w out c vs d o → k ≡ settled (d .sink) → p ≡ settledOut o (d .sink) → WroteCall w out st vs (callDone d k) p
+call-wrote w out st vs {d = d} {k = k} {o = o} h e r s t =
+    let v = wrote-from w out vs e r in
+    let f = word-of out (sink st) h in
+    let bs = bitsFrom w st vs in
+    let is : k ≡ after (sink st) bs = s ∙ v .bits .writer ∙ ap (λ x. after x bs) (f .0) in
+    record {
+      count = ap (λ x. x .at) is ∙ call-sink w st vs;
+      state = λ i. record { kp = v .kp i; «pending_zeros» = v .zeros i; current = is i .current; «bit_count» = is i .«bit_count» };
+      out = t ∙ v .bits .out ∙ ap (λ x. write x (settled (wordOf (sink st))) bs) (f .1) ∙ ap (λ x. write out x bs) (f .0)
+          ∙ write-whole bs out 0 (st .current) (st .«bit_count»);
+    }
 
 -- ════ the state after a call whose values cause no refusal ════
 
@@ -148,32 +205,28 @@ module _ (st : SrlWriter) (vs : List ℤ) (out : List ℕ) (w : ℕ) where
     out = sym (ap (λ x. stored x (callBytes w st vs) out) r ∙ stored-some n (callBytes w st vs) out h);
   }
 
-  -- where it is none: c is the state at the start, d the one after the values, o the output then
-  pub accepted : encodeRefusal st vs (length out) w ≡ 0 → length (callBytes w st vs) ≤ length out
-      → {c d : CallState} {next : SrlWriter} {o : List ℕ} → c ≡ callStart st → d ≡ callState w c vs → o ≡ callWrite w out c vs → next ≡ writerBack d
-      → EncodesSrl st vs out w (Bytes (d .sink .at) next) o
-  accepted r h {d = d} cs ds os ns = record {
-    answer = ap (Bytes (d .sink .at)) ns
-        ∙ ap (λ x. Bytes (x .sink .at) (writerBack x)) (ds ∙ ap (λ x. callState w x vs) cs)
-        ∙ ap (λ n. Bytes n (callAfter w st vs)) (call-sink w st vs)
-        ∙ sym (ap (λ x. encoded x (length (callBytes w st vs)) (callAfter w st vs) st) r);
-    out = os ∙ ap (λ x. callWrite w out x vs) cs ∙ call-out w out st vs h ∙ sym (ap (λ x. stored x (callBytes w st vs) out) r);
+  -- where it is none
+  pub accepted : encodeRefusal st vs (length out) w ≡ 0 → length (callBytes w st vs) ≤ length out → {r : CallDone} {o : List ℕ} → WroteCall w out st vs r o
+      → EncodesSrl st vs out w (Bytes (r .count) (r .state)) o
+  accepted q h {r = r} d = record {
+    answer = ap (Bytes (r .count)) (d .state) ∙ ap (λ n. Bytes n (callAfter w st vs)) (d .count)
+        ∙ sym (ap (λ x. encoded x (length (callBytes w st vs)) (callAfter w st vs) st) q);
+    out = d .out ∙ sets-start (callBytes w st vs) out h ∙ sym (ap (λ x. stored x (callBytes w st vs) out) q);
   }
 
 -- ════ the end of a stream ════
 
--- the pending run, the padding and a byte 0 are `finishBytes`: k and o are the writer and the output after the run, n and p what the padding gives
-pub end-out : (st : SrlWriter) (out : List ℕ) {k : BitWriter} {o p : List ℕ} {n : ℕ} → Wrote out (sink st) (flush (st .kp) (st .«pending_zeros»)) k o
-    → n ≡ padCount k → p ≡ padOut o k → set p n 0 ≡ sets out 0 (finishBytes st)
-end-out st out {k = k} {p = p} {n = n} d a b =
+-- the pending run, the padding and a byte 0 behind the bits that wait are `finishBytes`
+pub end-out : (st : SrlWriter) (out : List ℕ) {c : CallState} {n : ℕ} {o : List ℕ} → Sound (sink st) → c ≡ callStart st → WroteEnd out c n o → o ≡ sets out 0 (finishBytes st)
+end-out st out {n = n} {o = o} h e r =
     let f = flush (st .kp) (st .«pending_zeros») in
+    let v : WroteEnd out (callStart st) n o = subst (λ x. WroteEnd out x n o) e r in
+    let s = word-of out (sink st) h in
     let bytes = pack (st .current) (st .«bit_count») f in
-    let y : p ≡ sets out 0 bytes = b ∙ ap (λ x. padOut x k) (d .1) ∙ ap (padOut (write out (sink st) f)) (d .0) ∙ pad-out f out 0 (st .current) (st .«bit_count») in
-    let x : n ≡ 0 + length bytes = a ∙ ap padCount (d .0) ∙ pad-count f out 0 (st .current) (st .«bit_count») in
-    ap (λ l. set l n 0) y ∙ ap (λ i. set (sets out 0 bytes) i 0) x ∙ sym (sets-append bytes (0 ∷ []) out 0)
-
--- behind the pending run there is room to count the padding
-pub end-room : (st : SrlWriter) {k : BitWriter} → GoodWriter st → k ≡ after (sink st) (flush (st .kp) (st .«pending_zeros»)) → Sound k × Room k 1
-end-room st g e =
-    let f = flush (st .kp) (st .«pending_zeros») in
-    (wrote-sound (sink st) f e (g .0), omega (arith, wrote-at (sink st) f e, length-flush (st .kp) (st .«pending_zeros») (g .1), g .2))
+    let k : flushed (callStart st) ≡ after (sink st) f = ap (λ x. after x f) (s .0) in
+    let y : padOut (flushedOut out (callStart st)) (flushed (callStart st)) ≡ sets out 0 bytes =
+    ap (λ x. padOut (write x (settled (wordOf (sink st))) f) (flushed (callStart st))) (s .1)
+    ∙ ap (λ x. padOut (write out x f) (after x f)) (s .0)
+    ∙ pad-out f out 0 (st .current) (st .«bit_count») in
+    let x : padCount (flushed (callStart st)) ≡ 0 + length bytes = ap padCount k ∙ pad-count f out 0 (st .current) (st .«bit_count») in
+    v .out ∙ ap (λ l. set l (padCount (flushed (callStart st))) 0) y ∙ ap (λ i. set (sets out 0 bytes) i 0) x ∙ sym (sets-append bytes (0 ∷ []) out 0)

@@ -2,17 +2,21 @@
 use mathlib.Core.Path.{_≡_}
 use mathlib.Core.Bool.{Bool, true, false, cond}
 use mathlib.Core.List.{List, [], _∷_, _++_}
-use Prim.Native.Nat.{ℕ, suc, _-_, _/_, _^_, _≤_, _<_, max}
+use Prim.Native.Nat.{ℕ, suc, _+_, _-_, _/_, _^_, _≤_, _<_, max}
 use lib.Dec.{ltb}
 use lib.IntN.{ℤ, natAbs}
-use lib.ListN.{length, replicate}
-use Rattle.bits.specs.Written.{bitsOf, writer, after}
-use Rattle.bits.specs.Inner.{Sound, write, counted}
+use lib.ListN.{length, set, replicate}
+use lib.Seq.{sets}
+use Rattle.bits.specs.Written.{bitsOf, after}
+use Rattle.bits.specs.Inner.{Sound, write, padCount, padOut, counted, settled, settledOut, SoundWord, WroteWords, wordOf}
+use Rattle.bits.specs.declared.writer.BitWriter.{BitWriter}
 use Rattle.bits.specs.declared.writer.BitCount.{BitCount}
-use Rattle.srl_encoder.specs.Encode.{runBits, runKp, valueBits, valueKp, valueZeros, callBits, callKp, callZeros, sink}
+use Rattle.srl_encoder.specs.Encode.{runBits, runKp, nonzeroBits, valueBits, valueKp, valueZeros, callBits, callKp, callZeros, sink, callBytes, callAfter}
+use Rattle.srl_encoder.specs.Finish.{flush}
 use Rattle.srl_encoder.specs.declared.SrlWriter.{SrlWriter}
 use Rattle.srl_encoder.specs.declared.encoder.RunPlan.{RunPlan}
 use Rattle.srl_encoder.specs.declared.encoder.CallState.{CallState}
+use Rattle.srl_encoder.specs.declared.encoder.CallDone.{CallDone}
 use Rattle.srl_encoder.specs.declared.encoder.Measured.{Measured}
 
 -- the largest magnitude
@@ -43,51 +47,52 @@ stopCount w magnitude = cond (ltb magnitude (2 ^ w - 1)) 1 0
 
 -- ════ a call: its state, value by value ════
 
--- it starts before the first byte of its output
+-- it starts before the first byte of its output, with the bits that the state keeps
 abbrev pub callStart : SrlWriter → CallState
-callStart st = record { sink = sink st; kp = st .kp; zeros = st .«pending_zeros» }
+callStart st = record { sink = wordOf (sink st); kp = st .kp; zeros = st .«pending_zeros» }
 
 -- a state by its parts
 abbrev pub callOf : ℕ → ℕ → ℕ → ℕ → ℕ → CallState
-callOf at current n kp zeros = record { sink = writer at current n; kp = kp; zeros = zeros }
+callOf at word held kp zeros = record { sink = record { at = at; word = word; held = held }; kp = kp; zeros = zeros }
 
--- what is handed back of it
-abbrev pub writerBack : CallState → SrlWriter
-writerBack c = record { kp = c .kp; «pending_zeros» = c .zeros; current = c .sink .current; «bit_count» = c .sink .«bit_count» }
+-- what is handed back of it; k is the writer that it stands for
+abbrev pub callDone : CallState → BitWriter → CallDone
+callDone c k =
+    record { count = k .at; state = record { kp = c .kp; «pending_zeros» = c .zeros; current = k .current; «bit_count» = k .«bit_count» } }
 
--- the state after a value
-abbrev pub valueState : ℕ → CallState → ℤ → CallState
-valueState w c v =
-    record {
-      sink = after (c .sink) (valueBits w (c .kp) (c .zeros) v);
-      kp = valueKp (c .kp) (c .zeros) v;
-      zeros = valueZeros (c .zeros) v;
-    }
+-- how many whole bytes there are after some values
+abbrev pub callEnd : ℕ → CallState → List ℤ → ℕ
+callEnd w c vs = c .sink .at + (c .sink .held + length (callBits w (c .kp) (c .zeros) vs)) / 8
 
--- the state after some values
-abbrev pub callState : ℕ → CallState → List ℤ → CallState
-callState w c vs =
-    record {
-      sink = after (c .sink) (callBits w (c .kp) (c .zeros) vs);
-      kp = callKp (c .kp) (c .zeros) vs;
-      zeros = callZeros (c .zeros) vs;
-    }
-
--- the output after a value
-abbrev pub valueWrite : ℕ → List ℕ → CallState → ℤ → List ℕ
-valueWrite w out c v = write out (c .sink) (valueBits w (c .kp) (c .zeros) v)
-
--- the output after some
-abbrev pub callWrite : ℕ → List ℕ → CallState → List ℤ → List ℕ
-callWrite w out c vs = write out (c .sink) (callBits w (c .kp) (c .zeros) vs)
-
--- a value was written: d is the state after it, o the output
-abbrev pub WroteValue : ℕ → List ℕ → CallState → ℤ → CallState → List ℕ → Type 0
-WroteValue w out c v d o = (d ≡ valueState w c v) × (o ≡ valueWrite w out c v)
+-- a nonzero value of magnitude m was written: d is the state after it, o the output
+pub record WroteNonzero (w : ℕ) (out : List ℕ) (c : CallState) (m : ℕ) (negative : Bool) (d : CallState) (o : List ℕ) : Type 0 where
+  pub bits : WroteWords out (c .sink) (runBits (suc (c .zeros)) (c .kp) (c .zeros) ++ nonzeroBits w negative (m - 1)) (d .sink) o
+  pub kp : d .kp ≡ runKp (suc (c .zeros)) (c .kp) (c .zeros)
+  pub zeros : d .zeros ≡ 0
 
 -- some values were
-abbrev pub WroteValues : ℕ → List ℕ → CallState → List ℤ → CallState → List ℕ → Type 0
-WroteValues w out c vs d o = (d ≡ callState w c vs) × (o ≡ callWrite w out c vs)
+pub record WroteValues (w : ℕ) (out : List ℕ) (c : CallState) (vs : List ℤ) (d : CallState) (o : List ℕ) : Type 0 where
+  pub bits : WroteWords out (c .sink) (callBits w (c .kp) (c .zeros) vs) (d .sink) o
+  pub kp : d .kp ≡ callKp (c .kp) (c .zeros) vs
+  pub zeros : d .zeros ≡ callZeros (c .zeros) vs
+
+-- a call's values were: r is what is handed back, o the output
+pub record WroteCall (w : ℕ) (l : List ℕ) (st : SrlWriter) (vs : List ℤ) (r : CallDone) (o : List ℕ) : Type 0 where
+  pub count : r .count ≡ length (callBytes w st vs)
+  pub state : r .state ≡ callAfter w st vs
+  pub out : o ≡ sets l 0 (callBytes w st vs)
+
+-- the writer and the output after the pending zeros
+abbrev pub flushed : CallState → BitWriter
+flushed c = after (settled (c .sink)) (flush (c .kp) (c .zeros))
+
+abbrev pub flushedOut : List ℕ → CallState → List ℕ
+flushedOut out c = write (settledOut out (c .sink)) (settled (c .sink)) (flush (c .kp) (c .zeros))
+
+-- the end of a stream was written, n bytes: the pending zeros, the padding and a byte 0
+pub record WroteEnd (l : List ℕ) (c : CallState) (n : ℕ) (o : List ℕ) : Type 0 where
+  pub count : n ≡ padCount (flushed c) + 1
+  pub out : o ≡ set (padOut (flushedOut l c) (flushed c)) (padCount (flushed c)) 0
 
 -- ════ measuring ════
 
@@ -117,7 +122,7 @@ callCount w p vs = counted (bitCountOf p) (length (callBits w (p .kp) (p .zeros)
 
 -- of a call
 abbrev pub Good : CallState → Type 0
-Good c = Sound (c .sink) × (c .kp ≤ 80)
+Good c = SoundWord (c .sink) × (c .kp ≤ 80)
 
 -- of a measure
 abbrev pub GoodMeasure : Measured → Type 0

@@ -1,17 +1,18 @@
 // The encoder, value by value. A refusal alters nothing, so a call looks at all its values and measures them before it stores any.
 ghost use mathlib.Core.Path.{_≡_};
 ghost use mathlib.Core.Bool.{true};
-ghost use mathlib.Core.List.{_++_};
+ghost use mathlib.Core.List.{[], _∷_, _++_};
 ghost use Prim.Native.Nat.{_+_, _-_, _*_, _/_, _^_, _≤_, _<_, max};
 ghost use lib.Dec.{ltb};
+ghost use lib.IntN.{pos};
 ghost use lib.ListN.{length};
 ghost use lib.Seq.{sets};
 ghost use Rattle.bits.specs.Bits.{bitOf};
-ghost use Rattle.bits.specs.Inner.{Sound, Room, Wrote};
+ghost use Rattle.bits.specs.Inner.{SoundWord, WroteWords};
 ghost use Rattle.srl_rules.specs.Inner.{Width};
 ghost use Rattle.srl_encoder.specs.Encode.{callBytes, nonzeroBits, valueZeros, writerOk, valueFault, fault};
 ghost use Rattle.srl_encoder.specs.Finish.{flush, finishBytes};
-ghost use Rattle.srl_encoder.specs.Inner.{largest, planBits, GoodPlan, Planned, stopCount, callStart, callOf, writerBack, callState, WroteValue, WroteValues, measureStart, valueMeasure, callCount, Good, GoodMeasure, GoodWriter};
+ghost use Rattle.srl_encoder.specs.Inner.{largest, planBits, GoodPlan, Planned, stopCount, callStart, callOf, callDone, callEnd, WroteNonzero, WroteValues, WroteCall, WroteEnd, measureStart, valueMeasure, callCount, Good, GoodMeasure, GoodWriter};
 use crate::MAX_ZERO_RUN;
 use crate::SrlWriter;
 
@@ -24,9 +25,15 @@ pub struct RunPlan {
 
 // The encoder in a call: where its bits go, kp, and the pending zeros.
 pub struct CallState {
-    pub sink: bits::writer::BitWriter,
+    pub sink: bits::writer::WordWriter,
     pub kp: u8,
     pub zeros: usize,
+}
+
+// What a call has written: so many whole bytes, and the state after it.
+pub struct CallDone {
+    pub count: usize,
+    pub state: SrlWriter,
 }
 
 // The same with no bits: `at` whole bytes and `bit_count` bits are counted.
@@ -60,10 +67,10 @@ pub fn call_start(st: SrlWriter) -> CallState
     ensures { λ r. ⌜ r ≡ callStart st ⌝ }
 {
     CallState {
-        sink: bits::writer::BitWriter {
+        sink: bits::writer::WordWriter {
             at: 0,
-            current: st.current,
-            bit_count: st.bit_count,
+            word: st.current as u64,
+            held: st.bit_count,
         },
         kp: st.kp,
         zeros: st.pending_zeros,
@@ -81,27 +88,28 @@ fn measure_start(st: SrlWriter) -> Measured
     }
 }
 
-// The state that a call hands back.
-pub fn writer_of(c: CallState) -> SrlWriter
-    ensures { λ r. ⌜ r ≡ writerBack c ⌝ }
+// What a call hands back: the bits that still wait are in `sink`.
+fn call_done(c: CallState, sink: bits::writer::BitWriter) -> CallDone
+    ensures { λ r. ⌜ r ≡ callDone c sink ⌝ }
 {
-    let sink = c.sink;
-    SrlWriter {
-        kp: c.kp,
-        pending_zeros: c.zeros,
-        current: sink.current,
-        bit_count: sink.bit_count,
+    CallDone {
+        count: sink.at,
+        state: SrlWriter {
+            kp: c.kp,
+            pending_zeros: c.zeros,
+            current: sink.current,
+            bit_count: sink.bit_count,
+        },
     }
 }
 
 // ---- the values' refusals
 
-// The refusal that a value causes, or 0.
-fn value_fault(zeros: usize, v: i16, num_bits: u8) -> u8
+// The refusal that a value of magnitude m causes, or 0.
+fn value_fault(zeros: usize, m: u16, num_bits: u8) -> u8
     requires { ⌜ Width «num_bits» ⌝ }
-    ensures { λ r. ⌜ r ≡ valueFault «num_bits» zeros v ⌝ }
+    ensures { λ r. ⌜ r ≡ valueFault «num_bits» zeros (pos m) ⌝ }
 {
-    let m = fixed::magnitude(v);
     if srl_rules::max_magnitude(num_bits) < m {
         return answer::MAGNITUDE_OUT_OF_RANGE;
     }
@@ -114,12 +122,11 @@ fn value_fault(zeros: usize, v: i16, num_bits: u8) -> u8
     0
 }
 
-// The pending zeros after a value.
-fn zeros_after(zeros: usize, v: i16) -> usize
+// The pending zeros after a value of magnitude m.
+fn zeros_after(zeros: usize, m: u16) -> usize
     requires { ⌜ zeros + 1 < 2 ^ 64 ⌝ }
-    ensures { λ r. ⌜ r ≡ valueZeros zeros v ⌝ }
+    ensures { λ r. ⌜ r ≡ valueZeros zeros (pos m) ⌝ }
 {
-    let m = fixed::magnitude(v);
     if m == 0 {
         return zeros + 1;
     }
@@ -134,12 +141,12 @@ fn find_fault(values: &[i16], zeros: usize, num_bits: u8) -> u8
     let mut z = zeros;
     let mut i: usize = 0;
     while i < values.len() {
-        let v = values[i];
-        let f = value_fault(z, v, num_bits);
+        let m = fixed::magnitude(values[i]);
+        let f = value_fault(z, m, num_bits);
         if f != 0 {
             return f;
         }
-        z = zeros_after(z, v);
+        z = zeros_after(z, m);
         i += 1;
     }
     0
@@ -180,7 +187,7 @@ pub fn values_fault(values: &[i16], zeros: usize, num_bits: u8) -> u8
 // ---- measuring: nothing is stored
 
 // How a run of zeros before a nonzero value is written.
-fn plan_run(kp: u8, zeros: usize) -> RunPlan
+pub fn plan_run(kp: u8, zeros: usize) -> RunPlan
     requires { ⌜ kp ≤ 80 ⌝ }
     ensures { λ r. ⌜ Planned kp zeros r ⌝ }
 {
@@ -227,12 +234,19 @@ fn nonzero_length(m: u16, num_bits: u8) -> usize
     (m as usize) + (stop_count(m, num_bits) as usize)
 }
 
-// One value.
-pub fn measure_value(p: Measured, v: i16, num_bits: u8) -> Measured
-    requires { ⌜ GoodMeasure p × (p .at + p .zeros + 70000 < 2 ^ 64) × Width «num_bits» ⌝ }
-    ensures { λ r. ⌜ r ≡ valueMeasure «num_bits» p v ⌝ }
+// The bits of a run as planned and of the nonzero value of magnitude m behind it.
+pub fn planned_length(plan: RunPlan, m: u16, num_bits: u8) -> usize
+    requires { ⌜ (plan .steps + 70000 < 2 ^ 64) × (1 ≤ m) × Width «num_bits» ⌝ }
+    ensures { λ n. ⌜ n ≡ length (planBits plan ++ nonzeroBits «num_bits» true (m - 1)) ⌝ }
 {
-    let m = fixed::magnitude(v);
+    run_length(plan) + nonzero_length(m, num_bits)
+}
+
+// One value of magnitude m. Its sign takes a bit, whichever it is.
+pub fn measure_value(p: Measured, m: u16, num_bits: u8) -> Measured
+    requires { ⌜ GoodMeasure p × (p .at + p .zeros + 70000 < 2 ^ 64) × Width «num_bits» ⌝ }
+    ensures { λ r. ⌜ r ≡ valueMeasure «num_bits» p (pos m) ⌝ }
+{
     if m == 0 {
         return Measured {
             at: p.at,
@@ -242,12 +256,11 @@ pub fn measure_value(p: Measured, v: i16, num_bits: u8) -> Measured
         };
     }
     let plan = plan_run(p.kp, p.zeros);
-    let n = run_length(plan) + nonzero_length(m, num_bits);
     let place = bits::writer::BitCount {
         at: p.at,
         bit_count: p.bit_count,
     };
-    let next = bits::writer::count_bits(place, n);
+    let next = bits::writer::count_bits(place, planned_length(plan, m, num_bits));
     Measured {
         at: next.at,
         bit_count: next.bit_count,
@@ -269,8 +282,8 @@ fn too_many(values: &[i16], p: Measured, num_bits: u8, limit: usize) -> bool
     let mut cur = p;
     let mut i: usize = 0;
     while i < values.len() {
-        let v = values[i];
-        cur = measure_value(cur, v, num_bits);
+        let m = fixed::magnitude(values[i]);
+        cur = measure_value(cur, m, num_bits);
         if limit < cur.at {
             return true;
         }
@@ -308,27 +321,36 @@ pub fn exceeds(values: &[i16], st: SrlWriter, num_bits: u8, room: usize) -> bool
 
 // ---- storing
 
-// A run as planned: the bit 1 and the rest are one number, and where they fit so are the zeros before it.
-fn encode_zero_run(
-    out: &mut [u8],
-    k: bits::writer::BitWriter,
-    r: RunPlan,
-) -> bits::writer::BitWriter
-    requires { ⌜ Sound k × Room k (r .steps + 40) × GoodPlan r ⌝ }
-    ensures { λ d. ⌜ Wrote (now (out .entry)) k (planBits r) d (now (out .exit)) ⌝ }
+// A run as planned: its zeros, and then the bit 1 and the rest as one number.
+fn put_run(out: &mut [u8], k: bits::writer::WordWriter, r: RunPlan) -> bits::writer::WordWriter
+    requires { ⌜ SoundWord k × (k .at + (r .steps + 100) < 2 ^ 64) × GoodPlan r ⌝ }
+    ensures { λ d. ⌜ WroteWords (now (out .entry)) k (planBits r) d (now (out .exit)) ⌝ }
 {
+    let zeros = bits::writer::put_zero_words(out, k, r.steps);
     let word = srl_rules::run_size(r.kp) + r.rest;
-    let len = r.kp / 8 + 1;
-    if r.steps < 6 {
-        return bits::writer::put_bits(out, k, word, (r.steps as u8) + len);
-    }
-    let zeros = bits::writer::put_zeros(out, k, r.steps);
-    bits::writer::put_bits(out, zeros, word, len)
+    bits::writer::put_word(out, zeros, word as u64, r.kp / 8 + 1)
 }
 
-// The bits of a nonzero value of magnitude m, 1 to 15, as a number.
+// A nonzero value of magnitude m: its sign, its zeros and its end.
+fn put_nonzero(
+    out: &mut [u8],
+    k: bits::writer::WordWriter,
+    m: u16,
+    negative: bool,
+    num_bits: u8,
+) -> bits::writer::WordWriter
+    requires { ⌜ SoundWord k × (k .at + 66000 < 2 ^ 64) × (1 ≤ m) × Width «num_bits» ⌝ }
+    ensures { λ r. ⌜ WroteWords (now (out .entry)) k (nonzeroBits «num_bits» negative (m - 1)) r (now (out .exit)) ⌝ }
+{
+    let stop = stop_count(m, num_bits);
+    let sign = bits::writer::put_word(out, k, bits::writer::bit_of(negative) as u64, 1);
+    let zeros = bits::writer::put_zero_words(out, sign, (m - 1) as usize);
+    bits::writer::put_word(out, zeros, stop as u64, stop)
+}
+
+// The bits of a nonzero value of magnitude m, 1 to 31, as a number.
 fn nonzero_word(m: u16, negative: bool, stop: u8) -> usize
-    requires { ⌜ (1 ≤ m) × (m ≤ 15) × (stop ≤ 1) ⌝ }
+    requires { ⌜ (1 ≤ m) × (m ≤ 31) × (stop ≤ 1) ⌝ }
     ensures { λ r. ⌜ r ≡ bitOf negative * 2 ^ (m - 1 + stop) + stop ⌝ }
 {
     let sign = bits::writer::bit_of(negative);
@@ -336,30 +358,9 @@ fn nonzero_word(m: u16, negative: bool, stop: u8) -> usize
     ((sign as usize) << low) + (stop as usize)
 }
 
-// A nonzero value of magnitude m: of at most 16 bits it is one number.
-fn put_nonzero(
-    out: &mut [u8],
-    k: bits::writer::BitWriter,
-    m: u16,
-    negative: bool,
-    num_bits: u8,
-) -> bits::writer::BitWriter
-    requires { ⌜ Sound k × Room k 65540 × (1 ≤ m) × Width «num_bits» ⌝ }
-    ensures { λ r. ⌜ Wrote (now (out .entry)) k (nonzeroBits «num_bits» negative (m - 1)) r (now (out .exit)) ⌝ }
-{
-    let stop = stop_count(m, num_bits);
-    if m < 16 {
-        let word = nonzero_word(m, negative, stop);
-        return bits::writer::put_bits(out, k, word, (m as u8) + stop);
-    }
-    let sign = bits::writer::put_bit(out, k, negative);
-    let zeros = bits::writer::put_zeros(out, sign, (m - 1) as usize);
-    bits::writer::put_bits(out, zeros, stop as usize, stop)
-}
-
 // The bits of a run as planned, behind its zeros, and of the nonzero value behind it, as a number.
-fn both_word(r: RunPlan, m: u16, negative: bool, stop: u8) -> usize
-    requires { ⌜ GoodPlan r × (1 ≤ m) × (m ≤ 15) × (stop ≤ 1) ⌝ }
+fn planned_word(r: RunPlan, m: u16, negative: bool, stop: u8) -> usize
+    requires { ⌜ GoodPlan r × (1 ≤ m) × (m ≤ 31) × (stop ≤ 1) ⌝ }
     ensures { λ x. ⌜ x ≡ (2 ^ (r .kp / 8) + r .rest) * 2 ^ (m + stop) + (bitOf negative * 2 ^ (m - 1 + stop) + stop) ⌝ }
 {
     let run = srl_rules::run_size(r.kp) + r.rest;
@@ -367,44 +368,44 @@ fn both_word(r: RunPlan, m: u16, negative: bool, stop: u8) -> usize
     (run << len) + nonzero_word(m, negative, stop)
 }
 
-// A run as planned and the nonzero value behind it: of at most 16 bits they are one number.
-fn put_both(
+// A run as planned and the nonzero value of magnitude m behind it: of at most 32 bits they are one number.
+pub fn put_planned(
     out: &mut [u8],
-    k: bits::writer::BitWriter,
-    r: RunPlan,
+    k: bits::writer::WordWriter,
+    plan: RunPlan,
     m: u16,
     negative: bool,
     num_bits: u8,
-) -> bits::writer::BitWriter
-    requires { ⌜ Sound k × Room k (r .steps + 65600) × GoodPlan r × (1 ≤ m) × Width «num_bits» ⌝ }
-    ensures { λ d. ⌜ Wrote (now (out .entry)) k (planBits r ++ nonzeroBits «num_bits» negative (m - 1)) d (now (out .exit)) ⌝ }
+) -> bits::writer::WordWriter
+    requires { ⌜
+        SoundWord k
+        × (k .at + (plan .steps + 70000) < 2 ^ 64)
+        × GoodPlan plan
+        × (1 ≤ m)
+        × Width «num_bits» ⌝ }
+    ensures { λ r. ⌜ WroteWords (now (out .entry)) k (planBits plan ++ nonzeroBits «num_bits» negative (m - 1)) r (now (out .exit)) ⌝ }
 {
-    if r.steps + ((r.kp / 8) as usize) + (m as usize) < 15 {
-        let stop = stop_count(m, num_bits);
-        let word = both_word(r, m, negative, stop);
-        let len = (r.steps as u8) + (r.kp / 8 + 1) + ((m as u8) + stop);
-        return bits::writer::put_bits(out, k, word, len);
+    let n = planned_length(plan, m, num_bits);
+    if n <= 32 {
+        let word = planned_word(plan, m, negative, stop_count(m, num_bits));
+        return bits::writer::put_word(out, k, word as u64, n as u8);
     }
-    let run = encode_zero_run(out, k, r);
+    let run = put_run(out, k, plan);
     put_nonzero(out, run, m, negative, num_bits)
 }
 
-// One value.
-pub fn put_value(out: &mut [u8], c: CallState, v: i16, num_bits: u8) -> CallState
-    requires { ⌜ Good c × Room (c .sink) (c .zeros + 70000) × Width «num_bits» ⌝ }
-    ensures { λ r. ⌜ WroteValue «num_bits» (now (out .entry)) c v r (now (out .exit)) ⌝ }
+// The pending zeros and a nonzero value of magnitude m.
+fn put_value(out: &mut [u8], c: CallState, m: u16, negative: bool, num_bits: u8) -> CallState
+    requires { ⌜
+        Good c
+        × (c .sink .at + (c .zeros + 70000) < 2 ^ 64)
+        × (1 ≤ m)
+        × Width «num_bits» ⌝ }
+    ensures { λ r. ⌜ WroteNonzero «num_bits» (now (out .entry)) c m negative r (now (out .exit)) ⌝ }
 {
-    let m = fixed::magnitude(v);
-    let sink = c.sink;
-    if m == 0 {
-        return CallState {
-            sink,
-            kp: c.kp,
-            zeros: c.zeros + 1,
-        };
-    }
     let plan = plan_run(c.kp, c.zeros);
-    let done = put_both(out, sink, plan, m, fixed::is_negative(v), num_bits);
+    let sink = c.sink;
+    let done = put_planned(out, sink, plan, m, negative, num_bits);
     CallState {
         sink: done,
         kp: srl_rules::lowered(plan.kp),
@@ -412,15 +413,11 @@ pub fn put_value(out: &mut [u8], c: CallState, v: i16, num_bits: u8) -> CallStat
     }
 }
 
-fn call_of(at: usize, current: u8, bit_count: u8, kp: u8, zeros: usize) -> CallState
-    ensures { λ r. ⌜ r ≡ callOf at current «bit_count» kp zeros ⌝ }
+fn call_of(at: usize, word: u64, held: u8, kp: u8, zeros: usize) -> CallState
+    ensures { λ r. ⌜ r ≡ callOf at word held kp zeros ⌝ }
 {
     CallState {
-        sink: bits::writer::BitWriter {
-            at,
-            current,
-            bit_count,
-        },
+        sink: bits::writer::WordWriter { at, word, held },
         kp,
         zeros,
     }
@@ -430,25 +427,25 @@ fn call_of(at: usize, current: u8, bit_count: u8, kp: u8, zeros: usize) -> CallS
 fn put_next(
     out: &mut [u8],
     at: usize,
-    current: u8,
-    bit_count: u8,
+    word: u64,
+    held: u8,
     kp: u8,
     zeros: usize,
     v: i16,
     num_bits: u8,
 ) -> CallState
     requires { ⌜
-        Good (callOf at current «bit_count» kp zeros)
+        Good (callOf at word held kp zeros)
         × (at + (zeros + 70000) < 2 ^ 64)
         × Width «num_bits» ⌝ }
-    ensures { λ r. ⌜ WroteValue «num_bits» (now (out .entry)) (callOf at current «bit_count» kp zeros) v r (now (out .exit)) ⌝ }
+    ensures { λ r. ⌜ WroteValues «num_bits» (now (out .entry)) (callOf at word held kp zeros) (v ∷ []) r (now (out .exit)) ⌝ }
 {
     let m = fixed::magnitude(v);
     if m == 0 {
-        return call_of(at, current, bit_count, kp, zeros + 1);
+        return call_of(at, word, held, kp, zeros + 1);
     }
-    let c = call_of(at, current, bit_count, kp, zeros);
-    put_value(out, c, v, num_bits)
+    let c = call_of(at, word, held, kp, zeros);
+    put_value(out, c, m, fixed::is_negative(v), num_bits)
 }
 
 // All values. The caller has measured them. The loop keeps the state's parts: a struct that went round it would be copied each time.
@@ -457,28 +454,41 @@ pub fn put_values(values: &[i16], c: CallState, out: &mut [u8], num_bits: u8) ->
         Good c
         × (c .zeros ≤ 4096)
         × Width «num_bits»
-        × (callState «num_bits» c (now values) .sink .at < 2 ^ 63) ⌝ }
+        × (callEnd «num_bits» c (now values) < 2 ^ 63) ⌝ }
     ensures { λ r. ⌜ WroteValues «num_bits» (now (out .entry)) c (now (values .entry)) r (now (out .exit)) ⌝ }
 {
     let k = c.sink;
     let mut at = k.at;
-    let mut current = k.current;
-    let mut n = k.bit_count;
+    let mut word = k.word;
+    let mut held = k.held;
     let mut kp = c.kp;
     let mut zeros = c.zeros;
     let mut i: usize = 0;
     while i < values.len() {
-        let v = values[i];
-        let next = put_next(out, at, current, n, kp, zeros, v, num_bits);
+        let next = put_next(out, at, word, held, kp, zeros, values[i], num_bits);
         let l = next.sink;
         at = l.at;
-        current = l.current;
-        n = l.bit_count;
+        word = l.word;
+        held = l.held;
         kp = next.kp;
         zeros = next.zeros;
         i += 1;
     }
-    call_of(at, current, n, kp, zeros)
+    call_of(at, word, held, kp, zeros)
+}
+
+// A call: the whole bytes that the values complete. The caller has measured them.
+pub fn put_call(values: &[i16], st: SrlWriter, out: &mut [u8], num_bits: u8) -> CallDone
+    requires { ⌜
+        GoodWriter st
+        × Width «num_bits»
+        × (length (callBytes «num_bits» st (now values)) < 2 ^ 63) ⌝ }
+    ensures { λ r. ⌜ WroteCall «num_bits» (now (out .entry)) st (now (values .entry)) r (now (out .exit)) ⌝ }
+{
+    let done = put_values(values, call_start(st), out, num_bits);
+    let sink = done.sink;
+    let last = bits::writer::settle(out, sink);
+    call_done(done, last)
 }
 
 // ---- the end of a stream
@@ -488,10 +498,10 @@ pub fn flush_length(kp: u8, zeros: usize) -> usize
     requires { ⌜ (kp ≤ 80) × (zeros ≤ 4096) ⌝ }
     ensures { λ r. ⌜ r ≡ length (flush kp zeros) ⌝ }
 {
-    if zeros == 0 {
-        return 0;
+    if zeros != 0 {
+        return run_length(plan_run(kp, zeros));
     }
-    run_length(plan_run(kp, zeros))
+    0
 }
 
 // How many bytes the end of a stream takes.
@@ -504,16 +514,32 @@ pub fn end_length(st: SrlWriter) -> usize
 }
 
 // The pending zeros, as if a value followed.
-pub fn put_flush(out: &mut [u8], c: CallState) -> bits::writer::BitWriter
-    requires { ⌜ Good c × Room (c .sink) (c .zeros + 40) ⌝ }
-    ensures { λ r. ⌜ Wrote (now (out .entry)) (c .sink) (flush (c .kp) (c .zeros)) r (now (out .exit)) ⌝ }
+pub fn put_flush(
+    out: &mut [u8],
+    k: bits::writer::WordWriter,
+    kp: u8,
+    zeros: usize,
+) -> bits::writer::WordWriter
+    requires { ⌜ SoundWord k × (k .at + (zeros + 100) < 2 ^ 64) × (kp ≤ 80) ⌝ }
+    ensures { λ r. ⌜ WroteWords (now (out .entry)) k (flush kp zeros) r (now (out .exit)) ⌝ }
+{
+    if zeros == 0 {
+        return k;
+    }
+    let plan = plan_run(kp, zeros);
+    put_run(out, k, plan)
+}
+
+// The end of a stream behind bits that wait: the pending zeros, the padding and a byte 0. How many bytes there are then.
+pub fn put_last(out: &mut [u8], c: CallState) -> usize
+    requires { ⌜ Good c × (c .sink .at + (c .zeros + 200) < 2 ^ 64) ⌝ }
+    ensures { λ r. ⌜ WroteEnd (now (out .entry)) c r (now (out .exit)) ⌝ }
 {
     let sink = c.sink;
-    if c.zeros == 0 {
-        return sink;
-    }
-    let plan = plan_run(c.kp, c.zeros);
-    encode_zero_run(out, sink, plan)
+    let flushed = put_flush(out, sink, c.kp, c.zeros);
+    let n = bits::writer::end_words(out, flushed);
+    bits::writer::store(out, n, 0);
+    n + 1
 }
 
 // The end of a stream: the pending zeros, the padding and a byte 0.
@@ -521,7 +547,5 @@ pub fn put_end(out: &mut [u8], st: SrlWriter)
     requires { ⌜ GoodWriter st ⌝ }
     ensures { λ _. ⌜ now (out .exit) ≡ sets (now (out .entry)) 0 (finishBytes st) ⌝ }
 {
-    let sink = put_flush(out, call_start(st));
-    let n = bits::writer::put_pad(out, sink);
-    bits::writer::store(out, n, 0);
+    put_last(out, call_start(st));
 }

@@ -62,9 +62,9 @@ pub fn encode(values: &[i16], state: SrlWriter, out: &mut [u8], num_bits: u8) ->
     if encoder::exceeds(values, state, num_bits, out.len()) {
         return Encoded::Refused(answer::OUTPUT_TOO_SHORT, state);
     }
-    let done = encoder::put_values(values, encoder::call_start(state), out, num_bits);
-    let sink = done.sink;
-    Encoded::Bytes(sink.at, encoder::writer_of(done))
+    let done = encoder::put_call(values, state, out, num_bits);
+    let next = done.state;
+    Encoded::Bytes(done.count, next)
 }
 
 // Writes the end of the stream from the start of `out`: the pending zeros, the padding and a byte 0.

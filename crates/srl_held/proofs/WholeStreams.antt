@@ -1,5 +1,5 @@
 -- Laws of a whole stream: the values' bits, the pending run, the padding and a byte 0 in a row are its bytes; what is refused of it, test by test. Assumes nothing.
-use mathlib.Core.Path.{_≡_, refl, ap, sym, _∙_, subst}
+use mathlib.Core.Path.{_≡_, refl, ap, sym, _∙_}
 use mathlib.Core.Bool.{Bool, true, false, cond}
 use mathlib.Core.List.{List, [], _∷_, _++_, append-assoc}
 use Prim.Native.Nat.{ℕ, zero, suc, _+_, _-_, _^_, _≤_, _<_}
@@ -11,21 +11,19 @@ use lib.ListN.{length, set, length-append}
 use lib.Seq.{sets}
 use borrow.Author.Tests.{lt-ltb, le-ltb, ltb-true, ltb-false}
 use Rattle.bits.specs.Written.{pack, writer, after}
-use Rattle.bits.specs.Inner.{Sound, Room, write, Wrote, padCount, padOut}
-use Rattle.bits.specs.declared.writer.BitWriter.{BitWriter}
-use Rattle.bits.proofs.Puts.{then, wrote-sound, wrote-at}
+use Rattle.bits.specs.Inner.{write, padCount, settled, settledOut}
+use Rattle.bits.proofs.Puts.{then}
 use Rattle.bits.proofs.Packed.{pack-append, sets-append, sets-start, padded}
 use Rattle.answer.specs.Refusals.{invalidBitCount, outputTooShort, unless, firstOf, noRoom, stored}
 use Rattle.answer.proofs.Numbers.{stored-some}
 use Rattle.srl_rules.specs.Rules.{widthOk}
 use Rattle.srl_encoder.specs.Encode.{freshWriter, bitsFrom, callBytes, callAfter, fault}
 use Rattle.srl_encoder.specs.Finish.{flush, finishBytes, finished}
-use Rattle.srl_encoder.specs.Inner.{callStart, callState, callWrite, GoodWriter, Good}
+use Rattle.srl_encoder.specs.Inner.{callStart, WroteValues, WroteEnd, flushed, GoodWriter, Good}
 use Rattle.srl_encoder.specs.declared.SrlWriter.{SrlWriter}
 use Rattle.srl_encoder.specs.declared.Finished.the-variants.{Stream, Refused}
 use Rattle.srl_encoder.specs.declared.encoder.CallState.{CallState}
-use Rattle.srl_encoder.proofs.EncodedCalls.{call-sink, call-good}
-use Rattle.srl_encoder.proofs.Runs.{length-flush}
+use Rattle.srl_encoder.proofs.EncodedCalls.{call-count, call-good}
 use Rattle.srl_held.specs.Stream.{streamBytes, streamRefusal, EncodesStream}
 
 -- the first state is good
@@ -54,19 +52,16 @@ module _ (w : ℕ) (vs : List ℤ) where
       sym (append-assoc (callBytes w freshWriter vs) (pack (last .current) (last .«bit_count») run) (0 ∷ []))
       ∙ ap (λ l. l ++ (0 ∷ [])) (sym (pack-append (bitsFrom w freshWriter vs) run 0 0 0))
 
-  -- d and o are the state and the output after the values, k and p the writer and the output after the run, n and q what the padding gives
-  pub stream-out : (out : List ℕ) {c d : CallState} {k : BitWriter} {o p q : List ℕ} {n : ℕ} → c ≡ callStart freshWriter → d ≡ callState w c vs → o ≡ callWrite w out c vs
-      → Wrote o (d .sink) (flush (d .kp) (d .zeros)) k p → n ≡ padCount k → q ≡ padOut p k
-      → (n + 1 ≡ length (streamBytes w vs)) × (set q n 0 ≡ sets out 0 (streamBytes w vs))
-  stream-out out {c} {d} {k} {o} {p} {q} {n} a b f e g h =
-      let s : d ≡ callState w (callStart freshWriter) vs = b ∙ ap (λ x. callState w x vs) a in
-      let y : Wrote out (writer 0 0 0) (bitsFrom w freshWriter vs) (d .sink) o = (ap (λ x. x .sink) s, f ∙ ap (λ x. callWrite w out x vs) a) in
-      let z : flush (d .kp) (d .zeros) ≡ run = ap (λ x. flush (x .kp) (x .zeros)) s in
-      let t = then out (writer 0 0 0) (bitsFrom w freshWriter vs) run y (e .0 ∙ ap (after (d .sink)) z, e .1 ∙ ap (write o (d .sink)) z) in
-      let r = padded bits out (t .0) (t .1) g h in
-      let i : n ≡ 0 + length (pack 0 0 bits) = r .0 ∙ sym (zero-add (length (pack 0 0 bits))) in (
-        omega (arith, r .0, length-append (pack 0 0 bits) (0 ∷ []), ap length stream-packed),
-        ap (λ l. set l n 0) (r .1) ∙ ap (λ j. set (sets out 0 (pack 0 0 bits)) j 0) i ∙ sym (sets-append (pack 0 0 bits) (0 ∷ []) out 0) ∙ ap (sets out 0) (sym stream-packed),
+  -- d and o are the state and the output after the values, n and q what the end gives
+  pub stream-out : (out : List ℕ) {d : CallState} {o q : List ℕ} {n : ℕ} → WroteValues w out (callStart freshWriter) vs d o → WroteEnd o d n q
+      → (n ≡ length (streamBytes w vs)) × (q ≡ sets out 0 (streamBytes w vs))
+  stream-out out {d} {o} a e =
+      let z : flush (d .kp) (d .zeros) ≡ run = ap (λ x. flush x (d .zeros)) (a .kp) ∙ ap (flush (last .kp)) (a .zeros) in
+      let t = then out (writer 0 0 0) (bitsFrom w freshWriter vs) run (a .bits .writer, a .bits .out) (ap (after (settled (d .sink))) z, ap (write (settledOut o (d .sink)) (settled (d .sink))) z) in
+      let r = padded bits out (t .0) (t .1) refl refl in
+      let i : padCount (flushed d) ≡ 0 + length (pack 0 0 bits) = r .0 ∙ sym (zero-add (length (pack 0 0 bits))) in (
+        omega (arith, e .count, r .0, length-append (pack 0 0 bits) (0 ∷ []), ap length stream-packed),
+        e .out ∙ ap (λ l. set l (padCount (flushed d)) 0) (r .1) ∙ ap (λ j. set (sets out 0 (pack 0 0 bits)) j 0) i ∙ sym (sets-append (pack 0 0 bits) (0 ∷ []) out 0) ∙ ap (sets out 0) (sym stream-packed),
       )
 
   -- ════ what the inner functions ask, where no value is refused ════
@@ -76,18 +71,13 @@ module _ (w : ℕ) (vs : List ℤ) where
     pub last-good : GoodWriter last
     last-good = call-good w freshWriter vs fresh-good ok
 
-    -- the values are stored: d is the state after them
-    pub flush-room : {d : CallState} → length (streamBytes w vs) < 2 ^ 63 → d ≡ callState w (callStart freshWriter) vs → Good d × Room (d .sink) (d .zeros + 40)
-    flush-room {d} h e =
-        let g = last-good in
-        subst (λ x. Good x × Room (x .sink) (x .zeros + 40)) (sym e)
-        ((g .0, g .1), omega (arith, call-sink w freshWriter vs, stream-length, g .2))
-
-    -- so is the run: k is the writer after it
-    pub pad-room : {d : CallState} {k : BitWriter} → length (streamBytes w vs) < 2 ^ 63 → d ≡ callState w (callStart freshWriter) vs → k ≡ after (d .sink) (flush (d .kp) (d .zeros)) → Sound k × Room k 1
-    pad-room {d} {k} h e f =
-        let r = flush-room {d = d} h e in
-        (wrote-sound (d .sink) (flush (d .kp) (d .zeros)) f (r .0 .0), omega (arith, wrote-at (d .sink) (flush (d .kp) (d .zeros)) f, length-flush (d .kp) (d .zeros) (r .0 .1), r .1))
+    -- the values are written: d is the state after them
+    pub last-room : {out o : List ℕ} {d : CallState} → length (streamBytes w vs) < 2 ^ 63 → WroteValues w out (callStart freshWriter) vs d o → Good d × (d .sink .at + (d .zeros + 200) < 2 ^ 64)
+    last-room h a =
+        let g = last-good in (
+          (a .bits .sound, rw (a .kp) (g .1)),
+          omega (arith, a .bits .near, a .zeros, call-count w freshWriter vs (omega arith), stream-length, h, g .2),
+        )
 
   -- ════ measuring ════
 

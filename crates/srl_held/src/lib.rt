@@ -118,12 +118,11 @@ fn stream_exceeds(values: &[i16], num_bits: u8, room: usize) -> bool
     if srl_encoder::encoder::exceeds(values, fresh, num_bits, room) {
         return true;
     }
-    let start = srl_encoder::encoder::call_start(fresh);
     let mut scratch = [0u8; 1];
-    let done = srl_encoder::encoder::put_values(values, start, &mut scratch, num_bits);
-    let sink = done.sink;
-    let need = srl_encoder::encoder::end_length(srl_encoder::encoder::writer_of(done));
-    room - sink.at < need
+    let done = srl_encoder::encoder::put_call(values, fresh, &mut scratch, num_bits);
+    let last = done.state;
+    let need = srl_encoder::encoder::end_length(last);
+    room - done.count < need
 }
 
 // The stream of the values, from the start of `out`: how many bytes it is. The caller has measured it.
@@ -138,10 +137,7 @@ fn put_stream(values: &[i16], out: &mut [u8], num_bits: u8) -> usize
 {
     let start = srl_encoder::encoder::call_start(srl_encoder::SrlWriter::new());
     let done = srl_encoder::encoder::put_values(values, start, out, num_bits);
-    let sink = srl_encoder::encoder::put_flush(out, done);
-    let n = bits::writer::put_pad(out, sink);
-    bits::writer::store(out, n, 0);
-    n + 1
+    srl_encoder::encoder::put_last(out, done)
 }
 
 // Writes the whole stream of the values, of `num_bits` bits where they are nonzero, from the start of `out`.

@@ -7,7 +7,7 @@ use lib.ListN.{length}
 use borrow.Author.Tests.{not-true, not-false, ltb-false}
 use Rattle.srl_rules.specs.Rules.{widthOk}
 use Rattle.srl_encoder.specs.Encode.{writerOk, callBytes}
-use Rattle.srl_encoder.proofs.EncodedCalls.{writerOk-good, call-sink, refusal-state, refusal-width, refusal-rest, refusal-room, refused, accepted}
+use Rattle.srl_encoder.proofs.EncodedCalls.{writerOk-good, refusal-state, refusal-width, refusal-rest, refusal-room, refused, accepted}
 use Rattle.answer.specs.Refusals.{invalidBitCount, outputTooShort, impossibleState}
 use Rattle.answer.proofs.Numbers.{firstOf-some}
 use Rattle.srl_rules.proofs.Widths.{widthOk-width}
@@ -59,21 +59,25 @@ returns-4 c =
     refused (a .state) (a .values .now) (a .out .now) (a .num-bits) outputTooShort (λ e. omega arith)
     (refusal-room (a .state) (a .values .now) (a .out .now) (a .num-bits) (good (c .before .before .before .before .before .before)) (wide (c .before .before .before .before)) (c .before .before .before .values-fault .ensures) (c .before .before .if3 .left) (c .before .exceeds .ensures) ∙ ap (λ b. cond b outputTooShort 0) (c .if4 .taken))
 
-put-values-requires : tie.Need-put-values-requires
-put-values-requires c κs =
-    let k = c .before .before .before .before .before .before .before .before .before .before .before in
-    let a = k .args in
-    let g = writerOk-good (a .state) (good (c .before .before .before .before .before .before .before .before)) in
-    rw (c .before .call-start .ensures)
-    ((g .0, g .1), g .2, widthOk-width (a .num-bits) (wide (c .before .before .before .before .before .before)), omega (arith, call-sink (a .num-bits) (a .state) (a .values .now), fits (c .before .before), k .good))
+put-call-requires : tie.Need-put-call-requires
+put-call-requires c κs =
+    let start = c .before .before .before .before .before .before .before .before .before .before in
+    let a = start .args in (
+      writerOk-good (a .state) (good (c .before .before .before .before .before .before .before)),
+      widthOk-width (a .num-bits) (wide (c .before .before .before .before .before)),
+      omega (arith, fits (c .before), start .good),
+    )
 
 returns-5 : tie.Need-returns-5
 returns-5 c =
-    let a = c .before .before .before .before .before .before .before .before .before .before .before .before .before .before .before .before .args in
-    let e = c .before .before .before .before .put-values .ensures in
+    let put = c .before .before .before in
+    let test = put .before .before in
+    let width = test .before .before .before .before in
+    let state = width .before .before in
+    let a = state .before .before .before .args in
     accepted (a .state) (a .values .now) (a .out .now) (a .num-bits)
-    (refusal-room (a .state) (a .values .now) (a .out .now) (a .num-bits) (good (c .before .before .before .before .before .before .before .before .before .before .before .before .before)) (wide (c .before .before .before .before .before .before .before .before .before .before .before)) (c .before .before .before .before .before .before .before .before .before .before .values-fault .ensures) (c .before .before .before .before .before .before .before .before .before .if3 .left) (c .before .before .before .before .before .before .before .before .exceeds .ensures) ∙ ap (λ b. cond b outputTooShort 0) (c .before .before .before .before .before .before .before .if4 .left))
-    (fits (c .before .before .before .before .before .before .before)) (c .before .before .before .before .before .before .call-start .ensures) (e .0) (e .1) (c .writer-of .ensures)
+    (refusal-room (a .state) (a .values .now) (a .out .now) (a .num-bits) (good state) (wide width) (test .before .before .before .values-fault .ensures) (test .before .before .if3 .left) (test .before .exceeds .ensures) ∙ ap (λ b. cond b outputTooShort 0) (test .if4 .left))
+    (fits test) (put .put-call .ensures)
 
 pub encode-spec : {M : Type 1} → statement M
-encode-spec = tie.close (tie.spec (λ c κs. search needs) returns (λ c κs. search needs) returns-2 values-fault-requires returns-3 exceeds-requires returns-4 (λ c κs. search needs) put-values-requires (λ c κs. search needs) (λ c. search needs) returns-5)
+encode-spec = tie.close (tie.spec (λ c κs. search needs) returns (λ c κs. search needs) returns-2 values-fault-requires returns-3 exceeds-requires returns-4 put-call-requires (λ c. search needs) returns-5)

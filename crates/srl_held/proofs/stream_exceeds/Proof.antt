@@ -8,8 +8,6 @@ use borrow.Author.Tests.{ltb-false}
 use borrow.Author.Needs.{needs}
 use Rattle.srl_encoder.specs.Encode.{freshWriter, callBytes, callAfter}
 use Rattle.srl_encoder.specs.Finish.{finishBytes}
-use Rattle.srl_encoder.specs.Inner.{callStart, callState, writerBack}
-use Rattle.srl_encoder.proofs.EncodedCalls.{call-sink}
 use Rattle.srl_held.proofs.WholeStreams.{fresh-good, last-good, values-exceed, end-exceeds}
 use Rattle.srl_held.proofs.stream_exceeds.Statement.{statement}
 use Rattle.srl_held.proofs.stream_exceeds.Tie as tie
@@ -25,43 +23,40 @@ measured c = c .exceeds .ensures ∙ ap (λ st. ltb (c .before .before .args .ro
 fits : (c : tie.Else1) → length (callBytes (c .before .before .before .args .num-bits) freshWriter (c .before .before .before .args .values .now)) ≤ c .before .before .before .args .room
 fits c = ltb-false _ _ (sym (measured (c .before)) ∙ c .if1 .left)
 
--- the values are put from the first state on
-started : (c : tie.After-call-start) → c .call-start .result ≡ callStart freshWriter
-started c = c .call-start .ensures ∙ ap callStart (c .before .before .before .new .ensures)
-
 returns : tie.Need-returns
 returns c = values-exceed (c .before .before .before .args .num-bits) (c .before .before .before .args .values .now) (c .before .before .before .args .room) (sym (measured (c .before)) ∙ c .if1 .taken)
 
-put-values-requires : tie.Need-put-values-requires
-put-values-requires c κs =
+put-call-requires : tie.Need-put-call-requires
+put-call-requires c κs =
+    let start = c .before .before .before .before in
+    rw (c .before .before .before .new .ensures) (fresh-good, start .pre .0, omega (arith, fits (c .before), start .pre .2))
+
+-- the first state's call was written
+wrote : (c : tie.After-put-call)
+    → (c .put-call .result .count ≡ length (callBytes (c .before .before .before .before .before .args .num-bits) freshWriter (c .before .before .before .before .before .args .values .now)))
+    × (c .put-call .result .state ≡ callAfter (c .before .before .before .before .before .args .num-bits) freshWriter (c .before .before .before .before .before .args .values .now))
+wrote c =
     let a = c .before .before .before .before .before .args in
-    rw (started (c .before))
-    ((fresh-good .0, fresh-good .1), fresh-good .2, c .before .before .before .before .before .pre .0, omega (arith, call-sink (a .num-bits) freshWriter (a .values .now), fits (c .before .before), c .before .before .before .before .before .pre .2))
-
--- the state after them
-stored : (c : tie.After-put-values) → c .put-values .result ≡ callState (c .before .before .before .before .before .before .args .num-bits) (callStart freshWriter) (c .before .before .before .before .before .before .args .values .now)
-stored c = c .put-values .ensures .0 ∙ ap (λ x. callState (c .before .before .before .before .before .before .args .num-bits) x (c .before .before .before .before .before .before .args .values .now)) (started (c .before .before))
-
-last : (c : tie.After-writer-of) → c .writer-of .result ≡ callAfter (c .before .before .before .before .before .before .before .before .before .args .num-bits) freshWriter (c .before .before .before .before .before .before .before .before .before .args .values .now)
-last c = c .writer-of .ensures ∙ ap writerBack (stored (c .before .before .before))
+    let e = c .before .before .before .before .new .ensures in
+    (c .put-call .ensures .count ∙ ap (λ st. length (callBytes (a .num-bits) st (a .values .now))) e, c .put-call .ensures .state ∙ ap (λ st. callAfter (a .num-bits) st (a .values .now)) e)
 
 end-length-requires : tie.Need-end-length-requires
-end-length-requires c κs = rw (last c) (last-good (c .before .before .before .before .before .before .before .before .before .args .num-bits) (c .before .before .before .before .before .before .before .before .before .args .values .now) (c .before .before .before .before .before .before .before .before .before .pre .1))
-
--- so many bytes they are
-at : (c : tie.After-put-values) → c .put-values .result .sink .at ≡ length (callBytes (c .before .before .before .before .before .before .args .num-bits) freshWriter (c .before .before .before .before .before .before .args .values .now))
-at c = ap (λ x. x .sink .at) (stored c) ∙ call-sink (c .before .before .before .before .before .before .args .num-bits) freshWriter (c .before .before .before .before .before .before .args .values .now)
+end-length-requires c κs =
+    let put = c .before .before in
+    let start = put .before .before .before .before .before in
+    rw (wrote put .1) (last-good (start .args .num-bits) (start .args .values .now) (start .pre .1))
 
 sub-result : tie.Need-sub-result
-sub-result c = omega (arith, at (c .before .before .before .before .before), fits (c .before .before .before .before .before .before .before .before))
+sub-result c = let put = c .before .before .before .before in omega (arith, wrote put .0, fits (put .before .before))
 
 returns-2 : tie.Need-returns-2
 returns-2 c =
-    let a = c .before .before .before .before .before .before .before .before .before .before .before .args in
-    end-exceeds (a .num-bits) (a .values .now) (a .room) (omega (arith, at (c .before .before .before .before .before), fits (c .before .before .before .before .before .before .before .before))) (at (c .before .before .before .before .before))
-    (c .before .end-length .ensures ∙ ap (λ st. length (finishBytes st)) (last (c .before .before)))
+    let put = c .before .before .before .before in
+    let a = put .before .before .before .before .before .args in
+    end-exceeds (a .num-bits) (a .values .now) (a .room) (omega (arith, wrote put .0, fits (put .before .before))) (wrote put .0)
+    (c .before .end-length .ensures ∙ ap (λ st. length (finishBytes st)) (wrote put .1))
 
 pub stream-exceeds-spec : {M : Type 1} → statement M
 stream-exceeds-spec =
     tie.close
-    (tie.spec (λ c κs. search needs) exceeds-requires returns (λ c κs. search needs) (λ c. search needs) put-values-requires (λ c κs. search needs) end-length-requires sub-result returns-2)
+    (tie.spec (λ c κs. search needs) exceeds-requires returns (λ c. search needs) put-call-requires end-length-requires sub-result returns-2)

@@ -5,15 +5,14 @@ use native.Mathlib.Numerals.{add-one}
 use native.Mathlib.Omega.{arith}
 use lib.ListN.{length, drop, getD, drop-of-length-le}
 use lib.Seq.{drop-cons}
-use lib.IntN.{pos}
-use mir.Val.{toZ, ofZ}
+use lib.IntN.{pos, natAbs}
 use mir.Syntax.{w16}
 use mir.ValLaws.{toZ-ofZ}
 use borrow.Author.Needs.{needs}
 use Rattle.srl_encoder.specs.Encode.{valueZeros, valueFault, fault}
 use Rattle.answer.specs.Refusals.{firstOf}
 use Rattle.answer.proofs.Numbers.{firstOf-some}
-use Rattle.srl_encoder.proofs.EncodedValues.{value-zeros}
+use Rattle.srl_encoder.proofs.EncodedValues.{value-zeros, unsigned}
 use Rattle.srl_encoder.proofs.encoder.find_fault.Statement.{statement}
 use Rattle.srl_encoder.proofs.encoder.find_fault.Tie as tie
 
@@ -27,36 +26,38 @@ loop-holds : tie.Need-loop-holds Inv-loop μ-loop
 loop-holds c = (omega arith, omega arith, refl)
 
 value-fault-requires : tie.Need-value-fault-requires Inv-loop μ-loop
-value-fault-requires c κs = c .before .before .before .pre .0
+value-fault-requires c κs = c .before .before .before .before .pre .0
 
--- the value as it was passed on
-same : (c : tie.After-v Inv-loop μ-loop) → toZ w16 (ofZ w16 (getD (c .before .before .before .args .values .now) (c .before .before .loop .i) (pos 0))) ≡ getD (c .before .before .before .args .values .now) (c .before .before .loop .i) (pos 0)
-same c = toZ-ofZ w16 _ (record { sfits = c .v .given })
+-- the value's magnitude
+abs : (c : tie.After-magnitude Inv-loop μ-loop) → c .magnitude .result ≡ natAbs (getD (c .before .before .before .before .args .values .now) (c .before .before .before .loop .i) (pos 0))
+abs c =
+    c .magnitude .ensures
+    ∙ ap natAbs (toZ-ofZ w16 (getD (c .before .before .before .before .args .values .now) (c .before .before .before .loop .i) (pos 0)) (record { sfits = c .before .magnitude-arg .given }))
 
 -- the refusal of all values, by that of the next
 all : (c : tie.After-value-fault Inv-loop μ-loop)
-    → fault (c .before .before .before .before .args .num-bits) (c .before .before .before .before .args .zeros) (c .before .before .before .before .args .values .now)
-    ≡ firstOf (c .value-fault .result) (fault (c .before .before .before .before .args .num-bits) (valueZeros (c .before .before .before .loop .z) (getD (c .before .before .before .before .args .values .now) (c .before .before .before .loop .i) (pos 0))) (drop (suc (c .before .before .before .loop .i)) (c .before .before .before .before .args .values .now)))
+    → fault (c .before .before .before .before .before .args .num-bits) (c .before .before .before .before .before .args .zeros) (c .before .before .before .before .before .args .values .now)
+    ≡ firstOf (c .value-fault .result) (fault (c .before .before .before .before .before .args .num-bits) (valueZeros (c .before .before .before .before .loop .z) (getD (c .before .before .before .before .before .args .values .now) (c .before .before .before .before .loop .i) (pos 0))) (drop (suc (c .before .before .before .before .loop .i)) (c .before .before .before .before .before .args .values .now)))
 all c =
-    let a = c .before .before .before .before .args in
-    let l = c .before .before .before .loop in
+    let a = c .before .before .before .before .before .args in
+    let l = c .before .before .before .before .loop in
     let vs = a .values .now in
     let v = getD vs (l .i) (pos 0) in
     l .inv .2
     ∙ ap (fault (a .num-bits) (l .z)) (drop-cons vs (l .i) (pos 0) (omega arith))
     ∙ ap (λ f. firstOf f (fault (a .num-bits) (valueZeros (l .z) v) (drop (suc (l .i)) vs)))
-    (sym (c .value-fault .ensures ∙ ap (valueFault (a .num-bits) (l .z)) (same (c .before))))
+    (sym (c .value-fault .ensures ∙ ap (λ m. valueFault (a .num-bits) (l .z) (pos m)) (abs (c .before)) ∙ sym (unsigned (a .num-bits) (l .z) v .0)))
 
 returns : tie.Need-returns Inv-loop μ-loop
 returns c = sym (all (c .before) ∙ firstOf-some _ _ (c .if1 .taken))
 
 loop-again : tie.Need-loop-again Inv-loop μ-loop
 loop-again c =
-    let a = c .before .before .before .before .before .before .args in
-    let l = c .before .before .before .before .before .loop in
+    let a = c .before .before .before .before .before .before .before .args in
+    let l = c .before .before .before .before .before .before .loop in
     let vs = a .values .now in
     let v = getD vs (l .i) (pos 0) in
-    let z : c .zeros-after .result ≡ valueZeros (l .z) v = c .zeros-after .ensures ∙ ap (valueZeros (l .z)) (same (c .before .before .before)) in (
+    let z : c .zeros-after .result ≡ valueZeros (l .z) v = c .zeros-after .ensures ∙ ap (λ m. valueZeros (l .z) (pos m)) (abs (c .before .before .before)) ∙ sym (unsigned (a .num-bits) (l .z) v .1) in (
       omega arith,
       omega (arith, z, value-zeros (l .z) v),
       all (c .before .before)
@@ -80,6 +81,7 @@ find-fault-spec =
     loop-holds
     (λ c. search needs)
     (λ c. omega arith)
+    (λ c κs. search needs)
     value-fault-requires
     returns
     (λ c κs. omega arith)

@@ -6,10 +6,10 @@ use borrow.Author.Needs.{needs}
 use Rattle.srl_encoder.proofs.encoder.flush_length.Statement.{statement}
 use Rattle.srl_encoder.proofs.encoder.flush_length.Tie as tie
 
-returns-2 : tie.Need-returns-2
-returns-2 c =
+returns : tie.Need-returns
+returns c =
     let a = c .before .before .before .args in
-    c .run-length .ensures ∙ sym (ap length (flush-some (a .kp) (a .zeros) (c .before .before .if1 .left) ∙ c .before .plan-run .ensures .bits))
+    c .run-length .ensures ∙ sym (ap length (flush-some (a .kp) (a .zeros) (c .before .before .if1 .taken) ∙ c .before .plan-run .ensures .bits))
 
 pub flush-length-spec : {M : Type 1} → statement M
-flush-length-spec = tie.close (tie.spec (λ c. search needs) (λ c κs. search needs) (λ c κs. search needs) returns-2)
+flush-length-spec = tie.close (tie.spec (λ c κs. search needs) (λ c κs. search needs) returns (λ c. search needs))

@@ -24,7 +24,7 @@ shl-result c = omega (arith, c .before .pre)
 add-result : tie.Need-add-result
 add-result c =
     let n = c .before .args .m - 1 + c .before .args .stop in
-    let s : c .bit-of .result * 2 ^ n < 2 ^ 16 = shl-small 1 n 16 (sign c) (omega (arith, c .before .pre)) in
+    let s : c .bit-of .result * 2 ^ n < 2 ^ 32 = shl-small 1 n 32 (sign c) (omega (arith, c .before .pre)) in
     rw (exact c) (record { fits = omega (arith, s, c .before .pre .2) })
 
 returns : tie.Need-returns

@@ -1,4 +1,4 @@
--- `srl_encoder::encoder::put_nonzero` meets its contract: the number that is written is all of the value, or its parts follow each other. Assumes nothing.
+-- `srl_encoder::encoder::put_nonzero` meets its contract: the value's parts follow each other. Assumes nothing.
 use mathlib.Core.Path.{ap, _∙_}
 use mathlib.Core.Bool.{false}
 use mathlib.Core.List.{[], _∷_, _++_}
@@ -7,8 +7,10 @@ use native.Mathlib.Omega.{arith}
 use lib.ListN.{replicate, length-replicate}
 use borrow.Author.Needs.{needs}
 use Rattle.bits.specs.Written.{bitsOf}
-use Rattle.bits.proofs.Puts.{then, renamed, wrote-sound, wrote-at}
-use Rattle.srl_encoder.proofs.Nonzeros.{stop-le, nonzero-parts, nonzero-word}
+use Rattle.bits.specs.Inner.{WroteWords}
+use Rattle.bits.proofs.Numbers.{bit-le}
+use Rattle.bits.proofs.Words.{words-then, words-renamed}
+use Rattle.srl_encoder.proofs.Nonzeros.{stop-le, stop-small, sign-bit, nonzero-parts}
 use Rattle.srl_encoder.proofs.encoder.put_nonzero.Statement.{statement}
 use Rattle.srl_encoder.proofs.encoder.put_nonzero.Tie as tie
 
@@ -16,56 +18,49 @@ use Rattle.srl_encoder.proofs.encoder.put_nonzero.Tie as tie
 ends : (c : tie.After-stop-count) → c .stop-count .result ≤ 1
 ends c = rw (c .stop-count .ensures) (stop-le (c .before .before .args .num-bits) (c .before .before .args .m))
 
-nonzero-word-requires : tie.Need-nonzero-word-requires
-nonzero-word-requires c κs = (c .before .before .before .pre .2, omega (arith, c .if1 .taken), ends (c .before))
+put-word-requires : tie.Need-put-word-requires
+put-word-requires c κs =
+    let start = c .before .before .before .before in
+    (start .pre .0, omega (arith, start .pre .1), omega arith, rw (c .bit-of .ensures) (omega (arith, bit-le (start .args .negative))))
 
-add-put-bits : tie.Need-add-put-bits
-add-put-bits c = omega (arith, ends (c .before .before .before), c .before .before .if1 .taken)
+-- the sign is written
+signed : (c : tie.After-put-word) → WroteWords (c .before .before .before .before .before .args .out .now) (c .before .before .before .before .before .args .k) (c .before .before .before .before .before .args .negative ∷ []) (c .put-word .result) (c .put-word .last .0)
+signed c =
+    let a = c .before .before .before .before .before .args in
+    words-renamed (a .out .now) (a .k) (ap (bitsOf 1) (c .before .bit-of .ensures) ∙ sign-bit (a .negative)) (c .put-word .ensures)
 
-put-bits-requires : tie.Need-put-bits-requires
-put-bits-requires c κs = let start = c .before .before .before .before .before in (start .pre .0, omega (arith, start .pre .1), omega (arith, ends (c .before .before .before), c .before .before .if1 .taken))
+put-zero-words-requires : tie.Need-put-zero-words-requires
+put-zero-words-requires c κs =
+    let sign = c .before .before .before in
+    let start = sign .before .before .before .before .before in
+    let s = signed sign in
+    (s .sound, omega (arith, start .pre .0 .0, start .pre .1, s .near, start .fits .m))
+
+put-word-requires-2 : tie.Need-put-word-requires-2
+put-word-requires-2 c κs =
+    let zeros = c .before .before .before in
+    let sign = zeros .before .before .before .before in
+    let stop = sign .before .before .before in
+    let start = stop .before .before in
+    let s = signed sign in
+    let z = zeros .put-zero-words .ensures in
+    let e = ends stop in
+    (z .sound, omega (arith, start .pre .0 .0, start .pre .1, s .near, z .near, length-replicate (start .args .m - 1) false, start .fits .m), omega (arith, e), stop-small (stop .stop-count .result) (stop .stop-count .result) e (omega arith))
 
 returns : tie.Need-returns
 returns c =
-    let start = c .before .before .before .before .before .before .before .before in
+    let put = c .before .before in
+    let zeros = put .before .before .before .before in
+    let sign = zeros .before .before .before .before in
+    let stop = sign .before .before .before in
+    let start = stop .before .before in
     let a = start .args in
-    let s = c .before .before .before .before .before .before .stop-count in
-    renamed (a .out .now) (a .k) (ap (bitsOf (a .m + s .result)) (c .before .before .before .before .nonzero-word .ensures) ∙ nonzero-word (a .num-bits) (a .m) (s .result) (a .negative) (s .ensures) (start .pre .2))
-    (c .before .before .put-bits .ensures)
-
-put-zeros-requires : tie.Need-put-zeros-requires
-put-zeros-requires c κs =
-    let start = c .before .before .before .before .before .before .before .before in
-    let k = start .args .k in
-    let bs = start .args .negative ∷ [] in
-    let e = c .before .before .before .put-bit .ensures .0 in
-    (wrote-sound k bs e (start .pre .0), omega (arith, start .pre .1, wrote-at k bs e))
-
-put-bits-requires-2 : tie.Need-put-bits-requires-2
-put-bits-requires-2 c κs =
-    let start = c .before .before .before .before .before .before .before .before .before .before .before .before in
-    let k = start .args .k in
-    let bs = start .args .negative ∷ [] in
-    let sign = c .before .before .before .before .before .before .before .put-bit in
-    let e = sign .ensures .0 in
-    let zs = replicate (start .args .m - 1) false in
-    let d = c .before .before .before .put-zeros .ensures .0 in (
-      wrote-sound (sign .result) zs d (wrote-sound k bs e (start .pre .0)),
-      omega (arith, start .pre .1, wrote-at k bs e, wrote-at (sign .result) zs d, length-replicate (start .args .m - 1) false),
-      omega (arith, ends (c .before .before .before .before .before .before .before .before .before .before)),
-    )
-
-returns-2 : tie.Need-returns-2
-returns-2 c =
-    let start = c .before .before .before .before .before .before .before .before .before .before .before .before .before .before .before in
-    let a = start .args in
-    let s = c .before .before .before .before .before .before .before .before .before .before .before .before .before .stop-count in
+    let s = stop .stop-count in
     let zs = replicate (a .m - 1) false in
     let end = bitsOf (s .result) (s .result) in
-    let sign = c .before .before .before .before .before .before .before .before .before .before .put-bit in
-    renamed (a .out .now) (a .k) (nonzero-parts (a .num-bits) (a .m) (s .result) (a .negative) (s .ensures) (start .pre .2))
-    (then (a .out .now) (a .k) (a .negative ∷ []) (zs ++ end) (sign .ensures)
-    (then (sign .last .0) (sign .result) zs end (c .before .before .before .before .before .before .put-zeros .ensures) (c .before .before .put-bits2 .ensures)))
+    words-renamed (a .out .now) (a .k) (nonzero-parts (a .num-bits) (a .m) (s .result) (a .negative) (s .ensures) (start .pre .2))
+    (words-then (a .out .now) (a .k) (a .negative ∷ []) (zs ++ end) (signed sign)
+    (words-then (sign .put-word .last .0) (sign .put-word .result) zs end (zeros .put-zero-words .ensures) (put .put-word2 .ensures)))
 
 pub put-nonzero-spec : {M : Type 1} → statement M
-put-nonzero-spec = tie.close (tie.spec (λ c κs. search needs) nonzero-word-requires (λ c. search needs) add-put-bits put-bits-requires (λ c. search needs) returns (λ c κs. search needs) (λ c. search needs) (λ c. search needs) put-zeros-requires (λ c. search needs) put-bits-requires-2 (λ c. search needs) returns-2)
+put-nonzero-spec = tie.close (tie.spec (λ c κs. search needs) (λ c κs. search needs) (λ c. search needs) put-word-requires (λ c. search needs) (λ c. search needs) put-zero-words-requires (λ c. search needs) put-word-requires-2 (λ c. search needs) returns)

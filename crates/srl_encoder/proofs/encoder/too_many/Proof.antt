@@ -6,14 +6,14 @@ use native.Mathlib.Omega.{arith}
 use lib.ListN.{length, drop, getD, drop-of-length-le}
 use lib.Seq.{drop-cons}
 use lib.Dec.{ltb}
-use lib.IntN.{pos}
+use lib.IntN.{pos, natAbs}
 use mir.Syntax.{w16}
 use mir.ValLaws.{toZ-ofZ}
 use borrow.Author.Needs.{needs}
 use borrow.Author.Tests.{lt-ltb, le-ltb}
 use Rattle.srl_encoder.specs.Inner.{valueMeasure, callCount, GoodMeasure}
 use Rattle.srl_encoder.proofs.EncodedCalls.{count-step, count-none, count-mono}
-use Rattle.srl_encoder.proofs.EncodedValues.{value-kp, value-zeros}
+use Rattle.srl_encoder.proofs.EncodedValues.{value-kp, value-zeros, measure-unsigned}
 use Rattle.srl_encoder.proofs.encoder.too_many.Statement.{statement}
 use Rattle.srl_encoder.proofs.encoder.too_many.Tie as tie
 
@@ -30,23 +30,25 @@ loop-holds c = (omega arith, c .pre .0, omega (arith, c .pre .1), c .pre .3, ref
 
 measure-value-requires : tie.Need-measure-value-requires Inv-loop μ-loop
 measure-value-requires c κs =
-    let start = c .before .before .before in
-    let l = c .before .before .loop in
+    let start = c .before .before .before .before in
+    let l = c .before .before .before .loop in
     (l .inv .1, omega (arith, l .inv .2, l .inv .3, l .inv .0, start .pre, start .good), start .pre .2)
 
 -- what a turn's call gives, and what is then left to count
 next : (c : tie.After-measure-value Inv-loop μ-loop)
-    → c .measure-value .result ≡ valueMeasure (c .before .before .before .before .args .num-bits) (c .before .before .before .loop .cur) (getD (c .before .before .before .before .args .values .now) (c .before .before .before .loop .i) (pos 0))
+    → c .measure-value .result ≡ valueMeasure (c .before .before .before .before .before .args .num-bits) (c .before .before .before .before .loop .cur) (getD (c .before .before .before .before .before .args .values .now) (c .before .before .before .before .loop .i) (pos 0))
 next c =
-    let a = c .before .before .before .before .args in
-    let l = c .before .before .before .loop in
-    c .measure-value .ensures ∙ ap (valueMeasure (a .num-bits) (l .cur)) (toZ-ofZ w16 (getD (a .values .now) (l .i) (pos 0)) (record { sfits = c .before .v .given }))
+    let a = c .before .before .before .before .before .args in
+    let l = c .before .before .before .before .loop in
+    let v = getD (a .values .now) (l .i) (pos 0) in
+    let m : c .before .magnitude .result ≡ natAbs v = c .before .magnitude .ensures ∙ ap natAbs (toZ-ofZ w16 v (record { sfits = c .before .before .magnitude-arg .given })) in
+    c .measure-value .ensures ∙ ap (λ n. valueMeasure (a .num-bits) (l .cur) (pos n)) m ∙ sym (measure-unsigned (a .num-bits) (l .cur) v)
 
 rest : (c : tie.After-measure-value Inv-loop μ-loop)
-    → callCount (c .before .before .before .before .args .num-bits) (c .before .before .before .before .args .p) (c .before .before .before .before .args .values .now) ≡ callCount (c .before .before .before .before .args .num-bits) (c .measure-value .result) (drop (suc (c .before .before .before .loop .i)) (c .before .before .before .before .args .values .now))
+    → callCount (c .before .before .before .before .before .args .num-bits) (c .before .before .before .before .before .args .p) (c .before .before .before .before .before .args .values .now) ≡ callCount (c .before .before .before .before .before .args .num-bits) (c .measure-value .result) (drop (suc (c .before .before .before .before .loop .i)) (c .before .before .before .before .before .args .values .now))
 rest c =
-    let a = c .before .before .before .before .args in
-    let l = c .before .before .before .loop in
+    let a = c .before .before .before .before .before .args in
+    let l = c .before .before .before .before .loop in
     let vs = a .values .now in
     let v = getD vs (l .i) (pos 0) in
     l .inv .4
@@ -56,8 +58,8 @@ rest c =
 
 returns : tie.Need-returns Inv-loop μ-loop
 returns c =
-    let a = c .before .before .before .before .before .before .args in
-    let l = c .before .before .before .before .before .loop in
+    let a = c .before .before .before .before .before .before .before .args in
+    let l = c .before .before .before .before .before .before .loop in
     let r = c .before .before .measure-value .result in
     let h : a .limit < callCount (a .num-bits) (a .p) (a .values .now) =
     rw (rest (c .before .before)) (omega (arith, c .if1 .taken, count-mono (a .num-bits) r (drop (suc (l .i)) (a .values .now)))) in
@@ -65,8 +67,8 @@ returns c =
 
 loop-again : tie.Need-loop-again Inv-loop μ-loop
 loop-again c =
-    let a = c .before .before .before .before .before .before .args in
-    let l = c .before .before .before .before .before .loop in
+    let a = c .before .before .before .before .before .before .before .args in
+    let l = c .before .before .before .before .before .before .loop in
     let v = getD (a .values .now) (l .i) (pos 0) in
     let e = next (c .before .before) in (
       omega arith,
@@ -93,6 +95,7 @@ too-many-spec =
     loop-holds
     (λ c. search needs)
     (λ c. omega arith)
+    (λ c κs. search needs)
     measure-value-requires
     returns
     (λ c. omega arith)

@@ -1,4 +1,4 @@
--- `srl_encoder::encoder::both_word` meets its contract: at most 11 bits, shifted by at most 16. Assumes nothing.
+-- `srl_encoder::encoder::planned_word` meets its contract: at most 11 bits, shifted by at most 32. Assumes nothing.
 use mathlib.Core.Path.{_≡_, ap, _∙_}
 use Prim.Native.Nat.{_+_, _-_, _*_, _/_, _%_, _^_, _≤_, _<_}
 use native.Mathlib.Nat.{lt-of-lt-of-le}
@@ -9,8 +9,8 @@ use Rattle.bits.specs.Bits.{bitOf}
 use Rattle.bits.proofs.Powers.{shl-small}
 use Rattle.srl_encoder.proofs.Nonzeros.{word-small}
 use Rattle.srl_encoder.proofs.Runs.{plan-small}
-use Rattle.srl_encoder.proofs.encoder.both_word.Statement.{statement}
-use Rattle.srl_encoder.proofs.encoder.both_word.Tie as tie
+use Rattle.srl_encoder.proofs.encoder.planned_word.Statement.{statement}
+use Rattle.srl_encoder.proofs.encoder.planned_word.Tie as tie
 
 -- the run has kp / 8 + 1 bits
 small : (c : tie.After-run-size) → c .run-size .result + c .before .args .r .rest < 2 ^ (c .before .args .r .kp / 8 + 1)
@@ -36,9 +36,9 @@ add-result c =
     let start = c .before .before .before in
     let a = start .args in
     let n = a .m + a .stop in
-    let s : (c .before .before .run-size .result + a .r .rest) * 2 ^ n < 2 ^ 27 = shl-small (a .r .kp / 8 + 1) n 27 (small (c .before .before)) (omega (arith, start .pre .0 .0, start .pre .2, start .pre .3)) in
-    let w : bitOf (a .negative) * 2 ^ (a .m - 1 + a .stop) + a .stop < 2 ^ 16 =
-    lt-of-lt-of-le (word-small (a .m) (a .stop) (a .negative) (start .pre .3) (start .pre .1)) (pow-mono {i = n} {j = 16} (omega (arith, start .pre .2, start .pre .3))) in
+    let s : (c .before .before .run-size .result + a .r .rest) * 2 ^ n < 2 ^ 43 = shl-small (a .r .kp / 8 + 1) n 43 (small (c .before .before)) (omega (arith, start .pre .0 .0, start .pre .2, start .pre .3)) in
+    let w : bitOf (a .negative) * 2 ^ (a .m - 1 + a .stop) + a .stop < 2 ^ 32 =
+    lt-of-lt-of-le (word-small (a .m) (a .stop) (a .negative) (start .pre .3) (start .pre .1)) (pow-mono {i = n} {j = 32} (omega (arith, start .pre .2, start .pre .3))) in
     rw (exact (c .before .before), c .nonzero-word .ensures) (record { fits = omega (arith, s, w) })
 
 returns : tie.Need-returns
@@ -49,5 +49,5 @@ returns c =
     ∙ ap (λ x. (x + a .r .rest) * 2 ^ n + c .nonzero-word .result) (c .before .before .run-size .ensures)
     ∙ ap (λ x. (2 ^ (a .r .kp / 8) + a .r .rest) * 2 ^ n + x) (c .nonzero-word .ensures)
 
-pub both-word-spec : {M : Type 1} → statement M
-both-word-spec = tie.close (tie.spec (λ c κs. search needs) add-run (λ c. search needs) add-len (λ c. search needs) shl-result (λ c κs. search needs) add-result returns)
+pub planned-word-spec : {M : Type 1} → statement M
+planned-word-spec = tie.close (tie.spec (λ c κs. search needs) add-run (λ c. search needs) add-len (λ c. search needs) shl-result (λ c κs. search needs) add-result returns)
