@@ -19,7 +19,7 @@ use Rattle.bands.specs.Positions.{rowInDomain}
 use Rattle.srl.specs.Laws.{Legal, legal}
 use Rattle.upgrade_steps.specs.Steps.{Step, Source, skipped, srl, raw, source, sourceOf, steps, srlWidth, srlWidths, rawWidth, rawWidths}
 use Rattle.answer.specs.Refusals.{sliceTooShort, outOfDomain, magnitudeOutOfRange, outputTooShort, unless, firstOf, longEnough}
-use Rattle.progressive_encoder.specs.Encode.{srlDifference, rawDifference, srlGiven, srlDifferences, rawGiven, rawDifferences, srlBytes, rawBytes, anyTooLarge, passFault, encodePassRefusal}
+use Rattle.progressive_encoder.specs.Encode.{floorRule, srlDifference, rawDifference, srlGiven, srlDifferences, rawGiven, rawDifferences, srlBytes, rawBytes, anyTooLarge, passFault, encodePassRefusal}
 use Rattle.progressive.specs.Laws.{Small, small, Sent}
 use Rattle.progressive.specs.OwnCuts.{OwnCut, OwnCuts, OwnCutsSent}
 
@@ -117,8 +117,8 @@ record Gives (ts : List Step) (cs ps ss : List ℤ) : Type 0 where
   coefficients-long : length ts ≤ length cs
   previous-long : length ts ≤ length ps
   signs-long : length ts ≤ length ss
-  legals : Legal (srlWidths ts ss) (srlDifferences ts cs ps ss)
-  smalls : Small (rawWidths ts ss) (rawDifferences ts cs ps ss)
+  legals : Legal (srlWidths ts ss) (srlDifferences floorRule ts cs ps ss)
+  smalls : Small (rawWidths ts ss) (rawDifferences floorRule ts cs ps ss)
 
 -- place by place
 gives : {ts : List Step} {cs ps ss : List ℤ} → OwnCuts ts cs ps ss → Gives ts cs ps ss
@@ -144,7 +144,7 @@ none-large (legal {w = w} {v = v} {ws = ws} {vs = vs} h l) = ap (λ (b : Bool). 
 -- ════ the law ════
 
 -- of every list of steps
-all-sent : (ts : List Step) (cs ps ss : List ℤ) → OwnCuts ts cs ps ss → Sent ts cs ps ss
+all-sent : (ts : List Step) (cs ps ss : List ℤ) → OwnCuts ts cs ps ss → Sent floorRule ts cs ps ss
 all-sent ts cs ps ss o =
     let g = gives o in
     record {
@@ -167,12 +167,12 @@ no-5 true true false false zero h e = absurd (omega (arith, e))
 
 -- of a call
 calls-sent : (cs ps ss : List ℤ) (prev curr : List ℕ) (e : Bool) (srlOut rawOut : List ℕ)
-    → OwnCuts (steps e prev curr) cs ps ss → encodePassRefusal cs ps prev curr ss e srlOut rawOut ≢ magnitudeOutOfRange
+    → OwnCuts (steps e prev curr) cs ps ss → encodePassRefusal floorRule cs ps prev curr ss e srlOut rawOut ≢ magnitudeOutOfRange
 calls-sent cs ps ss prev curr e srlOut rawOut o =
     let ts = steps e prev curr in
     no-5 (longEnough cs && (longEnough ps && longEnough ss)) (rowInDomain prev && rowInDomain curr)
-    (ltb (length srlOut) (length (srlBytes ts cs ps ss))) (ltb (length rawOut) (length (rawBytes ts cs ps ss)))
-    (passFault ts cs ps ss)
+    (ltb (length srlOut) (length (srlBytes floorRule ts cs ps ss))) (ltb (length rawOut) (length (rawBytes floorRule ts cs ps ss)))
+    (passFault floorRule ts cs ps ss)
     (all-sent ts cs ps ss o .srl-fits)
 
 -- the law, in both its parts

@@ -30,7 +30,7 @@ use Rattle.srl.proofs.Trip.{ReadBack, stream-back}
 use Rattle.upgrade_steps.specs.Steps.{Step, Source, skipped, srl, raw, source, sourceOf, steps, stepOf, srlWidths, rawWidths}
 use Rattle.answer.specs.Refusals.{sliceTooShort, outOfDomain, magnitudeOutOfRange, unless, firstOf, longEnough}
 use Rattle.progressive_decoder.specs.Upgrade.{srlCoefficient, srlSign, adds, rawCoefficient, signThen, signsAfter, coefficientThen, coefficientsAfter, srlValues, rawNumbers, decodeCoefficients, decodeSigns}
-use Rattle.progressive_encoder.specs.Encode.{srlDifference, rawDifference, srlGiven, srlDifferences, rawGiven, rawDifferences, srlStream, srlBytes, rawBytes, anyTooLarge, valuesFault, passFault, noRoomFor, encodePassRefusal}
+use Rattle.progressive_encoder.specs.Encode.{Rule, floorRule, srlDifference, rawDifference, srlGiven, srlDifferences, rawGiven, rawDifferences, srlStream, srlBytes, rawBytes, anyTooLarge, valuesFault, passFault, noRoomFor, encodePassRefusal}
 use Rattle.progressive_encoder.proofs.Placewise.{same-length}
 use Rattle.progressive.specs.Laws.{Small, small, Sent, cutBy, cuts, cutSign, cutSigns, Onward, Regained, Regains, regained, PassRoundTrip}
 
@@ -143,17 +143,17 @@ read-numbers (small {w = w} {m = m} {ws = ws} {ms = ms} l ls) s n h =
     (read-numbers ls s (n + w) (subst (λ (k : ℕ). Holds s (n + k) (bitsOfAll ws ms)) (length-bitsOf w m) (r .1)))
 
 -- the SRL values of an accepted pass
-pub pass-values : (ts : List Step) (cs ps ss : List ℤ) → length ts ≤ length cs → length ts ≤ length ps → length ts ≤ length ss → passFault ts cs ps ss ≡ 0
-    → ReadBack (srlBytes ts cs ps ss) (srlWidths ts ss) start (srlDifferences ts cs ps ss) (8 * length (srlBytes ts cs ps ss))
-pass-values ts cs ps ss h j k e =
-    read-values (srlWidths ts ss) (srlDifferences ts cs ps ss) (all-legal (srlWidths ts ss) (srlDifferences ts cs ps ss) (sym (same-length ts cs ps ss h j k)) e)
+pub pass-values : (r : Rule) (ts : List Step) (cs ps ss : List ℤ) → length ts ≤ length cs → length ts ≤ length ps → length ts ≤ length ss → passFault r ts cs ps ss ≡ 0
+    → ReadBack (srlBytes r ts cs ps ss) (srlWidths ts ss) start (srlDifferences r ts cs ps ss) (8 * length (srlBytes r ts cs ps ss))
+pass-values r ts cs ps ss h j k e =
+    read-values (srlWidths ts ss) (srlDifferences r ts cs ps ss) (all-legal (srlWidths ts ss) (srlDifferences r ts cs ps ss) (sym (same-length r ts cs ps ss h j k)) e)
 
-values-back : (ts : List Step) (cs ps ss : List ℤ) → Sent ts cs ps ss → srlValues ts (srlBytes ts cs ps ss) ss ≡ srlDifferences ts cs ps ss
-values-back ts cs ps ss h = pass-values ts cs ps ss (h .coefficients-long) (h .previous-long) (h .signs-long) (h .srl-fits) .gives
+values-back : (r : Rule) (ts : List Step) (cs ps ss : List ℤ) → Sent r ts cs ps ss → srlValues ts (srlBytes r ts cs ps ss) ss ≡ srlDifferences r ts cs ps ss
+values-back r ts cs ps ss h = pass-values r ts cs ps ss (h .coefficients-long) (h .previous-long) (h .signs-long) (h .srl-fits) .gives
 
-numbers-back : (ts : List Step) (cs ps ss : List ℤ) → Sent ts cs ps ss → rawNumbers ts (rawBytes ts cs ps ss) ss ≡ rawDifferences ts cs ps ss
-numbers-back ts cs ps ss h =
-    let bits = bitsOfAll (rawWidths ts ss) (rawDifferences ts cs ps ss) in
+numbers-back : (r : Rule) (ts : List Step) (cs ps ss : List ℤ) → Sent r ts cs ps ss → rawNumbers ts (rawBytes r ts cs ps ss) ss ≡ rawDifferences r ts cs ps ss
+numbers-back r ts cs ps ss h =
+    let bits = bitsOfAll (rawWidths ts ss) (rawDifferences r ts cs ps ss) in
     read-numbers (h .raw-fits) (pack 0 0 bits) 0 (pack-holds bits (pack 0 0 bits) 0 0 0 [] (omega arith) (sym (append-nil (pack 0 0 bits))))
 
 -- ════ all places ════
@@ -168,11 +168,11 @@ place-cut srl t c p s vs ms rest l r e =
     ap₂ (λ (x : ℤ) (k : List ℤ). x ∷ k) v e
 place-cut raw t c p s vs ms rest l r e = ap₂ (λ (x : ℤ) (k : List ℤ). x ∷ k) (raw-cut (adds t s) (t .position) c p r) e
 
-all-cut : {ts : List Step} {cs ps ss : List ℤ} → Regains ts cs ps ss → coefficientsAfter ts ps ss (srlDifferences ts cs ps ss) (rawDifferences ts cs ps ss) ≡ cuts ts cs ps ss
+all-cut : {ts : List Step} {cs ps ss : List ℤ} → Regains ts cs ps ss → coefficientsAfter ts ps ss (srlDifferences floorRule ts cs ps ss) (rawDifferences floorRule ts cs ps ss) ≡ cuts ts cs ps ss
 unfolding coefficientsAfter srlDifferences rawDifferences cuts
 all-cut Regains.none = refl
 all-cut (regained {t = t} {c = c} {p = p} {s = s} {ts = ts} {cs = cs} {ps = ps} {ss = ss} r rs) =
-    place-cut (source t s) t c p s (srlDifferences ts cs ps ss) (rawDifferences ts cs ps ss) (coefficientsAfter ts ps ss) (cuts ts cs ps ss) r (all-cut rs)
+    place-cut (source t s) t c p s (srlDifferences floorRule ts cs ps ss) (rawDifferences floorRule ts cs ps ss) (coefficientsAfter ts ps ss) (cuts ts cs ps ss) r (all-cut rs)
 
 -- a place that has an SRL value has sign 0
 abbrev IsSrl : Source → Type 0
@@ -205,42 +205,42 @@ place-sign srl t c p s vs rest l h r e =
     ap₂ (λ (x : ℤ) (k : List ℤ). x ∷ k) v e
 place-sign raw t c p s vs rest l h r e = ap (λ (k : List ℤ). s ∷ k) e
 
-all-signs : {ts : List Step} {cs ps ss : List ℤ} → Regains ts cs ps ss → signsAfter ts ss (srlDifferences ts cs ps ss) ≡ cutSigns ts cs ss
+all-signs : {ts : List Step} {cs ps ss : List ℤ} → Regains ts cs ps ss → signsAfter ts ss (srlDifferences floorRule ts cs ps ss) ≡ cutSigns ts cs ss
 unfolding signsAfter srlDifferences cutSigns
 all-signs Regains.none = refl
 all-signs (regained {t = t} {c = c} {p = p} {s = s} {ts = ts} {cs = cs} {ps = ps} {ss = ss} r rs) =
-    place-sign (source t s) t c p s (srlDifferences ts cs ps ss) (signsAfter ts ss) (cutSigns ts cs ss) refl r (all-signs rs)
+    place-sign (source t s) t c p s (srlDifferences floorRule ts cs ps ss) (signsAfter ts ss) (cutSigns ts cs ss) refl r (all-signs rs)
 
 -- ════ the law ════
 
-module _ (ts : List Step) (cs ps ss : List ℤ) (h : Sent ts cs ps ss) (r : Regains ts cs ps ss) where
-  coefficients-back : coefficientsAfter ts ps ss (srlValues ts (srlBytes ts cs ps ss) ss) (rawNumbers ts (rawBytes ts cs ps ss) ss) ≡ cuts ts cs ps ss
-  coefficients-back = ap₂ (coefficientsAfter ts ps ss) (values-back ts cs ps ss h) (numbers-back ts cs ps ss h) ∙ all-cut r
+module _ (ts : List Step) (cs ps ss : List ℤ) (h : Sent floorRule ts cs ps ss) (r : Regains ts cs ps ss) where
+  coefficients-back : coefficientsAfter ts ps ss (srlValues ts (srlBytes floorRule ts cs ps ss) ss) (rawNumbers ts (rawBytes floorRule ts cs ps ss) ss) ≡ cuts ts cs ps ss
+  coefficients-back = ap₂ (coefficientsAfter ts ps ss) (values-back floorRule ts cs ps ss h) (numbers-back floorRule ts cs ps ss h) ∙ all-cut r
 
-  signs-back : signsAfter ts ss (srlValues ts (srlBytes ts cs ps ss) ss) ≡ cutSigns ts cs ss
-  signs-back = ap (signsAfter ts ss) (values-back ts cs ps ss h) ∙ all-signs r
+  signs-back : signsAfter ts ss (srlValues ts (srlBytes floorRule ts cs ps ss) ss) ≡ cutSigns ts cs ss
+  signs-back = ap (signsAfter ts ss) (values-back floorRule ts cs ps ss h) ∙ all-signs r
 
 -- what an accepted call of the writer says of its arguments
-pub record Taken (cs ps ss : List ℤ) (prev curr : List ℕ) (e : Bool) : Type 0 where
+pub record Taken (r : Rule) (cs ps ss : List ℤ) (prev curr : List ℕ) (e : Bool) : Type 0 where
   pub coefficients-long : longEnough cs ≡ true
   pub previous-long : longEnough ps ≡ true
   pub signs-long : longEnough ss ≡ true
   pub rows : (rowInDomain prev && rowInDomain curr) ≡ true
-  pub no-fault : passFault (steps e prev curr) cs ps ss ≡ 0
+  pub no-fault : passFault r (steps e prev curr) cs ps ss ≡ 0
 
 -- an accepted call passed every test
-pub taken : (cs ps ss : List ℤ) (prev curr : List ℕ) (e : Bool) (srlOut rawOut : List ℕ) → encodePassRefusal cs ps prev curr ss e srlOut rawOut ≡ 0 → Taken cs ps ss prev curr e
-taken cs ps ss prev curr e srlOut rawOut = by (longEnough cs && (longEnough ps && longEnough ss)) refl (rowInDomain prev && rowInDomain curr) refl
+pub taken : (r : Rule) (cs ps ss : List ℤ) (prev curr : List ℕ) (e : Bool) (srlOut rawOut : List ℕ) → encodePassRefusal r cs ps prev curr ss e srlOut rawOut ≡ 0 → Taken r cs ps ss prev curr e
+taken r cs ps ss prev curr e srlOut rawOut = by (longEnough cs && (longEnough ps && longEnough ss)) refl (rowInDomain prev && rowInDomain curr) refl
   where
     rest : ℕ
-    rest = noRoomFor (srlBytes (steps e prev curr) cs ps ss) srlOut (rawBytes (steps e prev curr) cs ps ss) rawOut
+    rest = noRoomFor (srlBytes r (steps e prev curr) cs ps ss) srlOut (rawBytes r (steps e prev curr) cs ps ss) rawOut
 
     by : (a : Bool) → (longEnough cs && (longEnough ps && longEnough ss)) ≡ a → (b : Bool) → (rowInDomain prev && rowInDomain curr) ≡ b
-        → firstOf (unless a sliceTooShort) (firstOf (unless b outOfDomain) (firstOf (passFault (steps e prev curr) cs ps ss) rest)) ≡ 0 → Taken cs ps ss prev curr e
+        → firstOf (unless a sliceTooShort) (firstOf (unless b outOfDomain) (firstOf (passFault r (steps e prev curr) cs ps ss) rest)) ≡ 0 → Taken r cs ps ss prev curr e
     by true la true lb k =
         let one = both-true (longEnough cs) (longEnough ps && longEnough ss) la in
         let two = both-true (longEnough ps) (longEnough ss) (one .1) in
-        record { coefficients-long = one .0; previous-long = two .0; signs-long = two .1; rows = lb; no-fault = first-none (passFault (steps e prev curr) cs ps ss) rest k .0 }
+        record { coefficients-long = one .0; previous-long = two .0; signs-long = two .1; rows = lb; no-fault = first-none (passFault r (steps e prev curr) cs ps ss) rest k .0 }
     by true la false lb k = absurd (omega (arith, k))
     by false la b lb k = absurd (omega (arith, k))
 
@@ -249,14 +249,14 @@ pub long : {A : Type 0} (e : Bool) (prev curr : List ℕ) (l : List A) → longE
 long e prev curr l h = omega (arith, leb-true 4096 (length l) h, place-whole e (stepOf prev curr))
 
 calls-back : (cs ps ss : List ℤ) (prev curr : List ℕ) (e : Bool) (srlOut rawOut : List ℕ)
-    → encodePassRefusal cs ps prev curr ss e srlOut rawOut ≡ 0
-    → Small (rawWidths (steps e prev curr) ss) (rawDifferences (steps e prev curr) cs ps ss)
+    → encodePassRefusal floorRule cs ps prev curr ss e srlOut rawOut ≡ 0
+    → Small (rawWidths (steps e prev curr) ss) (rawDifferences floorRule (steps e prev curr) cs ps ss)
     → Regains (steps e prev curr) cs ps ss
-    → (decodeCoefficients (srlBytes (steps e prev curr) cs ps ss) (rawBytes (steps e prev curr) cs ps ss) prev curr e ps ss ≡ cuts (steps e prev curr) cs ps ss)
-    × (decodeSigns (srlBytes (steps e prev curr) cs ps ss) prev curr e ps ss ≡ cutSigns (steps e prev curr) cs ss)
+    → (decodeCoefficients (srlBytes floorRule (steps e prev curr) cs ps ss) (rawBytes floorRule (steps e prev curr) cs ps ss) prev curr e ps ss ≡ cuts (steps e prev curr) cs ps ss)
+    × (decodeSigns (srlBytes floorRule (steps e prev curr) cs ps ss) prev curr e ps ss ≡ cutSigns (steps e prev curr) cs ss)
 calls-back cs ps ss prev curr e srlOut rawOut k m r =
-    let t = taken cs ps ss prev curr e srlOut rawOut k in
-    let sent : Sent (steps e prev curr) cs ps ss =
+    let t = taken floorRule cs ps ss prev curr e srlOut rawOut k in
+    let sent : Sent floorRule (steps e prev curr) cs ps ss =
     record {
       coefficients-long = long e prev curr cs (t .coefficients-long);
       previous-long = long e prev curr ps (t .previous-long);
