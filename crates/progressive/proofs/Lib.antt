@@ -1,4 +1,5 @@
 -- Laws of the pass, both ways, for the proofs here and in the crates above.
+pub mod AnyRule
 pub mod OwnCuts
 pub mod Regained
 pub mod Missed

@@ -25,7 +25,7 @@ use Rattle.progressive_decoder.specs.declared.MissingBits.{MissingBits}
 use Rattle.progressive_decoder.proofs.Missing.{srl-missing, raw-missing, srl-most, raw-most}
 use Rattle.progressive_encoder.specs.Encode.{Rule, rawGiven, rawDifferences, srlBytes, rawBytes, passFault}
 use Rattle.progressive.specs.Missing.{srlBits, sum, rawBits, PassMissingBits}
-use Rattle.progressive.proofs.Regained.{pass-values, taken, long}
+use Rattle.progressive.proofs.AnyRule.{pass-values, taken, long}
 
 -- ════ how many raw bits are read, and written ════
 
