@@ -23,23 +23,30 @@ use Rattle.progressive.proofs.AnyRule.{Fitting, Fittings, fitting, all-
 
 -- ════ a magnitude ════
 
--- what a cut at 2^(q + w) leaves, in steps of 2^q
-cut-steps : (q w n : ℕ) → cutLevel (q + w) n / 2 ^ q ≡ cutLevel w (n / 2 ^ q)
-cut-steps q w n =
+-- a cut at 2^(q + w) is a cut at 2^w, in steps of 2^q
+cut-split : (q w n : ℕ) → cutLevel (q + w) n ≡ cutLevel w (n / 2 ^ q) * 2 ^ q
+cut-split q w n =
     let k = n / 2 ^ (q + w) in
-    ap (λ (m : ℕ). k * m / 2 ^ q) (pow-add 2 q w ∙ mul-comm (2 ^ q) (2 ^ w))
-    ∙ ap (λ (m : ℕ). m / 2 ^ q) (sym (mul-assoc k (2 ^ w) (2 ^ q)))
-    ∙ shl-shr (k * 2 ^ w) q
-    ∙ ap (λ (m : ℕ). m * 2 ^ w) (sym (shr-shr n q w))
+    ap (λ (m : ℕ). k * m) (pow-add 2 q w ∙ mul-comm (2 ^ q) (2 ^ w))
+    ∙ sym (mul-assoc k (2 ^ w) (2 ^ q))
+    ∙ ap (λ (m : ℕ). m * 2 ^ w * 2 ^ q) (sym (shr-shr n q w))
 
--- so what it takes away is less than 2^w of them
+-- so many of them
+cut-steps : (q w n : ℕ) → cutLevel (q + w) n / 2 ^ q ≡ cutLevel w (n / 2 ^ q)
+cut-steps q w n = ap (λ (m : ℕ). m / 2 ^ q) (cut-split q w n) ∙ shl-shr (cutLevel w (n / 2 ^ q)) q
+
+-- with nothing left to cut at 2^q
+pub cut-clean : (q w n : ℕ) → cutLevel q (cutLevel (q + w) n) ≡ cutLevel (q + w) n
+cut-clean q w n = ap (λ (m : ℕ). m * 2 ^ q) (cut-steps q w n) ∙ sym (cut-split q w n)
+
+-- what it takes away is less than 2^w of them
 taken-small : (q w n : ℕ) → n / 2 ^ q - cutLevel (q + w) n / 2 ^ q < 2 ^ w
 taken-small q w n = omega (arith, cut-steps q w n, cut-rest w (n / 2 ^ q), rest-small w (n / 2 ^ q))
 
 -- ════ one place ════
 
 -- a raw number over the own cut
-number-small : (q w : ℕ) (c p : ℤ) → towardZero (q + w) c ≡ p → rawDifference q c p < 2 ^ w
+pub number-small : (q w : ℕ) (c p : ℤ) → towardZero (q + w) c ≡ p → rawDifference q c p < 2 ^ w
 number-small q w c p e =
     let n : natAbs p ≡ cutLevel (q + w) (natAbs c) = ap natAbs (sym e) ∙ abs-toward (q + w) c in
     rw n (taken-small q w (natAbs c))
@@ -68,7 +75,7 @@ value-small q w c p h e z =
     rw d (omega (arith, clamp-less v, floor-abs q c h, k, zero-div (2 ^ q)))
 
 -- a sign is 0 only where the value is
-sign-none : (v : ℤ) → signOf v ≡ pos 0 → v ≡ pos 0
+pub sign-none : (v : ℤ) → signOf v ≡ pos 0 → v ≡ pos 0
 unfolding isZero signOf
 sign-none (pos zero) e = refl
 sign-none (pos (suc n)) e = absurd (true≢false (ap isZero (sym e)))

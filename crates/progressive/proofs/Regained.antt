@@ -5,7 +5,7 @@ use mathlib.Core.List.{List}
 use Prim.Native.Nat.{ℕ, zero, suc, _+_, _-_, _*_, _/_, _^_, _≤_, _<_}
 use native.Mathlib.Nat.{zero-div, div-le-self, div-lt-iff-lt-mul, le-div-iff-mul-le, mul-le-mul-right, add-mul}
 use native.Mathlib.Omega.{arith}
-use lib.IntN.{ℤ, pos, negsuc, negℤ, _+ℤ_, _-ℤ_, +ℤ-idl, +ℤ-idr, negℤ-+ℤ}
+use lib.IntN.{ℤ, pos, negsuc, negℤ, _+ℤ_, _-ℤ_, _*ℤ_, +ℤ-idl, +ℤ-idr, negℤ-+ℤ}
 use lib.Pow.{pow-pos, pow-add}
 use lib.Signed.{mag}
 use Rattle.fixed.specs.Fixed.{clampI16, floorShift, isZero, signOf, addScaled, subScaled}
@@ -37,16 +37,21 @@ over-zero q c h =
 up : (n : ℕ) → n ≤ 32767 → clampI16 (pos n) ≡ pos n
 up n h = sym (clamp-same (pos n) (omega arith))
 
+neg-small : (n : ℕ) → n ≤ 32768 → mag (negℤ (pos n)) < 32768
+neg-small zero h = omega arith
+neg-small (suc n) h = omega arith
+
 down : (n : ℕ) → n ≤ 32768 → clampI16 (negℤ (pos n)) ≡ negℤ (pos n)
-down zero h = sym (clamp-same (pos 0) (omega arith))
-down (suc n) h = sym (clamp-same (negsuc n) (omega arith))
+down n h = sym (clamp-same (negℤ (pos n)) (neg-small n h))
 
-up-from-zero : (q m : ℕ) → m * 2 ^ q ≤ 32767 → srlCoefficient q (pos m) (pos 0) ≡ pos (m * 2 ^ q)
-unfolding addScaled
-up-from-zero q zero h = ap pos {x = 0} {y = 0 * 2 ^ q} (omega arith)
-up-from-zero q (suc m) h = ap clampI16 (+ℤ-idl (pos (suc m * 2 ^ q))) ∙ up (suc m * 2 ^ q) h
+-- from 0 a value brings its multiple of 2^q, where that stays so
+pub from-zero : (q : ℕ) (v : ℤ) → mag (v *ℤ pos (2 ^ q)) < 32768 → srlCoefficient q v (pos 0) ≡ v *ℤ pos (2 ^ q)
+unfolding addScaled subScaled
+from-zero q (pos zero) h = ap pos {x = 0} {y = 0 * 2 ^ q} (omega arith)
+from-zero q (pos (suc m)) h = ap clampI16 (+ℤ-idl (pos (suc m * 2 ^ q))) ∙ sym (clamp-same (pos (suc m * 2 ^ q)) h)
+from-zero q (negsuc m) h = ap clampI16 (with-minus (suc m * 2 ^ q) true refl) ∙ sym (clamp-same (negℤ (pos (suc m * 2 ^ q))) h)
 
--- rounded down, no coefficient leaves the range
+-- rounded down, no coefficient leaves sixteen bits
 floor-room : (q n : ℕ) → q ≤ 15 → n < 32768 → suc (n / 2 ^ q) * 2 ^ q ≤ 32768
 floor-room q n l h =
     let y = 2 ^ (15 - q) in
@@ -55,10 +60,9 @@ floor-room q n l h =
     let less : n / 2 ^ q < y = div-lt-iff-lt-mul {k = 2 ^ q} {x = n} {y = y} (pow-pos q) .1 (omega (arith, whole)) in
     omega (arith, whole, mul-le-mul-right {m = suc (n / 2 ^ q)} {n = y} (2 ^ q) (omega (arith, less)))
 
-srl-cut : (q : ℕ) (c : ℤ) → q ≤ 15 → mag c < 32768 → srlCoefficient q (floorShift c q) (pos 0) ≡ downward q c
-unfolding subScaled
-srl-cut q (pos n) l h = up-from-zero q (n / 2 ^ q) (omega (arith, cut-below q n))
-srl-cut q (negsuc n) l h = ap clampI16 (with-minus (suc (n / 2 ^ q) * 2 ^ q) true refl) ∙ down (suc (n / 2 ^ q) * 2 ^ q) (floor-room q n l h)
+pub down-range : (q : ℕ) (c : ℤ) → q ≤ 15 → mag c < 32768 → mag (downward q c) < 32768
+down-range q (pos n) l h = omega (arith, cut-below q n)
+down-range q (negsuc n) l h = neg-small (suc (n / 2 ^ q) * 2 ^ q) (floor-room q n l h)
 
 -- ════ a place with raw bits ════
 
@@ -90,7 +94,8 @@ neg-range : (n : ℕ) → mag (negℤ (pos n)) < 32768 → n ≤ 32768
 neg-range zero h = omega arith
 neg-range (suc n) h = omega arith
 
-raw-cut : (b : Bool) (q : ℕ) (c p : ℤ) → Onward b q c p → rawCoefficient b q (rawDifference q c p) p ≡ towardZero q c
+-- so raw bits bring the target
+pub raw-cut : (b : Bool) (q : ℕ) (c p : ℤ) → Onward b q c p → rawCoefficient b q (rawDifference q c p) p ≡ towardZero q c
 raw-cut true q c p o =
     ap₂ (λ (c p : ℤ). rawCoefficient true q (rawDifference q c p) p) (o .goal) (o .from)
     ∙ raw-up q (o .far) (o .near) (subst (λ (c : ℤ). mag c < 32768) (o .goal) (o .range)) (o .further) (o .clean)
@@ -107,7 +112,7 @@ place-cut : (o : Source) (t : Step) (c p s : ℤ) → Regained o t c p s → com
 place-cut skipped t c p s r = refl
 place-cut srl t c p s r =
     let q = t .position in
-    ap (λ (p : ℤ). srlCoefficient q (srlDifference q c p) p) (r .0) ∙ ap (λ (v : ℤ). srlCoefficient q v (pos 0)) (over-zero q c (r .1)) ∙ srl-cut q c (r .2) (r .1)
+    ap (λ (p : ℤ). srlCoefficient q (srlDifference q c p) p) (r .0) ∙ ap (λ (v : ℤ). srlCoefficient q v (pos 0)) (over-zero q c (r .1)) ∙ from-zero q (floorShift c q) (down-range q c (r .2) (r .1))
 place-cut raw t c p s r = raw-cut (adds t s) (t .position) c p r
 
 -- a place that has an SRL value has sign 0
@@ -123,7 +128,7 @@ srl-zero false (suc w) true e = refl
 srl-zero false (suc w) false e = absurd e
 
 -- and a value that is not 0 sets it
-sign-cut : (v s : ℤ) → isZero s ≡ true → srlSign v s ≡ signOf v
+pub sign-cut : (v s : ℤ) → isZero s ≡ true → srlSign v s ≡ signOf v
 unfolding isZero signOf
 sign-cut v (pos (suc n)) e = absurd (true≢false (sym e))
 sign-cut v (negsuc n) e = absurd (true≢false (sym e))

@@ -3,3 +3,4 @@ pub mod Laws
 pub mod Refused
 pub mod OwnCuts
 pub mod Missing
+pub mod CutTrip

@@ -7,6 +7,7 @@ ghost use Rattle.progressive.specs.Laws.{PassRoundTrip};
 ghost use Rattle.progressive.specs.Refused.{PassRefusals};
 ghost use Rattle.progressive.specs.OwnCuts.{OwnCutsSent};
 ghost use Rattle.progressive.specs.Missing.{PassMissingBits};
+ghost use Rattle.progressive.specs.CutTrip.{CutRoundTrip};
 pub use answer::Answer;
 pub use dequantizer::dequantize_component_ccq;
 pub use progressive_decoder::MissingBits;
@@ -18,6 +19,12 @@ pub use progressive_encoder::encode_upgrade_pass;
 // What the writer wrote is read back, and where the writer's rules bring a component to its target.
 pub fn pass_round_trip()
     ensures { λ _. ⌜ PassRoundTrip ⌝ }
+{}
+
+// By the symmetric rule, over a component that is the target cut at the previous positions, no value is refused by 5, and the reader comes to exactly the
+// target cut at the current positions: for every target of sixteen-bit numbers, and every two rows without a raise.
+pub fn cut_round_trip()
+    ensures { λ _. ⌜ CutRoundTrip ⌝ }
 {}
 
 // A refused call gives the refusal's number and counts of 0, and leaves every slice as it was; an accepted writer gives the counts of both streams.
