@@ -4,3 +4,4 @@ pub mod Refused
 pub mod OwnCuts
 pub mod Missing
 pub mod CutTrip
+pub mod SmallCases

@@ -8,6 +8,7 @@ ghost use Rattle.progressive.specs.Refused.{PassRefusals};
 ghost use Rattle.progressive.specs.OwnCuts.{OwnCutsSent};
 ghost use Rattle.progressive.specs.Missing.{PassMissingBits};
 ghost use Rattle.progressive.specs.CutTrip.{CutRoundTrip};
+ghost use Rattle.progressive.specs.SmallCases.{SmallCases};
 pub use answer::Answer;
 pub use dequantizer::dequantize_component_ccq;
 pub use progressive_decoder::MissingBits;
@@ -41,4 +42,10 @@ pub fn own_cuts_sent()
 // bytes behind both streams change nothing but the counts, which go down by 8 for each.
 pub fn missing_bits()
     ensures { λ _. ⌜ PassMissingBits ⌝ }
+{}
+
+// What both rules give for some passes of one place, as a table: -7 over 0 from position 3 to 1 is -3 by the symmetric rule, and -4, which is refused
+// by 5, by the source's.
+pub fn small_cases()
+    ensures { λ _. ⌜ SmallCases ⌝ }
 {}
