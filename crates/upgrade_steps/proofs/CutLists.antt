@@ -1,12 +1,32 @@
--- Lists of cut coefficients and signs: how many there are, and by things that are made of other things. Assumes nothing.
+-- Lists of cut coefficients and signs: known ones, how many there are, and by things that are made of other things. Assumes nothing.
 use mathlib.Core.Path.{_≡_, refl, ap₂}
-use mathlib.Core.Bool.{Bool}
+use mathlib.Core.Bool.{Bool, true, false}
 use mathlib.Core.List.{List, [], _∷_, map}
 use Prim.Native.Nat.{ℕ, _≤_}
 use native.Mathlib.Omega.{arith}
-use lib.IntN.{ℤ}
-use lib.ListN.{length}
+use lib.IntN.{ℤ, pos, negsuc}
+use lib.ListN.{length, replicate}
+use Rattle.fixed.specs.Fixed.{signOf}
 use Rattle.upgrade_steps.specs.Cut.{cutAt, cutSignAt, cutAll, cutSignsAll}
+
+-- ════ known cuts ════
+
+-- outside the bottom at 1, 3 and 15, and in the bottom at 1 and 15
+abbrev known : List (Bool × ℕ)
+known = (false, 1) ∷ (false, 3) ∷ (false, 15) ∷ (false, 15) ∷ (true, 1) ∷ (true, 15) ∷ []
+
+abbrev target : List ℤ
+target = negsuc 6 ∷ negsuc 6 ∷ negsuc 32766 ∷ negsuc 32767 ∷ negsuc 6 ∷ negsuc 0 ∷ pos 5 ∷ []
+
+-- -7 to -6 and to 0; -32767 to 0, and -32768 stays; in the bottom -7 to -8, and -1 to -32768
+known-cuts : cutAll (λ b. b .0) (λ b. b .1) known target ≡ negsuc 5 ∷ pos 0 ∷ pos 0 ∷ negsuc 32767 ∷ negsuc 7 ∷ negsuc 32767 ∷ []
+unfolding cutAll
+known-cuts = refl
+
+-- their own signs, and in the bottom those that were there
+known-signs : cutSignsAll (λ b. b .0) (λ b. b .1) known target (replicate 6 (pos 7)) ≡ negsuc 0 ∷ pos 0 ∷ pos 0 ∷ negsuc 0 ∷ pos 7 ∷ pos 7 ∷ []
+unfolding cutSignsAll signOf
+known-signs = refl
 
 -- ════ as many as there are things, where there are enough ════
 
