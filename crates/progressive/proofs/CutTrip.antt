@@ -76,18 +76,19 @@ over-zero q c = ap (λ (z : ℤ). withSign (isNegative z) (natAbs z / 2 ^ q)) (+
 shifted-up : (q : ℕ) (c : ℤ) → withSign (isNegative c) (natAbs c / 2 ^ q) *ℤ pos (2 ^ q) ≡ towardZero q c
 shifted-up q c = with-times (isNegative c) (natAbs c / 2 ^ q) (2 ^ q)
 
--- a magnitude that is not 0 has its sign
+-- the magnitude of a magnitude with a sign
 abs-with : (u : Bool) (m : ℕ) → natAbs (withSign u m) ≡ m
 abs-with false m = refl
 abs-with true m = abs-minus m
 
+-- a sign that is not 0 is that of a magnitude above 0
 above : (u : Bool) (m : ℕ) → isZero (signOf (withSign u m)) ≡ false → 0 < m
 unfolding isZero signOf
 above false zero e = absurd (true≢false e)
 above true zero e = absurd (true≢false e)
 above u (suc m) e = omega arith
 
--- the same sign, whatever it is
+-- all of those have the same sign
 sign-one : (u : Bool) (m : ℕ) → 0 < m → signOf (withSign u m) ≡ signOf (withSign u 1)
 unfolding signOf
 sign-one u zero h = absurd (omega arith)
@@ -97,7 +98,7 @@ sign-one true (suc m) h = refl
 sign-above : (u : Bool) (m n : ℕ) → 0 < m → 0 < n → signOf (withSign u m) ≡ signOf (withSign u n)
 sign-above u m n h k = sign-one u m h ∙ sym (sign-one u n k)
 
--- by which raw bits go to its side
+-- which tells the side to which raw bits go
 side-above : (u : Bool) (m : ℕ) → 0 < m → u ≡ not (isOne (signOf (withSign u m)))
 unfolding signOf isOne
 side-above u zero h = absurd (omega arith)
@@ -109,17 +110,17 @@ sign-times : (u : Bool) (m k : ℕ) → 0 < k → signOf (withSign u m) ≡ sign
 sign-times u zero k h = ap (λ (n : ℕ). signOf (withSign u n)) (sym (zero-mul k))
 sign-times u (suc m) k h = sign-above u (suc m) (suc m * k) (omega arith) (mul-pos (omega arith) h)
 
--- what a place comes to: its value or number fits, and brings p with the sign s to p′ with the sign s′
+-- what the writer gives at a place for c fits its width, and brings p with the sign s to p′ with the sign s′
 record Goes (o : Source) (t : Step) (c p s p′ s′ : ℤ) : Type 0 where
   fits : Fitting symmetricRule o t c p
   to : comesTo symmetricRule o t c p s ≡ p′
   sign : signTo symmetricRule o t c p s ≡ s′
 
--- a step outside the bottom, and one of the bottom
+-- a step by its parts
 abbrev stepBy : Bool → ℕ → ℕ → Step
 stepBy b q w = record { bottom = b; width = w; position = q }
 
--- a cut of 0: an SRL value
+-- at a cut of 0 it is an SRL value
 srl-goes : (q w : ℕ) (c : ℤ) → mag c < 32768 → isZero (signOf (towardZero (q + w) c)) ≡ true
     → Goes srl (stepBy false q w) c (towardZero (q + w) c) (signOf (towardZero (q + w) c)) (towardZero q c) (signOf (towardZero q c))
 srl-goes q w c l e =
@@ -136,7 +137,7 @@ srl-goes q w c l e =
       sign = ap (λ (v : ℤ). srlSign v (signOf p)) value ∙ sign-cut v (signOf p) e ∙ sign-times (isNegative c) m (2 ^ q) (pow-pos q);
     }
 
--- another: raw bits
+-- at another a raw number
 raw-goes : (q w : ℕ) (c : ℤ) → mag c < 32768 → isZero (signOf (towardZero (q + w) c)) ≡ false
     → Goes raw (stepBy false q w) c (towardZero (q + w) c) (signOf (towardZero (q + w) c)) (towardZero q c) (signOf (towardZero q c))
 raw-goes q w c l e =
@@ -182,6 +183,7 @@ down-split q w c =
     ap₂ (λ (z : ℤ) (k : ℕ). z *ℤ pos k) (floor-twice q w c) (pow-add 2 q w ∙ mul-comm (2 ^ q) (2 ^ w))
     ∙ sym (times-twice (floorShift (floorShift c q) w) (2 ^ w) (2 ^ q))
 
+-- a negative number and what it is less by
 neg-add : (m k : ℕ) → negℤ (pos (m + k)) +ℤ pos k ≡ negℤ (pos m)
 neg-add m k = ap (λ (z : ℤ). z +ℤ pos k) (negℤ-+ℤ (pos m) (pos k)) ∙ -ℤ-+ℤ-cancel (negℤ (pos m)) (pos k)
 
@@ -202,10 +204,11 @@ rest-of w (negsuc n) =
       is = sym (ap (λ (m : ℕ). negℤ (pos m) +ℤ pos r) e ∙ neg-add (suc n) r);
     }
 
+-- a sum less its first part
 add-minus : (x d : ℤ) → x +ℤ d -ℤ x ≡ d
 add-minus x d = ap (λ (z : ℤ). z -ℤ x) (+ℤ-comm x d) ∙ +ℤ-negℤ-cancel d x
 
--- the number is that rest of the floor, and adds it
+-- the number is how far the floor lies above its cut, and is added
 bottom-goes : (q w : ℕ) (c s : ℤ) → q ≤ 15 → mag c < 32768 → Goes raw (stepBy true q w) c (downward (q + w) c) s (downward q c) s
 unfolding addScaled
 bottom-goes q w c s h l =
@@ -242,7 +245,7 @@ place-goes false q (suc w) c s h l = by (isZero z) refl
     by true e = srl-goes q (suc w) c l e
     by false e = raw-goes q (suc w) c l e
 
--- a target cut already gives the same: c′ is its cut
+-- a target that is cut already gives the same value
 alike-value : (q w : ℕ) (c : ℤ) → isZero (signOf (towardZero (q + w) c)) ≡ true → cutDifference q (towardZero q c) (towardZero (q + w) c) ≡ cutDifference q c (towardZero (q + w) c)
 alike-value q w c e =
     let p = towardZero (q + w) c in
@@ -255,7 +258,7 @@ alike-value q w c e =
     ∙ ap (withSign u) (shl-shr (n / 2 ^ q) q)
     ∙ sym (ap (cutDifference q c) none ∙ over-zero q c)
 
--- over whatever coefficient
+-- and the same number, over whatever coefficient
 alike-number : (b : Bool) (q : ℕ) (c p : ℤ) → cutNumber b q (cutAt b q c) p ≡ cutNumber b q c p
 alike-number true q c p = ap (λ (z : ℤ). notBelow (z -ℤ floorShift p q)) (floor-back q (floorShift c q))
 alike-number false q c p = ap (λ (m : ℕ). m - natAbs p / 2 ^ q) (ap (λ (m : ℕ). m / 2 ^ q) (abs-toward q c) ∙ shl-shr (natAbs c / 2 ^ q) q)
@@ -285,7 +288,7 @@ module _ (xs ys : List ℤ) where
 
 -- ════ a target cut already ════
 
--- a place before others: what it gives for the SRL stream
+-- what a place before others gives for the SRL stream
 value-then : (b : Bool) (q w : ℕ) (c s : ℤ) (vs : List ℤ)
     → srlGiven (source (stepBy b q w) (cutSignAt b (q + w) c s)) (cutDifference q (cutAt b q c) (cutAt b (q + w) c)) vs
     ≡ srlGiven (source (stepBy b q w) (cutSignAt b (q + w) c s)) (cutDifference q c (cutAt b (q + w) c)) vs

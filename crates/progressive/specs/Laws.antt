@@ -86,10 +86,10 @@ pub data Regains : List Step → List ℤ → List ℤ → List ℤ → Type 0 w
 
 -- what was written is read back, and what that makes of a component
 pub record PassRoundTrip : Type 0 where
-  -- the reader gets every value that the writer sent
+  -- the reader gets every value that a writer sent, by whatever rule
   pub values : (r : Rule) (ts : List Step) (cs ps ss : List ℤ) → Sent r ts cs ps ss → srlValues ts (srlBytes r ts cs ps ss) ss ≡ srlDifferences r ts cs ps ss
   pub numbers : (r : Rule) (ts : List Step) (cs ps ss : List ℤ) → Sent r ts cs ps ss → rawNumbers ts (rawBytes r ts cs ps ss) ss ≡ rawDifferences r ts cs ps ss
-  -- from the previous coefficients and the signs it comes to the target, and to the target's signs
+  -- by the source's rule it comes from the previous coefficients and the signs to the target, and to the target's signs
   pub coefficients : (ts : List Step) (cs ps ss : List ℤ) → Sent floorRule ts cs ps ss → Regains ts cs ps ss
       → upgradedCoefficients ts (srlBytes floorRule ts cs ps ss) (rawBytes floorRule ts cs ps ss) ps ss ≡ cuts ts cs ps ss
   pub signs : (ts : List Step) (cs ps ss : List ℤ) → Sent floorRule ts cs ps ss → Regains ts cs ps ss

@@ -1,4 +1,4 @@
--- A pass that goes on from the coefficients' own cut at the previous positions, as a statement: every value fits its width.
+-- A pass by the source's rule that goes on from the coefficients' own cut at the previous positions, as a statement: every value fits its width.
 -- It holds for every list of steps.
 use mathlib.Core.Path.{_≡_}
 use mathlib.Core.Logic.{_≢_}

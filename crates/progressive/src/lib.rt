@@ -17,7 +17,7 @@ pub use progressive_decoder::decode_upgrade_pass;
 pub use progressive_encoder::Written;
 pub use progressive_encoder::encode_upgrade_pass;
 
-// What the writer wrote is read back, and where the writer's rules bring a component to its target.
+// What a writer wrote is read back, by whatever rule, and where the source's rule brings a component to its target.
 pub fn pass_round_trip()
     ensures { λ _. ⌜ PassRoundTrip ⌝ }
 {}
@@ -33,7 +33,7 @@ pub fn refusals()
     ensures { λ _. ⌜ PassRefusals ⌝ }
 {}
 
-// Where a pass goes on from the coefficients' own cut at the previous positions, every value fits its width: the writer never refuses by 5.
+// Where a pass by the source's rule goes on from the coefficients' own cut at the previous positions, every value fits its width: it is never refused by 5.
 pub fn own_cuts_sent()
     ensures { λ _. ⌜ OwnCutsSent ⌝ }
 {}
