@@ -23,9 +23,9 @@ use Rattle.progressive_decoder.specs.Upgrade.{srlMissing, rawMissing, missingBi
 use Rattle.progressive_decoder.specs.Inner.{countAfter}
 use Rattle.progressive_decoder.specs.declared.MissingBits.{MissingBits}
 use Rattle.progressive_decoder.proofs.Missing.{srl-missing, raw-missing, srl-most, raw-most}
-use Rattle.progressive_encoder.specs.Encode.{rawDifference, rawGiven, rawDifferences, srlBytes, rawBytes, passFault}
+use Rattle.progressive_encoder.specs.Encode.{Rule, rawGiven, rawDifferences, srlBytes, rawBytes, passFault}
 use Rattle.progressive.specs.Missing.{srlBits, sum, rawBits, PassMissingBits}
-use Rattle.progressive.proofs.Regained.{pass-values, taken, long}
+use Rattle.progressive.proofs.AnyRule.{pass-values, taken, long}
 
 -- ════ how many raw bits are read, and written ════
 
@@ -40,22 +40,22 @@ raw-past : (ts : List Step) (rawData : List ℕ) (ss : List ℤ) → rawMissing 
 raw-past ts rawData ss = omega (arith, raw-missing ts rawData ss, count-sum (rawWidths ts ss) 0)
 
 -- the writer writes as many
-raw-written : (ts : List Step) (cs ps ss : List ℤ) → length ts ≤ length cs → length ts ≤ length ps → length ts ≤ length ss → length (bitsOfAll (rawWidths ts ss) (rawDifferences ts cs ps ss)) ≡ rawBits ts ss
+raw-written : (r : Rule) (ts : List Step) (cs ps ss : List ℤ) → length ts ≤ length cs → length ts ≤ length ps → length ts ≤ length ss → length (bitsOfAll (rawWidths ts ss) (rawDifferences r ts cs ps ss)) ≡ rawBits ts ss
 unfolding rawWidths rawDifferences bitsOfAll sum
-raw-written [] cs ps ss h j k = refl
-raw-written (t ∷ ts) [] ps ss h j k = absurd (omega arith)
-raw-written (t ∷ ts) (c ∷ cs) [] ss h j k = absurd (omega arith)
-raw-written (t ∷ ts) (c ∷ cs) (p ∷ ps) [] h j k = absurd (omega arith)
-raw-written (t ∷ ts) (c ∷ cs) (p ∷ ps) (s ∷ ss) h j k = by (source t s) (raw-written ts cs ps ss (omega arith) (omega arith) (omega arith))
+raw-written r [] cs ps ss h j k = refl
+raw-written r (t ∷ ts) [] ps ss h j k = absurd (omega arith)
+raw-written r (t ∷ ts) (c ∷ cs) [] ss h j k = absurd (omega arith)
+raw-written r (t ∷ ts) (c ∷ cs) (p ∷ ps) [] h j k = absurd (omega arith)
+raw-written r (t ∷ ts) (c ∷ cs) (p ∷ ps) (s ∷ ss) h j k = by (source t s) (raw-written r ts cs ps ss (omega arith) (omega arith) (omega arith))
   where
     ws : List ℕ
     ws = rawWidths ts ss
 
     ms : List ℕ
-    ms = rawDifferences ts cs ps ss
+    ms = rawDifferences r ts cs ps ss
 
     m : ℕ
-    m = rawDifference (t .position) c p
+    m = r .number (t .bottom) (t .position) c p
 
     by : (x : Source) → length (bitsOfAll ws ms) ≡ sum ws → length (bitsOfAll (rawWidth x (t .width) ws) (rawGiven x m ms)) ≡ sum (rawWidth x (t .width) ws)
     by skipped e = e
@@ -64,16 +64,16 @@ raw-written (t ∷ ts) (c ∷ cs) (p ∷ ps) (s ∷ ss) h j k = by (source t s) 
 
 -- ════ a whole pass ════
 
-module _ (ts : List Step) (cs ps ss : List ℤ) (h : length ts ≤ length cs) (j : length ts ≤ length ps) (k : length ts ≤ length ss) where
+module _ (r : Rule) (ts : List Step) (cs ps ss : List ℤ) (h : length ts ≤ length cs) (j : length ts ≤ length ps) (k : length ts ≤ length ss) where
   -- the SRL reader ends in the stream
-  srl-whole : passFault ts cs ps ss ≡ 0 → srlMissing ts (srlBytes ts cs ps ss) ss ≡ 0
-  srl-whole e = omega (arith, srl-missing ts (srlBytes ts cs ps ss) ss, pass-values ts cs ps ss h j k e .ends)
+  srl-whole : passFault r ts cs ps ss ≡ 0 → srlMissing ts (srlBytes r ts cs ps ss) ss ≡ 0
+  srl-whole e = omega (arith, srl-missing ts (srlBytes r ts cs ps ss) ss, pass-values r ts cs ps ss h j k e .ends)
 
   -- the raw bits read are those written; no number need fit its width, since its low bits are always written
-  raw-whole : rawMissing ts (rawBytes ts cs ps ss) ss ≡ 0
+  raw-whole : rawMissing ts (rawBytes r ts cs ps ss) ss ≡ 0
   raw-whole =
-      let bits = bitsOfAll (rawWidths ts ss) (rawDifferences ts cs ps ss) in
-      omega (arith, raw-past ts (rawBytes ts cs ps ss) ss, length-pack bits 0 0 (omega arith), raw-written ts cs ps ss h j k)
+      let bits = bitsOfAll (rawWidths ts ss) (rawDifferences r ts cs ps ss) in
+      omega (arith, raw-past ts (rawBytes r ts cs ps ss) ss, length-pack bits 0 0 (omega arith), raw-written r ts cs ps ss h j k)
 
 -- ════ at most how many ════
 
@@ -116,13 +116,13 @@ raw-longer ts rawData ss k = omega (arith, raw-past ts (rawData ++ replicate k 0
 -- in its parts
 pub missing : PassMissingBits
 missing = record {
-  whole = λ cs ps ss prev curr e srlOut rawOut n.
-      let t = taken cs ps ss prev curr e srlOut rawOut n in
+  whole = λ r cs ps ss prev curr e srlOut rawOut n.
+      let t = taken r cs ps ss prev curr e srlOut rawOut n in
       let ts = steps e prev curr in
       let h = long e prev curr cs (t .coefficients-long) in
       let j = long e prev curr ps (t .previous-long) in
       let k = long e prev curr ss (t .signs-long) in
-      simp (t .previous-long, t .signs-long, t .rows) (ap₂ missingBits (srl-whole ts cs ps ss h j k (t .no-fault)) (raw-whole ts cs ps ss h j k));
+      simp (t .previous-long, t .signs-long, t .rows) (ap₂ missingBits (srl-whole r ts cs ps ss h j k (t .no-fault)) (raw-whole r ts cs ps ss h j k));
   call = λ srlData rawData prev curr e cs ss n. ap (λ (r : ℕ). unlessRefused r (passMissing (steps e prev curr) srlData rawData ss) (missingBits 0 0)) n;
   srl-ended = λ ts srlData ss. values-ended srlData (srlWidths ts ss) start;
   raw-ended = λ ts rawData ss.

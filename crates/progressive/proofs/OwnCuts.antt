@@ -1,12 +1,11 @@
 -- A pass that goes on from the coefficients' own cut: what each place gives fits its width, then all places, then the writer's call. Assumes nothing.
 use mathlib.Core.Path.{_≡_, refl, sym, ap, _∙_}
 use mathlib.Core.Logic.{_≢_}
-use mathlib.Core.Bool.{Bool, true, false, cond, _&&_, _||_, true≢false}
+use mathlib.Core.Bool.{Bool, true, false, cond, _&&_, true≢false}
 use mathlib.Core.List.{List}
 use Prim.Native.Nat.{ℕ, zero, suc, _+_, _-_, _*_, _/_, _^_, _≤_, _<_}
 use native.Mathlib.Nat.{zero-div, div-lt-iff-lt-mul, mul-assoc, mul-comm}
 use native.Mathlib.Omega.{arith}
-use borrow.Author.Tests.{le-ltb}
 use lib.Dec.{ltb}
 use lib.IntN.{ℤ, pos, negsuc, natAbs, _-ℤ_, +ℤ-idr}
 use lib.ListN.{length}
@@ -16,32 +15,38 @@ use Rattle.fixed.specs.Cut.{cutLevel, towardZero}
 use Rattle.fixed.proofs.Cuts.{cut-rest, rest-small, abs-toward}
 use Rattle.fixed.proofs.Sign.{zero-is}
 use Rattle.bands.specs.Positions.{rowInDomain}
-use Rattle.srl.specs.Laws.{Legal, legal}
-use Rattle.upgrade_steps.specs.Steps.{Step, Source, skipped, srl, raw, source, sourceOf, steps, srlWidth, srlWidths, rawWidth, rawWidths}
+use Rattle.upgrade_steps.specs.Steps.{Step, source, sourceOf, steps}
 use Rattle.answer.specs.Refusals.{sliceTooShort, outOfDomain, magnitudeOutOfRange, outputTooShort, unless, firstOf, longEnough}
-use Rattle.progressive_encoder.specs.Encode.{srlDifference, rawDifference, srlGiven, srlDifferences, rawGiven, rawDifferences, srlBytes, rawBytes, anyTooLarge, passFault, encodePassRefusal}
-use Rattle.progressive.specs.Laws.{Small, small, Sent}
+use Rattle.progressive_encoder.specs.Encode.{floorRule, srlDifference, rawDifference, srlBytes, rawBytes, passFault, encodePassRefusal}
 use Rattle.progressive.specs.OwnCuts.{OwnCut, OwnCuts, OwnCutsSent}
+use Rattle.progressive.proofs.AnyRule.{Fitting, Fittings, fitting, all-sent}
 
 -- ════ a magnitude ════
 
--- what a cut at 2^(q + w) leaves, in steps of 2^q
-cut-steps : (q w n : ℕ) → cutLevel (q + w) n / 2 ^ q ≡ cutLevel w (n / 2 ^ q)
-cut-steps q w n =
+-- a cut at 2^(q + w) is a cut at 2^w, in steps of 2^q
+cut-split : (q w n : ℕ) → cutLevel (q + w) n ≡ cutLevel w (n / 2 ^ q) * 2 ^ q
+cut-split q w n =
     let k = n / 2 ^ (q + w) in
-    ap (λ (m : ℕ). k * m / 2 ^ q) (pow-add 2 q w ∙ mul-comm (2 ^ q) (2 ^ w))
-    ∙ ap (λ (m : ℕ). m / 2 ^ q) (sym (mul-assoc k (2 ^ w) (2 ^ q)))
-    ∙ shl-shr (k * 2 ^ w) q
-    ∙ ap (λ (m : ℕ). m * 2 ^ w) (sym (shr-shr n q w))
+    ap (λ (m : ℕ). k * m) (pow-add 2 q w ∙ mul-comm (2 ^ q) (2 ^ w))
+    ∙ sym (mul-assoc k (2 ^ w) (2 ^ q))
+    ∙ ap (λ (m : ℕ). m * 2 ^ w * 2 ^ q) (sym (shr-shr n q w))
 
--- so what it takes away is less than 2^w of them
+-- so many of them
+cut-steps : (q w n : ℕ) → cutLevel (q + w) n / 2 ^ q ≡ cutLevel w (n / 2 ^ q)
+cut-steps q w n = ap (λ (m : ℕ). m / 2 ^ q) (cut-split q w n) ∙ shl-shr (cutLevel w (n / 2 ^ q)) q
+
+-- with nothing left to cut at 2^q
+pub cut-clean : (q w n : ℕ) → cutLevel q (cutLevel (q + w) n) ≡ cutLevel (q + w) n
+cut-clean q w n = ap (λ (m : ℕ). m * 2 ^ q) (cut-steps q w n) ∙ sym (cut-split q w n)
+
+-- what it takes away is less than 2^w of them
 taken-small : (q w n : ℕ) → n / 2 ^ q - cutLevel (q + w) n / 2 ^ q < 2 ^ w
 taken-small q w n = omega (arith, cut-steps q w n, cut-rest w (n / 2 ^ q), rest-small w (n / 2 ^ q))
 
 -- ════ one place ════
 
 -- a raw number over the own cut
-number-small : (q w : ℕ) (c p : ℤ) → towardZero (q + w) c ≡ p → rawDifference q c p < 2 ^ w
+pub number-small : (q w : ℕ) (c p : ℤ) → towardZero (q + w) c ≡ p → rawDifference q c p < 2 ^ w
 number-small q w c p e =
     let n : natAbs p ≡ cutLevel (q + w) (natAbs c) = ap natAbs (sym e) ∙ abs-toward (q + w) c in
     rw n (taken-small q w (natAbs c))
@@ -70,20 +75,14 @@ value-small q w c p h e z =
     rw d (omega (arith, clamp-less v, floor-abs q c h, k, zero-div (2 ^ q)))
 
 -- a sign is 0 only where the value is
-sign-none : (v : ℤ) → signOf v ≡ pos 0 → v ≡ pos 0
+pub sign-none : (v : ℤ) → signOf v ≡ pos 0 → v ≡ pos 0
 unfolding isZero signOf
 sign-none (pos zero) e = refl
 sign-none (pos (suc n)) e = absurd (true≢false (ap isZero (sym e)))
 sign-none (negsuc n) e = absurd (true≢false (ap isZero (sym e)))
 
--- what a place gives has no more bits than its width
-abbrev Fitting : Source → Step → ℤ → ℤ → Type 0
-Fitting skipped t c p = Unit {0}
-Fitting srl t c p = natAbs (srlDifference (t .position) c p) < 2 ^ t .width
-Fitting raw t c p = rawDifference (t .position) c p < 2 ^ t .width
-
 -- by where its value goes: a width of 0 gives nothing, and outside the bottom a zero sign says that the previous coefficient is 0
-place-fitting : (t : Step) (c p s : ℤ) → OwnCut t c p s → Fitting (source t s) t c p
+place-fitting : (t : Step) (c p s : ℤ) → OwnCut t c p s → Fitting floorRule (source t s) t c p
 place-fitting t c p s o = by (t .bottom) refl (t .width) (isZero s) refl
   where
     value : p ≡ pos 0 → natAbs (srlDifference (t .position) c p) < 2 ^ t .width
@@ -92,7 +91,7 @@ place-fitting t c p s o = by (t .bottom) refl (t .width) (isZero s) refl
     number : rawDifference (t .position) c p < 2 ^ t .width
     number = number-small (t .position) _ c p (o .from)
 
-    by : (b : Bool) → t .bottom ≡ b → (w : ℕ) (z : Bool) → isZero s ≡ z → Fitting (sourceOf b w z) t c p
+    by : (b : Bool) → t .bottom ≡ b → (w : ℕ) (z : Bool) → isZero s ≡ z → Fitting floorRule (sourceOf b w z) t c p
     by b f zero z e = tt
     by true f (suc w) z e = number
     by false f (suc w) true e = value (sign-none p (o .own f ∙ zero-is s e))
@@ -100,60 +99,12 @@ place-fitting t c p s o = by (t .bottom) refl (t .width) (isZero s) refl
 
 -- ════ all places ════
 
--- a place before others: the values
-legal-then : (o : Source) (t : Step) (c p : ℤ) {ws : List ℕ} {vs : List ℤ} → Fitting o t c p → Legal ws vs → Legal (srlWidth o (t .width) ws) (srlGiven o (srlDifference (t .position) c p) vs)
-legal-then skipped t c p h l = l
-legal-then srl t c p h l = legal h l
-legal-then raw t c p h l = l
-
--- the raw numbers
-small-then : (o : Source) (t : Step) (c p : ℤ) {ws ms : List ℕ} → Fitting o t c p → Small ws ms → Small (rawWidth o (t .width) ws) (rawGiven o (rawDifference (t .position) c p) ms)
-small-then skipped t c p h l = l
-small-then srl t c p h l = l
-small-then raw t c p h l = small h l
-
--- what such a pass gives
-record Gives (ts : List Step) (cs ps ss : List ℤ) : Type 0 where
-  coefficients-long : length ts ≤ length cs
-  previous-long : length ts ≤ length ps
-  signs-long : length ts ≤ length ss
-  legals : Legal (srlWidths ts ss) (srlDifferences ts cs ps ss)
-  smalls : Small (rawWidths ts ss) (rawDifferences ts cs ps ss)
-
--- place by place
-gives : {ts : List Step} {cs ps ss : List ℤ} → OwnCuts ts cs ps ss → Gives ts cs ps ss
-unfolding srlWidths srlDifferences rawWidths rawDifferences
-gives OwnCuts.none = record { coefficients-long = omega arith; previous-long = omega arith; signs-long = omega arith; legals = Legal.none; smalls = Small.none }
-gives (OwnCuts.own {t = t} {c = c} {p = p} {s = s} {ts = ts} {cs = cs} {ps = ps} {ss = ss} o os) =
-    let g = gives os in
-    let f = place-fitting t c p s o in
-    record {
-      coefficients-long = omega (arith, g .coefficients-long);
-      previous-long = omega (arith, g .previous-long);
-      signs-long = omega (arith, g .signs-long);
-      legals = legal-then (source t s) t c p f (g .legals);
-      smalls = small-then (source t s) t c p f (g .smalls);
-    }
-
--- values that fit are not too large
-none-large : {ws : List ℕ} {vs : List ℤ} → Legal ws vs → anyTooLarge ws vs ≡ false
-unfolding anyTooLarge
-none-large Legal.none = refl
-none-large (legal {w = w} {v = v} {ws = ws} {vs = vs} h l) = ap (λ (b : Bool). b || anyTooLarge ws vs) (le-ltb (2 ^ w - 1) (natAbs v) (omega arith)) ∙ none-large l
+-- one after another
+all-fitting : {ts : List Step} {cs ps ss : List ℤ} → OwnCuts ts cs ps ss → Fittings floorRule ts cs ps ss
+all-fitting OwnCuts.none = Fittings.none
+all-fitting (OwnCuts.own {t = t} {c = c} {p = p} {s = s} o os) = fitting (place-fitting t c p s o) (all-fitting os)
 
 -- ════ the law ════
-
--- of every list of steps
-all-sent : (ts : List Step) (cs ps ss : List ℤ) → OwnCuts ts cs ps ss → Sent ts cs ps ss
-all-sent ts cs ps ss o =
-    let g = gives o in
-    record {
-      coefficients-long = g .coefficients-long;
-      previous-long = g .previous-long;
-      signs-long = g .signs-long;
-      srl-fits = ap (λ (b : Bool). cond b magnitudeOutOfRange 0) (none-large (g .legals));
-      raw-fits = g .smalls;
-    }
 
 -- without a fault, what is refused is refused by 1, 2 or 7
 no-5 : (a b c d : Bool) (f : ℕ) → f ≡ 0
@@ -167,14 +118,14 @@ no-5 true true false false zero h e = absurd (omega (arith, e))
 
 -- of a call
 calls-sent : (cs ps ss : List ℤ) (prev curr : List ℕ) (e : Bool) (srlOut rawOut : List ℕ)
-    → OwnCuts (steps e prev curr) cs ps ss → encodePassRefusal cs ps prev curr ss e srlOut rawOut ≢ magnitudeOutOfRange
+    → OwnCuts (steps e prev curr) cs ps ss → encodePassRefusal floorRule cs ps prev curr ss e srlOut rawOut ≢ magnitudeOutOfRange
 calls-sent cs ps ss prev curr e srlOut rawOut o =
     let ts = steps e prev curr in
     no-5 (longEnough cs && (longEnough ps && longEnough ss)) (rowInDomain prev && rowInDomain curr)
-    (ltb (length srlOut) (length (srlBytes ts cs ps ss))) (ltb (length rawOut) (length (rawBytes ts cs ps ss)))
-    (passFault ts cs ps ss)
-    (all-sent ts cs ps ss o .srl-fits)
+    (ltb (length srlOut) (length (srlBytes floorRule ts cs ps ss))) (ltb (length rawOut) (length (rawBytes floorRule ts cs ps ss)))
+    (passFault floorRule ts cs ps ss)
+    (all-sent (all-fitting o) .srl-fits)
 
 -- the law, in both its parts
 pub own-cuts-sent : OwnCutsSent
-own-cuts-sent = record { sent = all-sent; never-5 = calls-sent }
+own-cuts-sent = record { sent = λ ts cs ps ss o. all-sent (all-fitting o); never-5 = calls-sent }

@@ -1,14 +1,11 @@
--- The round trip of a pass: what was written is read back, and what that makes of each place.
+-- The round trip of a pass by the source's rule: what the reader makes of each place, then of lists, then the calls.
 use mathlib.Core.Path.{_≡_, refl, sym, ap, ap₂, _∙_, subst}
-use mathlib.Core.Bool.{Bool, true, false, cond, _&&_, _||_, true≢false}
-use mathlib.Core.List.{List, [], _∷_, append-nil}
+use mathlib.Core.Bool.{Bool, true, false, true≢false}
+use mathlib.Core.List.{List}
 use Prim.Native.Nat.{ℕ, zero, suc, _+_, _-_, _*_, _/_, _^_, _≤_, _<_}
 use native.Mathlib.Nat.{zero-div, div-le-self, div-lt-iff-lt-mul, le-div-iff-mul-le, mul-le-mul-right, add-mul}
 use native.Mathlib.Omega.{arith}
-use borrow.Author.Tests.{leb-true, ltb-false}
-use lib.Dec.{ltb}
-use lib.IntN.{ℤ, pos, negsuc, natAbs, negℤ, _+ℤ_, _-ℤ_, +ℤ-idl, +ℤ-idr, negℤ-+ℤ}
-use lib.ListN.{length}
+use lib.IntN.{ℤ, pos, negsuc, negℤ, _+ℤ_, _-ℤ_, _*ℤ_, +ℤ-idl, +ℤ-idr, negℤ-+ℤ}
 use lib.Pow.{pow-pos, pow-add}
 use lib.Signed.{mag}
 use Rattle.fixed.specs.Fixed.{clampI16, floorShift, isZero, signOf, addScaled, subScaled}
@@ -16,23 +13,13 @@ use Rattle.fixed.specs.Cut.{cutLevel, towardZero, downward}
 use Rattle.fixed.proofs.Clamp.{clamp-same}
 use Rattle.fixed.proofs.Cuts.{cut-below, toward-pos, toward-neg}
 use Rattle.fixed.proofs.Sign.{with-minus, abs-minus}
-use Rattle.bands.specs.Positions.{rowInDomain}
-use Rattle.bands.proofs.Every.{both-true}
-use Rattle.bands.proofs.Spread.{place-whole}
 use Rattle.bits.specs.Bits.{numbers}
-use Rattle.bits.specs.Written.{bitsOf, bitsOfAll, pack}
-use Rattle.bits.proofs.Holds.{Holds, holds-append, num-holds, pack-holds}
-use Rattle.bits.proofs.Puts.{length-bitsOf}
-use Rattle.srl_decoder.specs.Srl.{start, values, readerAfter}
-use Rattle.srl.specs.Laws.{Legal, legal}
-use Rattle.answer.proofs.Numbers.{first-none}
-use Rattle.srl.proofs.Trip.{ReadBack, stream-back}
-use Rattle.upgrade_steps.specs.Steps.{Step, Source, skipped, srl, raw, source, sourceOf, steps, stepOf, srlWidths, rawWidths}
-use Rattle.answer.specs.Refusals.{sliceTooShort, outOfDomain, magnitudeOutOfRange, unless, firstOf, longEnough}
-use Rattle.progressive_decoder.specs.Upgrade.{srlCoefficient, srlSign, adds, rawCoefficient, signThen, signsAfter, coefficientThen, coefficientsAfter, srlValues, rawNumbers, decodeCoefficients, decodeSigns}
-use Rattle.progressive_encoder.specs.Encode.{srlDifference, rawDifference, srlGiven, srlDifferences, rawGiven, rawDifferences, srlStream, srlBytes, rawBytes, anyTooLarge, valuesFault, passFault, noRoomFor, encodePassRefusal}
-use Rattle.progressive_encoder.proofs.Placewise.{same-length}
-use Rattle.progressive.specs.Laws.{Small, small, Sent, cutBy, cuts, cutSign, cutSigns, Onward, Regained, Regains, regained, PassRoundTrip}
+use Rattle.srl_decoder.specs.Srl.{values}
+use Rattle.upgrade_steps.specs.Steps.{Step, Source, skipped, srl, raw, source, sourceOf, steps, rawWidths}
+use Rattle.progressive_decoder.specs.Upgrade.{srlCoefficient, srlSign, adds, rawCoefficient, decodeCoefficients, decodeSigns}
+use Rattle.progressive_encoder.specs.Encode.{floorRule, srlDifference, rawDifference, rawDifferences, srlBytes, rawBytes, encodePassRefusal}
+use Rattle.progressive.specs.Laws.{Small, Sent, cutBy, cuts, cutSign, cutSigns, Onward, Regained, Regains, regained, PassRoundTrip}
+use Rattle.progressive.proofs.AnyRule.{values-back, numbers-back, comesTo, signTo, Comes, comes, come-back, taken, long, calls-come}
 
 -- ════ a place with an SRL value ════
 
@@ -50,16 +37,21 @@ over-zero q c h =
 up : (n : ℕ) → n ≤ 32767 → clampI16 (pos n) ≡ pos n
 up n h = sym (clamp-same (pos n) (omega arith))
 
+neg-small : (n : ℕ) → n ≤ 32768 → mag (negℤ (pos n)) < 32768
+neg-small zero h = omega arith
+neg-small (suc n) h = omega arith
+
 down : (n : ℕ) → n ≤ 32768 → clampI16 (negℤ (pos n)) ≡ negℤ (pos n)
-down zero h = sym (clamp-same (pos 0) (omega arith))
-down (suc n) h = sym (clamp-same (negsuc n) (omega arith))
+down n h = sym (clamp-same (negℤ (pos n)) (neg-small n h))
 
-up-from-zero : (q m : ℕ) → m * 2 ^ q ≤ 32767 → srlCoefficient q (pos m) (pos 0) ≡ pos (m * 2 ^ q)
-unfolding addScaled
-up-from-zero q zero h = ap pos {x = 0} {y = 0 * 2 ^ q} (omega arith)
-up-from-zero q (suc m) h = ap clampI16 (+ℤ-idl (pos (suc m * 2 ^ q))) ∙ up (suc m * 2 ^ q) h
+-- from 0 a value brings its multiple of 2^q, where that stays so
+pub from-zero : (q : ℕ) (v : ℤ) → mag (v *ℤ pos (2 ^ q)) < 32768 → srlCoefficient q v (pos 0) ≡ v *ℤ pos (2 ^ q)
+unfolding addScaled subScaled
+from-zero q (pos zero) h = ap pos {x = 0} {y = 0 * 2 ^ q} (omega arith)
+from-zero q (pos (suc m)) h = ap clampI16 (+ℤ-idl (pos (suc m * 2 ^ q))) ∙ sym (clamp-same (pos (suc m * 2 ^ q)) h)
+from-zero q (negsuc m) h = ap clampI16 (with-minus (suc m * 2 ^ q) true refl) ∙ sym (clamp-same (negℤ (pos (suc m * 2 ^ q))) h)
 
--- rounded down, no coefficient leaves the range
+-- rounded down, no coefficient leaves sixteen bits
 floor-room : (q n : ℕ) → q ≤ 15 → n < 32768 → suc (n / 2 ^ q) * 2 ^ q ≤ 32768
 floor-room q n l h =
     let y = 2 ^ (15 - q) in
@@ -68,10 +60,9 @@ floor-room q n l h =
     let less : n / 2 ^ q < y = div-lt-iff-lt-mul {k = 2 ^ q} {x = n} {y = y} (pow-pos q) .1 (omega (arith, whole)) in
     omega (arith, whole, mul-le-mul-right {m = suc (n / 2 ^ q)} {n = y} (2 ^ q) (omega (arith, less)))
 
-srl-cut : (q : ℕ) (c : ℤ) → q ≤ 15 → mag c < 32768 → srlCoefficient q (floorShift c q) (pos 0) ≡ downward q c
-unfolding subScaled
-srl-cut q (pos n) l h = up-from-zero q (n / 2 ^ q) (omega (arith, cut-below q n))
-srl-cut q (negsuc n) l h = ap clampI16 (with-minus (suc (n / 2 ^ q) * 2 ^ q) true refl) ∙ down (suc (n / 2 ^ q) * 2 ^ q) (floor-room q n l h)
+pub down-range : (q : ℕ) (c : ℤ) → q ≤ 15 → mag c < 32768 → mag (downward q c) < 32768
+down-range q (pos n) l h = omega (arith, cut-below q n)
+down-range q (negsuc n) l h = neg-small (suc (n / 2 ^ q) * 2 ^ q) (floor-room q n l h)
 
 -- ════ a place with raw bits ════
 
@@ -103,7 +94,8 @@ neg-range : (n : ℕ) → mag (negℤ (pos n)) < 32768 → n ≤ 32768
 neg-range zero h = omega arith
 neg-range (suc n) h = omega arith
 
-raw-cut : (b : Bool) (q : ℕ) (c p : ℤ) → Onward b q c p → rawCoefficient b q (rawDifference q c p) p ≡ towardZero q c
+-- so raw bits bring the target
+pub raw-cut : (b : Bool) (q : ℕ) (c p : ℤ) → Onward b q c p → rawCoefficient b q (rawDifference q c p) p ≡ towardZero q c
 raw-cut true q c p o =
     ap₂ (λ (c p : ℤ). rawCoefficient true q (rawDifference q c p) p) (o .goal) (o .from)
     ∙ raw-up q (o .far) (o .near) (subst (λ (c : ℤ). mag c < 32768) (o .goal) (o .range)) (o .further) (o .clean)
@@ -114,65 +106,14 @@ raw-cut false q c p o =
     ∙ raw-down q (o .far) (o .near) (neg-range (o .far) (subst (λ (c : ℤ). mag c < 32768) (o .goal) (o .range))) (o .further) (o .clean)
     ∙ sym (ap (towardZero q) (o .goal) ∙ toward-neg q (o .far))
 
--- ════ the values and numbers that were written are read back ════
-
-all-legal : (ws : List ℕ) (vs : List ℤ) → length vs ≡ length ws → valuesFault ws vs ≡ 0 → Legal ws vs
-unfolding anyTooLarge
-all-legal [] [] l e = Legal.none
-all-legal [] (v ∷ vs) l e = absurd (omega (arith, l))
-all-legal (w ∷ ws) [] l e = absurd (omega (arith, l))
-all-legal (w ∷ ws) (v ∷ vs) l e = by (ltb (2 ^ w - 1) (natAbs v)) refl e (all-legal ws vs (omega (arith, l)))
-  where
-    by : (b : Bool) → ltb (2 ^ w - 1) (natAbs v) ≡ b → cond (b || anyTooLarge ws vs) magnitudeOutOfRange 0 ≡ 0 → (valuesFault ws vs ≡ 0 → Legal ws vs) → Legal (w ∷ ws) (v ∷ vs)
-    by true q e ih = absurd (omega (arith, e))
-    by false q e ih = legal {w = w} {v = v} (omega (arith, ltb-false (2 ^ w - 1) (natAbs v) q, pow-pos w)) (ih e)
-
--- the SRL stream of values that fit their widths is read back as these values, and no bit past its end is read
-pub read-values : (ws : List ℕ) (vs : List ℤ) → Legal ws vs → ReadBack (srlStream ws vs) ws start vs (8 * length (srlStream ws vs))
-unfolding values readerAfter
-read-values [] [] l = record { gives = refl; ends = omega arith }
-read-values ws (v ∷ vs) l = stream-back l (srlStream ws (v ∷ vs)) refl
-
--- and so is a raw stream, from wherever the bits of its numbers stand
-pub read-numbers : {ws ms : List ℕ} → Small ws ms → (s : List ℕ) (n : ℕ) → Holds s n (bitsOfAll ws ms) → numbers s ws n ≡ ms
-unfolding numbers bitsOfAll
-read-numbers Small.none s n h = refl
-read-numbers (small {w = w} {m = m} {ws = ws} {ms = ms} l ls) s n h =
-    let r = holds-append s n (bitsOf w m) (bitsOfAll ws ms) h in
-    ap₂ (λ (x : ℕ) (xs : List ℕ). x ∷ xs) (num-holds s n w m l (r .0))
-    (read-numbers ls s (n + w) (subst (λ (k : ℕ). Holds s (n + k) (bitsOfAll ws ms)) (length-bitsOf w m) (r .1)))
-
--- the SRL values of an accepted pass
-pub pass-values : (ts : List Step) (cs ps ss : List ℤ) → length ts ≤ length cs → length ts ≤ length ps → length ts ≤ length ss → passFault ts cs ps ss ≡ 0
-    → ReadBack (srlBytes ts cs ps ss) (srlWidths ts ss) start (srlDifferences ts cs ps ss) (8 * length (srlBytes ts cs ps ss))
-pass-values ts cs ps ss h j k e =
-    read-values (srlWidths ts ss) (srlDifferences ts cs ps ss) (all-legal (srlWidths ts ss) (srlDifferences ts cs ps ss) (sym (same-length ts cs ps ss h j k)) e)
-
-values-back : (ts : List Step) (cs ps ss : List ℤ) → Sent ts cs ps ss → srlValues ts (srlBytes ts cs ps ss) ss ≡ srlDifferences ts cs ps ss
-values-back ts cs ps ss h = pass-values ts cs ps ss (h .coefficients-long) (h .previous-long) (h .signs-long) (h .srl-fits) .gives
-
-numbers-back : (ts : List Step) (cs ps ss : List ℤ) → Sent ts cs ps ss → rawNumbers ts (rawBytes ts cs ps ss) ss ≡ rawDifferences ts cs ps ss
-numbers-back ts cs ps ss h =
-    let bits = bitsOfAll (rawWidths ts ss) (rawDifferences ts cs ps ss) in
-    read-numbers (h .raw-fits) (pack 0 0 bits) 0 (pack-holds bits (pack 0 0 bits) 0 0 0 [] (omega arith) (sym (append-nil (pack 0 0 bits))))
-
 -- ════ all places ════
 
-place-cut : (o : Source) (t : Step) (c p s : ℤ) (vs : List ℤ) (ms : List ℕ) (rest : List ℤ → List ℕ → List ℤ) (l : List ℤ) → Regained o t c p s → rest vs ms ≡ l
-    → coefficientThen o t p s (srlGiven o (srlDifference (t .position) c p) vs) (rawGiven o (rawDifference (t .position) c p) ms) rest ≡ cutBy o (t .position) c p ∷ l
-place-cut skipped t c p s vs ms rest l r e = ap (λ (k : List ℤ). p ∷ k) e
-place-cut srl t c p s vs ms rest l r e =
+place-cut : (o : Source) (t : Step) (c p s : ℤ) → Regained o t c p s → comesTo floorRule o t c p s ≡ cutBy o (t .position) c p
+place-cut skipped t c p s r = refl
+place-cut srl t c p s r =
     let q = t .position in
-    let v : srlCoefficient q (srlDifference q c p) p ≡ downward q c =
-    ap (λ (p : ℤ). srlCoefficient q (srlDifference q c p) p) (r .0) ∙ ap (λ (v : ℤ). srlCoefficient q v (pos 0)) (over-zero q c (r .1)) ∙ srl-cut q c (r .2) (r .1) in
-    ap₂ (λ (x : ℤ) (k : List ℤ). x ∷ k) v e
-place-cut raw t c p s vs ms rest l r e = ap₂ (λ (x : ℤ) (k : List ℤ). x ∷ k) (raw-cut (adds t s) (t .position) c p r) e
-
-all-cut : {ts : List Step} {cs ps ss : List ℤ} → Regains ts cs ps ss → coefficientsAfter ts ps ss (srlDifferences ts cs ps ss) (rawDifferences ts cs ps ss) ≡ cuts ts cs ps ss
-unfolding coefficientsAfter srlDifferences rawDifferences cuts
-all-cut Regains.none = refl
-all-cut (regained {t = t} {c = c} {p = p} {s = s} {ts = ts} {cs = cs} {ps = ps} {ss = ss} r rs) =
-    place-cut (source t s) t c p s (srlDifferences ts cs ps ss) (rawDifferences ts cs ps ss) (coefficientsAfter ts ps ss) (cuts ts cs ps ss) r (all-cut rs)
+    ap (λ (p : ℤ). srlCoefficient q (srlDifference q c p) p) (r .0) ∙ ap (λ (v : ℤ). srlCoefficient q v (pos 0)) (over-zero q c (r .1)) ∙ from-zero q (floorShift c q) (down-range q c (r .2) (r .1))
+place-cut raw t c p s r = raw-cut (adds t s) (t .position) c p r
 
 -- a place that has an SRL value has sign 0
 abbrev IsSrl : Source → Type 0
@@ -187,7 +128,7 @@ srl-zero false (suc w) true e = refl
 srl-zero false (suc w) false e = absurd e
 
 -- and a value that is not 0 sets it
-sign-cut : (v s : ℤ) → isZero s ≡ true → srlSign v s ≡ signOf v
+pub sign-cut : (v s : ℤ) → isZero s ≡ true → srlSign v s ≡ signOf v
 unfolding isZero signOf
 sign-cut v (pos (suc n)) e = absurd (true≢false (sym e))
 sign-cut v (negsuc n) e = absurd (true≢false (sym e))
@@ -195,68 +136,30 @@ sign-cut (pos zero) (pos zero) e = refl
 sign-cut (pos (suc m)) (pos zero) e = refl
 sign-cut (negsuc m) (pos zero) e = refl
 
-place-sign : (o : Source) (t : Step) (c p s : ℤ) (vs : List ℤ) (rest : List ℤ → List ℤ) (l : List ℤ) → source t s ≡ o → Regained o t c p s → rest vs ≡ l
-    → signThen o s (srlGiven o (srlDifference (t .position) c p) vs) rest ≡ cutSign o (t .position) c s ∷ l
-place-sign skipped t c p s vs rest l h r e = ap (λ (k : List ℤ). s ∷ k) e
-place-sign srl t c p s vs rest l h r e =
+place-sign : (o : Source) (t : Step) (c p s : ℤ) → source t s ≡ o → Regained o t c p s → signTo floorRule o t c p s ≡ cutSign o (t .position) c s
+place-sign skipped t c p s h r = refl
+place-sign srl t c p s h r =
     let q = t .position in
-    let v : srlSign (srlDifference q c p) s ≡ signOf (floorShift c q) =
-    ap (λ (v : ℤ). srlSign v s) (ap (srlDifference q c) (r .0) ∙ over-zero q c (r .1)) ∙ sign-cut (floorShift c q) s (srl-zero (t .bottom) (t .width) (isZero s) (subst IsSrl (sym h) tt)) in
-    ap₂ (λ (x : ℤ) (k : List ℤ). x ∷ k) v e
-place-sign raw t c p s vs rest l h r e = ap (λ (k : List ℤ). s ∷ k) e
+    ap (λ (v : ℤ). srlSign v s) (ap (srlDifference q c) (r .0) ∙ over-zero q c (r .1)) ∙ sign-cut (floorShift c q) s (srl-zero (t .bottom) (t .width) (isZero s) (subst IsSrl (sym h) tt))
+place-sign raw t c p s h r = refl
 
-all-signs : {ts : List Step} {cs ps ss : List ℤ} → Regains ts cs ps ss → signsAfter ts ss (srlDifferences ts cs ps ss) ≡ cutSigns ts cs ss
-unfolding signsAfter srlDifferences cutSigns
-all-signs Regains.none = refl
-all-signs (regained {t = t} {c = c} {p = p} {s = s} {ts = ts} {cs = cs} {ps = ps} {ss = ss} r rs) =
-    place-sign (source t s) t c p s (srlDifferences ts cs ps ss) (signsAfter ts ss) (cutSigns ts cs ss) refl r (all-signs rs)
+all-regained : {ts : List Step} {cs ps ss : List ℤ} → Regains ts cs ps ss → Comes floorRule ts cs ps ss (cuts ts cs ps ss) (cutSigns ts cs ss)
+unfolding cuts cutSigns
+all-regained Regains.none = Comes.none
+all-regained (regained {t = t} {c = c} {p = p} {s = s} r rs) =
+    comes (place-cut (source t s) t c p s r) (place-sign (source t s) t c p s refl r) (all-regained rs)
 
 -- ════ the law ════
 
-module _ (ts : List Step) (cs ps ss : List ℤ) (h : Sent ts cs ps ss) (r : Regains ts cs ps ss) where
-  coefficients-back : coefficientsAfter ts ps ss (srlValues ts (srlBytes ts cs ps ss) ss) (rawNumbers ts (rawBytes ts cs ps ss) ss) ≡ cuts ts cs ps ss
-  coefficients-back = ap₂ (coefficientsAfter ts ps ss) (values-back ts cs ps ss h) (numbers-back ts cs ps ss h) ∙ all-cut r
-
-  signs-back : signsAfter ts ss (srlValues ts (srlBytes ts cs ps ss) ss) ≡ cutSigns ts cs ss
-  signs-back = ap (signsAfter ts ss) (values-back ts cs ps ss h) ∙ all-signs r
-
--- what an accepted call of the writer says of its arguments
-pub record Taken (cs ps ss : List ℤ) (prev curr : List ℕ) (e : Bool) : Type 0 where
-  pub coefficients-long : longEnough cs ≡ true
-  pub previous-long : longEnough ps ≡ true
-  pub signs-long : longEnough ss ≡ true
-  pub rows : (rowInDomain prev && rowInDomain curr) ≡ true
-  pub no-fault : passFault (steps e prev curr) cs ps ss ≡ 0
-
--- an accepted call passed every test
-pub taken : (cs ps ss : List ℤ) (prev curr : List ℕ) (e : Bool) (srlOut rawOut : List ℕ) → encodePassRefusal cs ps prev curr ss e srlOut rawOut ≡ 0 → Taken cs ps ss prev curr e
-taken cs ps ss prev curr e srlOut rawOut = by (longEnough cs && (longEnough ps && longEnough ss)) refl (rowInDomain prev && rowInDomain curr) refl
-  where
-    rest : ℕ
-    rest = noRoomFor (srlBytes (steps e prev curr) cs ps ss) srlOut (rawBytes (steps e prev curr) cs ps ss) rawOut
-
-    by : (a : Bool) → (longEnough cs && (longEnough ps && longEnough ss)) ≡ a → (b : Bool) → (rowInDomain prev && rowInDomain curr) ≡ b
-        → firstOf (unless a sliceTooShort) (firstOf (unless b outOfDomain) (firstOf (passFault (steps e prev curr) cs ps ss) rest)) ≡ 0 → Taken cs ps ss prev curr e
-    by true la true lb k =
-        let one = both-true (longEnough cs) (longEnough ps && longEnough ss) la in
-        let two = both-true (longEnough ps) (longEnough ss) (one .1) in
-        record { coefficients-long = one .0; previous-long = two .0; signs-long = two .1; rows = lb; no-fault = first-none (passFault (steps e prev curr) cs ps ss) rest k .0 }
-    by true la false lb k = absurd (omega (arith, k))
-    by false la b lb k = absurd (omega (arith, k))
-
--- a slice that is long enough has an element for each place
-pub long : {A : Type 0} (e : Bool) (prev curr : List ℕ) (l : List A) → longEnough l ≡ true → length (steps e prev curr) ≤ length l
-long e prev curr l h = omega (arith, leb-true 4096 (length l) h, place-whole e (stepOf prev curr))
-
 calls-back : (cs ps ss : List ℤ) (prev curr : List ℕ) (e : Bool) (srlOut rawOut : List ℕ)
-    → encodePassRefusal cs ps prev curr ss e srlOut rawOut ≡ 0
-    → Small (rawWidths (steps e prev curr) ss) (rawDifferences (steps e prev curr) cs ps ss)
+    → encodePassRefusal floorRule cs ps prev curr ss e srlOut rawOut ≡ 0
+    → Small (rawWidths (steps e prev curr) ss) (rawDifferences floorRule (steps e prev curr) cs ps ss)
     → Regains (steps e prev curr) cs ps ss
-    → (decodeCoefficients (srlBytes (steps e prev curr) cs ps ss) (rawBytes (steps e prev curr) cs ps ss) prev curr e ps ss ≡ cuts (steps e prev curr) cs ps ss)
-    × (decodeSigns (srlBytes (steps e prev curr) cs ps ss) prev curr e ps ss ≡ cutSigns (steps e prev curr) cs ss)
+    → (decodeCoefficients (srlBytes floorRule (steps e prev curr) cs ps ss) (rawBytes floorRule (steps e prev curr) cs ps ss) prev curr e ps ss ≡ cuts (steps e prev curr) cs ps ss)
+    × (decodeSigns (srlBytes floorRule (steps e prev curr) cs ps ss) prev curr e ps ss ≡ cutSigns (steps e prev curr) cs ss)
 calls-back cs ps ss prev curr e srlOut rawOut k m r =
-    let t = taken cs ps ss prev curr e srlOut rawOut k in
-    let sent : Sent (steps e prev curr) cs ps ss =
+    let t = taken floorRule cs ps ss prev curr e srlOut rawOut k in
+    let sent : Sent floorRule (steps e prev curr) cs ps ss =
     record {
       coefficients-long = long e prev curr cs (t .coefficients-long);
       previous-long = long e prev curr ps (t .previous-long);
@@ -264,8 +167,14 @@ calls-back cs ps ss prev curr e srlOut rawOut k m r =
       srl-fits = t .no-fault;
       raw-fits = m;
     } in
-    (simp (t .previous-long, t .signs-long, t .rows) (coefficients-back (steps e prev curr) cs ps ss sent r), simp (t .previous-long, t .signs-long, t .rows) (signs-back (steps e prev curr) cs ps ss sent r))
+    calls-come prev curr e (t .previous-long) (t .signs-long) (t .rows) sent (all-regained r)
 
 -- the law, in its five parts
 pub pass-round-trip : PassRoundTrip
-pass-round-trip = record { values = values-back; numbers = numbers-back; coefficients = coefficients-back; signs = signs-back; calls = calls-back }
+pass-round-trip = record {
+  values = values-back;
+  numbers = numbers-back;
+  coefficients = λ ts cs ps ss h r. come-back h (all-regained r) .0;
+  signs = λ ts cs ps ss h r. come-back h (all-regained r) .1;
+  calls = calls-back;
+}

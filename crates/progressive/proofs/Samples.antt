@@ -10,7 +10,7 @@ use Rattle.srl_decoder.specs.Srl.{values}
 use Rattle.srl_encoder.specs.Finish.{streamBits}
 use Rattle.upgrade_steps.specs.Steps.{Step, srlWidths, rawWidths}
 use Rattle.progressive_decoder.specs.Upgrade.{signsAfter, coefficientsAfter, upgradedCoefficients, upgradedSigns}
-use Rattle.progressive_encoder.specs.Encode.{srlDifferences, rawDifferences, anyTooLarge, passFault, srlBytes, rawBytes}
+use Rattle.progressive_encoder.specs.Encode.{floorRule, srlDifferences, rawDifferences, anyTooLarge, passFault, srlBytes, rawBytes}
 use Rattle.dequantizer.specs.Dequantize.{dequantizedAll}
 use Rattle.progressive.specs.Laws.{cuts}
 use Rattle.progressive.specs.OwnCuts.{OwnCuts}
@@ -47,30 +47,30 @@ unfolding srlWidths signsAfter values num isZero zeros
 srl-sign = refl
 
 -- writing 7 over 0: value 3; writing -7: value -4, refused with 5
-writes : srlDifferences (from3to1 false ∷ []) (pos 7 ∷ []) (pos 0 ∷ []) (pos 0 ∷ []) ≡ (pos 3 ∷ [])
+writes : srlDifferences floorRule (from3to1 false ∷ []) (pos 7 ∷ []) (pos 0 ∷ []) (pos 0 ∷ []) ≡ (pos 3 ∷ [])
 unfolding srlDifferences clampI16 isZero
 writes = refl
 
-refuses : passFault (from3to1 false ∷ []) (negsuc 6 ∷ []) (pos 0 ∷ []) (pos 0 ∷ []) ≡ 5
+refuses : passFault floorRule (from3to1 false ∷ []) (negsuc 6 ∷ []) (pos 0 ∷ []) (pos 0 ∷ []) ≡ 5
 unfolding srlWidths srlDifferences anyTooLarge clampI16 isZero
 refuses = refl
 
-writes-bytes : srlBytes (from3to1 false ∷ []) (pos 7 ∷ []) (pos 0 ∷ []) (pos 0 ∷ []) ≡ (128 ∷ 0 ∷ [])
+writes-bytes : srlBytes floorRule (from3to1 false ∷ []) (pos 7 ∷ []) (pos 0 ∷ []) (pos 0 ∷ []) ≡ (128 ∷ 0 ∷ [])
 unfolding srlWidths srlDifferences clampI16 isZero streamBits
 writes-bytes = refl
 
-raw-bytes : rawBytes (from3to1 false ∷ []) (negsuc 13 ∷ []) (negsuc 7 ∷ []) (negsuc 0 ∷ []) ≡ (192 ∷ [])
+raw-bytes : rawBytes floorRule (from3to1 false ∷ []) (negsuc 13 ∷ []) (negsuc 7 ∷ []) (negsuc 0 ∷ []) ≡ (192 ∷ [])
 unfolding rawWidths rawDifferences clampI16 isZero bitsOfAll
 raw-bytes = refl
 
 -- what was written brings the target back: 7 over 0 without its lowest bit, 14 over 8 and -14 over -8
-back : (upgradedCoefficients there (srlBytes there goal from known) (rawBytes there goal from known) from known ≡ (pos 6 ∷ pos 14 ∷ negsuc 13 ∷ []))
+back : (upgradedCoefficients there (srlBytes floorRule there goal from known) (rawBytes floorRule there goal from known) from known ≡ (pos 6 ∷ pos 14 ∷ negsuc 13 ∷ []))
     × (cuts there goal from known ≡ (pos 6 ∷ pos 14 ∷ negsuc 13 ∷ []))
 unfolding srlWidths rawWidths srlDifferences rawDifferences coefficientsAfter cuts values numbers num clampI16 addScaled subScaled isZero isOne zeros streamBits bitsOfAll
 back = (refl, refl)
 
 -- a negative value of the bottom over its floor cut gains nothing
-bottom-stays : upgradedCoefficients (from3to1 true ∷ []) [] (rawBytes (from3to1 true ∷ []) (negsuc 6 ∷ []) (negsuc 7 ∷ []) (pos 0 ∷ [])) (negsuc 7 ∷ []) (pos 0 ∷ []) ≡ (negsuc 7 ∷ [])
+bottom-stays : upgradedCoefficients (from3to1 true ∷ []) [] (rawBytes floorRule (from3to1 true ∷ []) (negsuc 6 ∷ []) (negsuc 7 ∷ []) (pos 0 ∷ [])) (negsuc 7 ∷ []) (pos 0 ∷ []) ≡ (negsuc 7 ∷ [])
 unfolding srlWidths rawWidths rawDifferences coefficientsAfter values numbers num clampI16 addScaled isZero isOne bitsOfAll
 bottom-stays = refl
 

@@ -11,7 +11,7 @@ use Rattle.fixed.specs.Fixed.{floorShift, signOf, withSign}
 use Rattle.fixed.specs.Cut.{cutLevel, towardZero, downward}
 use Rattle.upgrade_steps.specs.Steps.{Step, Source, skipped, srl, raw, source, steps, rawWidths}
 use Rattle.progressive_decoder.specs.Upgrade.{adds, srlValues, rawNumbers, upgradedSigns, upgradedCoefficients, decodeCoefficients, decodeSigns}
-use Rattle.progressive_encoder.specs.Encode.{srlDifferences, rawDifferences, srlBytes, rawBytes, passFault, encodePassRefusal}
+use Rattle.progressive_encoder.specs.Encode.{Rule, floorRule, srlDifferences, rawDifferences, srlBytes, rawBytes, passFault, encodePassRefusal}
 
 -- ════ what the writer could send whole ════
 
@@ -21,12 +21,12 @@ pub data Small : List ℕ → List ℕ → Type 0 where
   small : {w m : ℕ} {ws ms : List ℕ} → m < 2 ^ w → Small ws ms → Small (w ∷ ws) (m ∷ ms)
 
 -- the values for both streams fit their widths
-pub record Sent (ts : List Step) (cs ps ss : List ℤ) : Type 0 where
+pub record Sent (r : Rule) (ts : List Step) (cs ps ss : List ℤ) : Type 0 where
   pub coefficients-long : length ts ≤ length cs
   pub previous-long : length ts ≤ length ps
   pub signs-long : length ts ≤ length ss
-  pub srl-fits : passFault ts cs ps ss ≡ 0
-  pub raw-fits : Small (rawWidths ts ss) (rawDifferences ts cs ps ss)
+  pub srl-fits : passFault r ts cs ps ss ≡ 0
+  pub raw-fits : Small (rawWidths ts ss) (rawDifferences r ts cs ps ss)
 
 -- ════ the writer's target: the coefficient without the bits below the current position ════
 
@@ -86,18 +86,18 @@ pub data Regains : List Step → List ℤ → List ℤ → List ℤ → Type 0 w
 
 -- what was written is read back, and what that makes of a component
 pub record PassRoundTrip : Type 0 where
-  -- the reader gets every value that the writer sent
-  pub values : (ts : List Step) (cs ps ss : List ℤ) → Sent ts cs ps ss → srlValues ts (srlBytes ts cs ps ss) ss ≡ srlDifferences ts cs ps ss
-  pub numbers : (ts : List Step) (cs ps ss : List ℤ) → Sent ts cs ps ss → rawNumbers ts (rawBytes ts cs ps ss) ss ≡ rawDifferences ts cs ps ss
-  -- from the previous coefficients and the signs it comes to the target, and to the target's signs
-  pub coefficients : (ts : List Step) (cs ps ss : List ℤ) → Sent ts cs ps ss → Regains ts cs ps ss
-      → upgradedCoefficients ts (srlBytes ts cs ps ss) (rawBytes ts cs ps ss) ps ss ≡ cuts ts cs ps ss
-  pub signs : (ts : List Step) (cs ps ss : List ℤ) → Sent ts cs ps ss → Regains ts cs ps ss
-      → upgradedSigns ts (srlBytes ts cs ps ss) ss ≡ cutSigns ts cs ss
+  -- the reader gets every value that a writer sent, by whatever rule
+  pub values : (r : Rule) (ts : List Step) (cs ps ss : List ℤ) → Sent r ts cs ps ss → srlValues ts (srlBytes r ts cs ps ss) ss ≡ srlDifferences r ts cs ps ss
+  pub numbers : (r : Rule) (ts : List Step) (cs ps ss : List ℤ) → Sent r ts cs ps ss → rawNumbers ts (rawBytes r ts cs ps ss) ss ≡ rawDifferences r ts cs ps ss
+  -- by the source's rule it comes from the previous coefficients and the signs to the target, and to the target's signs
+  pub coefficients : (ts : List Step) (cs ps ss : List ℤ) → Sent floorRule ts cs ps ss → Regains ts cs ps ss
+      → upgradedCoefficients ts (srlBytes floorRule ts cs ps ss) (rawBytes floorRule ts cs ps ss) ps ss ≡ cuts ts cs ps ss
+  pub signs : (ts : List Step) (cs ps ss : List ℤ) → Sent floorRule ts cs ps ss → Regains ts cs ps ss
+      → upgradedSigns ts (srlBytes floorRule ts cs ps ss) ss ≡ cutSigns ts cs ss
   -- the same of the two calls, one of which was accepted with some outputs
   pub calls : (cs ps ss : List ℤ) (prev curr : List ℕ) (e : Bool) (srlOut rawOut : List ℕ)
-      → encodePassRefusal cs ps prev curr ss e srlOut rawOut ≡ 0
-      → Small (rawWidths (steps e prev curr) ss) (rawDifferences (steps e prev curr) cs ps ss)
+      → encodePassRefusal floorRule cs ps prev curr ss e srlOut rawOut ≡ 0
+      → Small (rawWidths (steps e prev curr) ss) (rawDifferences floorRule (steps e prev curr) cs ps ss)
       → Regains (steps e prev curr) cs ps ss
-      → (decodeCoefficients (srlBytes (steps e prev curr) cs ps ss) (rawBytes (steps e prev curr) cs ps ss) prev curr e ps ss ≡ cuts (steps e prev curr) cs ps ss)
-      × (decodeSigns (srlBytes (steps e prev curr) cs ps ss) prev curr e ps ss ≡ cutSigns (steps e prev curr) cs ss)
+      → (decodeCoefficients (srlBytes floorRule (steps e prev curr) cs ps ss) (rawBytes floorRule (steps e prev curr) cs ps ss) prev curr e ps ss ≡ cuts (steps e prev curr) cs ps ss)
+      × (decodeSigns (srlBytes floorRule (steps e prev curr) cs ps ss) prev curr e ps ss ≡ cutSigns (steps e prev curr) cs ss)

@@ -3,3 +3,5 @@ pub mod Laws
 pub mod Refused
 pub mod OwnCuts
 pub mod Missing
+pub mod CutTrip
+pub mod SmallCases

@@ -10,7 +10,7 @@ use Rattle.bits.specs.Missing.{InStream}
 use Rattle.srl_decoder.specs.Srl.{start, readerAfter}
 use Rattle.upgrade_steps.specs.Steps.{Step, steps, srlWidths, rawWidths}
 use Rattle.progressive_decoder.specs.Upgrade.{srlMissing, rawMissing, missingBits, passMissing, upgradedSigns, upgradedCoefficients, decodePassRefusal, decodeCoefficients, decodeSigns, decodeMissing}
-use Rattle.progressive_encoder.specs.Encode.{srlBytes, rawBytes, encodePassRefusal}
+use Rattle.progressive_encoder.specs.Encode.{Rule, srlBytes, rawBytes, encodePassRefusal}
 
 -- how many bits of the SRL stream a pass reads
 abbrev pub srlBits : List Step → List ℕ → List ℤ → ℕ
@@ -29,9 +29,9 @@ rawBits ts ss = sum (rawWidths ts ss)
 
 pub record PassMissingBits : Type 0 where
   -- a whole pass misses nothing: the streams that the writer made, read from the previous coefficients with the same signs and rows
-  pub whole : (cs ps ss : List ℤ) (prev curr : List ℕ) (e : Bool) (srlOut rawOut : List ℕ)
-      → encodePassRefusal cs ps prev curr ss e srlOut rawOut ≡ 0
-      → decodeMissing (srlBytes (steps e prev curr) cs ps ss) (rawBytes (steps e prev curr) cs ps ss) prev curr e ps ss ≡ missingBits 0 0
+  pub whole : (r : Rule) (cs ps ss : List ℤ) (prev curr : List ℕ) (e : Bool) (srlOut rawOut : List ℕ)
+      → encodePassRefusal r cs ps prev curr ss e srlOut rawOut ≡ 0
+      → decodeMissing (srlBytes r (steps e prev curr) cs ps ss) (rawBytes r (steps e prev curr) cs ps ss) prev curr e ps ss ≡ missingBits 0 0
   -- an accepted call has the counts of its pass
   pub call : (srlData rawData prev curr : List ℕ) (e : Bool) (cs ss : List ℤ) → decodePassRefusal prev curr cs ss ≡ 0
       → decodeMissing srlData rawData prev curr e cs ss ≡ passMissing (steps e prev curr) srlData rawData ss

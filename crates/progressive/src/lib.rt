@@ -7,6 +7,8 @@ ghost use Rattle.progressive.specs.Laws.{PassRoundTrip};
 ghost use Rattle.progressive.specs.Refused.{PassRefusals};
 ghost use Rattle.progressive.specs.OwnCuts.{OwnCutsSent};
 ghost use Rattle.progressive.specs.Missing.{PassMissingBits};
+ghost use Rattle.progressive.specs.CutTrip.{CutRoundTrip};
+ghost use Rattle.progressive.specs.SmallCases.{SmallCases};
 pub use answer::Answer;
 pub use dequantizer::dequantize_component_ccq;
 pub use progressive_decoder::MissingBits;
@@ -15,9 +17,15 @@ pub use progressive_decoder::decode_upgrade_pass;
 pub use progressive_encoder::Written;
 pub use progressive_encoder::encode_upgrade_pass;
 
-// What the writer wrote is read back, and where the writer's rules bring a component to its target.
+// What a writer wrote is read back, by whatever rule, and where the source's rule brings a component to its target.
 pub fn pass_round_trip()
     ensures { λ _. ⌜ PassRoundTrip ⌝ }
+{}
+
+// By the symmetric rule, over a component that is the target cut at the previous positions, no value is refused by 5, and the reader comes to exactly the
+// target cut at the current positions: for every target of sixteen-bit numbers, and every two rows without a raise.
+pub fn cut_round_trip()
+    ensures { λ _. ⌜ CutRoundTrip ⌝ }
 {}
 
 // A refused call gives the refusal's number and counts of 0, and leaves every slice as it was; an accepted writer gives the counts of both streams.
@@ -25,7 +33,7 @@ pub fn refusals()
     ensures { λ _. ⌜ PassRefusals ⌝ }
 {}
 
-// Where a pass goes on from the coefficients' own cut at the previous positions, every value fits its width: the writer never refuses by 5.
+// Where a pass by the source's rule goes on from the coefficients' own cut at the previous positions, every value fits its width: it is never refused by 5.
 pub fn own_cuts_sent()
     ensures { λ _. ⌜ OwnCutsSent ⌝ }
 {}
@@ -34,4 +42,10 @@ pub fn own_cuts_sent()
 // bytes behind both streams change nothing but the counts, which go down by 8 for each.
 pub fn missing_bits()
     ensures { λ _. ⌜ PassMissingBits ⌝ }
+{}
+
+// What both rules give for some passes of one place, as a table: -7 over 0 from position 3 to 1 is -3 by the symmetric rule, and -4, which is refused
+// by 5, by the source's.
+pub fn small_cases()
+    ensures { λ _. ⌜ SmallCases ⌝ }
 {}

@@ -23,7 +23,7 @@ use Rattle.progressive_decoder.specs.Upgrade.{signThen, signsAfter, coefficient
 use Rattle.progressive.specs.Laws.{Small, small}
 use Rattle.progressive_encoder.specs.Inner.{magnitudes}
 use Rattle.progressive_encoder.specs.Encode.{srlStream, rawStream}
-use Rattle.progressive.proofs.Regained.{read-values, read-numbers}
+use Rattle.progressive.proofs.AnyRule.{read-values, read-numbers}
 use Rattle.bits.proofs.Holds.{pack-holds}
 use Rattle.reach.proofs.Streams.{Stream, srl-stream, raw-stream}
 use Rattle.fitting.specs.Place.{Place, place, Fits}

@@ -16,7 +16,7 @@ use Rattle.srl_encoder.specs.declared.Encoded.{Encoded}
 use Rattle.srl_encoder.specs.declared.Finished.{Finished}
 use Rattle.progressive_decoder.specs.Upgrade.{decodePassAnswer, decodeCoefficients, decodeSigns, missingBits, decodeMissing}
 use Rattle.progressive_decoder.specs.declared.MissingBits.{MissingBits}
-use Rattle.progressive_encoder.specs.Encode.{srlDifference, encodePassRefusal}
+use Rattle.progressive_encoder.specs.Encode.{floorRule, srlDifference, encodePassRefusal}
 use Rattle.color.specs.Color.{rgb}
 
 -- ════ SRL, written: one call of `encode`, then `finish`, each with room for two bytes ════
@@ -175,7 +175,7 @@ valuedAs s = srlDifference (s .to) (s .coefficient) (s .over)
 -- the refusal of the call, with room for a hundred bytes in each output
 abbrev pub refusedAs : PassWritten → ℕ
 refusedAs s =
-    encodePassRefusal (inComponent false (s .coefficient)) (inComponent false (s .over)) (row false (s .from)) (row false (s .to)) (inComponent false (pos 0)) false (replicate 100 0) (replicate 100 0)
+    encodePassRefusal floorRule (inComponent false (s .coefficient)) (inComponent false (s .over)) (row false (s .from)) (row false (s .to)) (inComponent false (pos 0)) false (replicate 100 0) (replicate 100 0)
 
 -- ════ the colours of a pixel ════
 

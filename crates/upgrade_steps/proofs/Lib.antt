@@ -2,3 +2,4 @@
 pub mod Sources
 pub mod Counts
 pub mod Stretches
+pub mod CutLists

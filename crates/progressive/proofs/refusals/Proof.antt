@@ -24,18 +24,18 @@ returns c = record {
     kept (upgradedSigns (steps e prev curr) srlData ss) ss n,
     kept (passMissing (steps e prev curr) srlData rawData ss) (missingBits 0 0) n,
   );
-  encode-number = λ cs ps prev curr ss e srlOut rawOut. written-number (encodePassRefusal cs ps prev curr ss e srlOut rawOut) _ _;
-  encode-kept = λ cs ps prev curr ss e srlOut rawOut k n.
-      let a = srlBytes (steps e prev curr) cs ps ss in let b = rawBytes (steps e prev curr) cs ps ss in (
-        ap (λ (r : ℕ). srlCount (written r (length a) (length b))) n,
-        ap (λ (r : ℕ). rawCount (written r (length a) (length b))) n,
-        ap (λ (r : ℕ). stored r a srlOut) n,
-        ap (λ (r : ℕ). stored r b rawOut) n,
+  encode-number = λ r cs ps prev curr ss e srlOut rawOut. written-number (encodePassRefusal r cs ps prev curr ss e srlOut rawOut) _ _;
+  encode-kept = λ r cs ps prev curr ss e srlOut rawOut k n.
+      let a = srlBytes r (steps e prev curr) cs ps ss in let b = rawBytes r (steps e prev curr) cs ps ss in (
+        ap (λ (k : ℕ). srlCount (written k (length a) (length b))) n,
+        ap (λ (k : ℕ). rawCount (written k (length a) (length b))) n,
+        ap (λ (k : ℕ). stored k a srlOut) n,
+        ap (λ (k : ℕ). stored k b rawOut) n,
       );
-  encode-done = λ cs ps prev curr ss e srlOut rawOut n.
-      let a = srlBytes (steps e prev curr) cs ps ss in let b = rawBytes (steps e prev curr) cs ps ss in (
-        ap (λ (r : ℕ). srlCount (written r (length a) (length b))) n,
-        ap (λ (r : ℕ). rawCount (written r (length a) (length b))) n,
+  encode-done = λ r cs ps prev curr ss e srlOut rawOut n.
+      let a = srlBytes r (steps e prev curr) cs ps ss in let b = rawBytes r (steps e prev curr) cs ps ss in (
+        ap (λ (k : ℕ). srlCount (written k (length a) (length b))) n,
+        ap (λ (k : ℕ). rawCount (written k (length a) (length b))) n,
       );
   dequantize-number = λ quant cs. number-answered (dequantizeRefusal quant cs);
   dequantize-kept = λ e quant cs k n. kept (dequantizedAll (quantizers e quant) cs) cs n;
