@@ -9,7 +9,7 @@ use lib.ListN.{length}
 use Rattle.bits.specs.Written.{bitsOfAll}
 use Rattle.srl_encoder.specs.Finish.{flush, streamBits}
 use Rattle.progressive_encoder.specs.Encode.{anyTooLarge}
-use Rattle.progressive_encoder.specs.Inner.{Lists, GoesOver, WentOver, held, numberBits, eventsThen, anyEventTooLarge, eventValues, AllEvents, srlThen, largeThen, rawThen, ListsNumbers, FewWords, ListsEvents, FewEvents, Looked, lookedBy, nothingFound, Looks, FewFound, FoundAll}
+use Rattle.progressive_encoder.specs.Inner.{Lists, GoesOver, WentOver, held, numberBits, eventsThen, anyEventTooLarge, eventValues, Each, srlThen, largeThen, rawThen, ListsNumbers, FewWords, ListsEvents, FewEvents, Looked, lookedBy, nothingFound, Looks, FewFound, FoundAll}
 use Rattle.progressive_encoder.proofs.Placewise.{Placewise}
 use Rattle.progressive_encoder.proofs.ListedNumbers.{numbers-placewise}
 use Rattle.progressive_encoder.proofs.ListedEvents.{events-placewise}
@@ -27,7 +27,7 @@ looks-placewise = record {
 -- what some places can amount to, more can
 pub found-on : (x : Looked) (i j : ℕ) → i ≤ j → FewFound x i → FewFound x j
 found-on x i j h f = record {
-  numbers = record { few = omega (arith, f .numbers .few) };
+  numbers = record { few = omega (arith, f .numbers .few); all = f .numbers .all };
   events = record { few = omega (arith, f .events .few); zeros = omega (arith, f .events .zeros); all = f .events .all };
 }
 
@@ -41,8 +41,8 @@ looks-both l k x y f g = record {
 -- before the first place
 pub none-found : (raws words : List ℕ) → FewFound (lookedBy raws words nothingFound) 0
 none-found raws words = record {
-  numbers = record { few = omega arith };
-  events = record { few = omega arith; zeros = omega arith; all = AllEvents.none };
+  numbers = record { few = omega arith; all = Each.none };
+  events = record { few = omega arith; zeros = omega arith; all = Each.none };
 }
 
 -- when all places are looked at

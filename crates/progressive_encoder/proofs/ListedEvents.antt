@@ -11,7 +11,6 @@ use borrow.Author.Tests.{le-ltb}
 use lib.Dec.{ltb, eqb}
 use lib.IntN.{ℤ, pos, negsuc, natAbs, negℤ}
 use lib.ListN.{length, getD, set, take, length-append}
-use lib.Seq.{take-suc-set}
 use Rattle.bits.specs.Bits.{bitOf}
 use Rattle.fixed.specs.Fixed.{isZero, withSign}
 use Rattle.fixed.proofs.Sign.{zero-is}
@@ -20,8 +19,9 @@ use Rattle.srl_encoder.specs.Finish.{streamBits}
 use Rattle.upgrade_steps.specs.Steps.{Step}
 use Rattle.upgrade_steps.specs.Inner.{fromSrl}
 use Rattle.progressive_encoder.specs.Encode.{Rule, anyTooLarge}
-use Rattle.progressive_encoder.specs.Inner.{Lists, placeLists, bandLists, Part, GoesOver, eventMagnitude, eventNegative, eventWidth, eventZeros, Event, eventBits, eventKp, eventsThen, anyEventTooLarge, eventValues, AllEvents, Listed, listedOf, srlThen, largeThen, held, wordsOf, ListsEvents, FewEvents, classOf, Classed, PlacesOver, TakesEvents, sumFrom}
+use Rattle.progressive_encoder.specs.Inner.{Lists, placeLists, bandLists, Part, GoesOver, eventMagnitude, eventNegative, eventWidth, eventZeros, Event, eventBits, eventKp, eventsThen, anyEventTooLarge, eventValues, Each, Listed, listedOf, srlThen, largeThen, held, wordsOf, ListsEvents, FewEvents, classOf, Classed, PlacesOver, TakesEvents, sumFrom}
 use Rattle.progressive_encoder.proofs.Rules.{abs-signed, some-abs}
+use Rattle.progressive_encoder.proofs.Held.{each-append, behind-others}
 use Rattle.progressive_encoder.proofs.Placewise.{Placewise, chain, place-srl, place-raw, band-begins, band-goes-on}
 
 -- what is listed of some places and then of others is listed of both
@@ -51,10 +51,6 @@ values-append : (a b : List ℕ) → eventValues (a ++ b) ≡ eventValues a + ev
 unfolding eventValues
 values-append [] b = omega arith
 values-append (x ∷ a) b = omega (arith, values-append a b)
-
-all-append : {a b : List ℕ} → AllEvents a → AllEvents b → AllEvents (a ++ b)
-all-append AllEvents.none h = h
-all-append (AllEvents.one e l) h = AllEvents.one e (all-append l h)
 
 -- ════ a word ════
 
@@ -138,7 +134,7 @@ module _ (r : Rule) (t : Step) (c p s : ℤ) (h : 1 ≤ t .width) (l : List ℕ)
 
     -- behind the others
     behind : held (wordsOf (set l n x) (n + 1)) ≡ take n l ++ (x ∷ [])
-    behind = ap (λ (k : ℕ). take k (set l n x)) (add-one n) ∙ take-suc-set l n x room
+    behind = behind-others l n x room
 
     place-value : fromSrl t s ≡ true → ListsEvents (placeLists r t c p s) (listedOf l n z) (listedOf (set l n x) (n + 1) 0)
     unfolding streamBits anyTooLarge eventsThen anyEventTooLarge eventValues
@@ -172,7 +168,7 @@ module _ (r : Rule) (t : Step) (c p s : ℤ) (h : 1 ≤ t .width) (l : List ℕ)
         bound i b = record {
           few = omega (arith, b .few);
           zeros = omega arith;
-          all = subst AllEvents (sym behind) (all-append (b .all) (AllEvents.one event AllEvents.none));
+          all = subst (Each Event) (sym behind) (each-append (b .all) (Each.one event Each.none));
         }
 
         by : (b : Bool) → fromSrl t s ≡ b → (y : Bool) → _≡_ {A = ℕ} (cond b (cond y 0 2) 1) 2 → GoesOver ListsEvents FewEvents (placeLists r t c p s) 1 (listedOf l n z) (listedOf (set l n x) (n + 1) 0)

@@ -3,20 +3,20 @@ use mathlib.Core.Path.{_≡_, refl, ap, sym, _∙_, subst}
 use mathlib.Core.Bool.{Bool, true, false, cond}
 use mathlib.Core.List.{List, [], _∷_, _++_, append-assoc, append-nil}
 use Prim.Native.Nat.{ℕ, zero, suc, _+_, _-_, _*_, _/_, _%_, _^_, _≤_, _<_}
-use native.Mathlib.Nat.{add-zero, le-refl}
-use native.Mathlib.Numerals.{add-one}
+use native.Mathlib.Nat.{add-zero}
 use native.Mathlib.Omega.{arith}
 use lib.IntN.{ℤ, pos}
 use lib.ListN.{length, getD, set, take}
-use lib.Seq.{take-suc-set, take-set-le}
 use Rattle.bits.specs.Written.{bitsOf, bitsOfAll}
 use Rattle.bits.proofs.Puts.{bits-mod}
 use Rattle.bits.proofs.Powers.{low-small}
 use Rattle.fixed.specs.Fixed.{isZero}
+use Rattle.fixed.proofs.Cuts.{rest-small}
 use Rattle.upgrade_steps.specs.Steps.{Step}
 use Rattle.upgrade_steps.specs.Inner.{fromSrl}
 use Rattle.progressive_encoder.specs.Encode.{Rule}
-use Rattle.progressive_encoder.specs.Inner.{Lists, placeLists, bandLists, Part, GoesOver, numberOf, numberWidthOf, numberBits, Words, wordsOf, held, rawThen, ListsNumbers, FewWords, classOf, Classed, Numbered, PlacesOver, TakesNumbers}
+use Rattle.progressive_encoder.specs.Inner.{Lists, placeLists, bandLists, Part, GoesOver, numberOf, numberWidthOf, numberBits, Words, wordsOf, held, rawThen, ListsNumbers, NumberWord, Each, FewWords, classOf, Classed, Numbered, PlacesOver, TakesNumbers}
+use Rattle.progressive_encoder.proofs.Held.{behind-others, none-behind, each-append}
 use Rattle.progressive_encoder.proofs.Placewise.{Placewise, chain, place-srl, place-raw, band-begins, band-goes-on}
 
 -- what is listed of some places and then of others is listed of both
@@ -33,13 +33,6 @@ bits-words [] b = refl
 bits-words (x ∷ a) b = ap (λ (l : List Bool). bitsOf (numberWidthOf x) (numberOf x) ++ l) (bits-words a b) ∙ sym (append-assoc (bitsOf (numberWidthOf x) (numberOf x)) (numberBits a) (numberBits b))
 
 -- ════ one place ════
-
--- a word behind n others counts, or does not
-counted-word : (l : List ℕ) (n v : ℕ) → n < length l → held (wordsOf (set l n v) (n + 1)) ≡ held (wordsOf l n) ++ (v ∷ [])
-counted-word l n v h = ap (λ (m : ℕ). take m (set l n v)) (add-one n) ∙ take-suc-set l n v h
-
-other-word : (l : List ℕ) (n v : ℕ) → held (wordsOf (set l n v) (n + 0)) ≡ held (wordsOf l n)
-other-word l n v = ap (λ (m : ℕ). take m (set l n v)) (add-zero n) ∙ take-set-le n l n v (le-refl n)
 
 -- the bits of a word: the low ones of its number
 word-bits : (w m v : ℕ) → m % 2 ^ w < 65536 → v ≡ m % 2 ^ w + 65536 * w → bitsOf (numberWidthOf v) (numberOf v) ≡ bitsOf w m
@@ -61,29 +54,41 @@ module _ (r : Rule) (t : Step) (c p s : ℤ) (h : 1 ≤ t .width) (k : t .width 
         bits = λ ns ms.
             sym (append-assoc (numberBits (take n raws)) (bitsOf w m) (bitsOfAll ns ms))
             ∙ ap (λ (l : List Bool). (numberBits (take n raws) ++ l) ++ bitsOfAll ns ms) (sym one)
-            ∙ ap (λ (l : List Bool). l ++ bitsOfAll ns ms) (sym (ap numberBits (counted-word raws n v room) ∙ bits-words (take n raws) (v ∷ [])));
+            ∙ ap (λ (l : List Bool). l ++ bitsOfAll ns ms) (sym (ap numberBits (behind-others raws n v room) ∙ bits-words (take n raws) (v ∷ [])));
       })
 
   -- and is overwritten, where it gives none
   place-none : fromSrl t s ≡ true → ListsNumbers (placeLists r t c p s) (wordsOf raws n) (wordsOf (set raws n v) (n + 0))
   place-none f =
       subst (λ (l : Lists). ListsNumbers l (wordsOf raws n) (wordsOf (set raws n v) (n + 0))) (sym (place-srl r t c p s h f))
-      (record { bits = λ ns ms. ap (λ (l : List ℕ). numberBits l ++ bitsOfAll ns ms) (sym (other-word raws n v)) })
+      (record { bits = λ ns ms. ap (λ (l : List ℕ). numberBits l ++ bitsOfAll ns ms) (sym (none-behind raws n v)) })
 
   -- by its class: of class 1 it counts
   pub place-number : (d : ℕ) → d ≡ classOf r t c p s % 2 → GoesOver ListsNumbers FewWords (placeLists r t c p s) 1 (wordsOf raws n) (wordsOf (set raws n v) (n + d))
   place-number d = by (fromSrl t s) refl (isZero (r .value (t .position) c p))
     where
-      few : d ≤ 1 → (i : ℕ) → FewWords (wordsOf raws n) i → FewWords (wordsOf (set raws n v) (n + d)) (i + 1)
-      few l i b = record { few = omega (arith, b .few) }
+      word : NumberWord v
+      word =
+          let m = r .number (t .bottom) (t .position) c p in
+          let small : m % 2 ^ t .width < 65536 = low-small m (t .width) 16 (omega arith) in
+          let w : v / 65536 ≡ t .width = omega (arith, e, small) in
+          let low : v % 65536 ≡ m % 2 ^ t .width = omega (arith, e, small) in
+          record { small = subst (λ (j : ℕ). v % 65536 < 2 ^ j) (sym w) (omega (arith, low, rest-small (t .width) m)); narrow = omega (arith, w, k) }
 
       none : fromSrl t s ≡ true → d ≡ 0 → GoesOver ListsNumbers FewWords (placeLists r t c p s) 1 (wordsOf raws n) (wordsOf (set raws n v) (n + d))
-      none f g = record { over = subst (λ (j : ℕ). ListsNumbers (placeLists r t c p s) (wordsOf raws n) (wordsOf (set raws n v) (n + j))) (sym g) (place-none f); bound = few (omega arith) }
+      none f g =
+          subst (λ (j : ℕ). GoesOver ListsNumbers FewWords (placeLists r t c p s) 1 (wordsOf raws n) (wordsOf (set raws n v) (n + j))) (sym g)
+          (record { over = place-none f; bound = λ i b. record { few = omega (arith, b .few); all = subst (Each NumberWord) (sym (none-behind raws n v)) (b .all) } })
 
       by : (b : Bool) → fromSrl t s ≡ b → (z : Bool) → d ≡ cond b (cond z 0 2) 1 % 2 → GoesOver ListsNumbers FewWords (placeLists r t c p s) 1 (wordsOf raws n) (wordsOf (set raws n v) (n + d))
       by true f true g = none f g
       by true f false g = none f g
-      by false f z g = record { over = subst (λ (j : ℕ). ListsNumbers (placeLists r t c p s) (wordsOf raws n) (wordsOf (set raws n v) (n + j))) (sym g) (place-given f); bound = few (omega arith) }
+      by false f z g =
+          subst (λ (j : ℕ). GoesOver ListsNumbers FewWords (placeLists r t c p s) 1 (wordsOf raws n) (wordsOf (set raws n v) (n + j))) (sym g)
+          (record {
+            over = place-given f;
+            bound = λ i b. record { few = omega (arith, b .few); all = subst (Each NumberWord) (sym (behind-others raws n v room)) (each-append (b .all) (Each.one word Each.none)) };
+          })
 
 -- ════ places one after another ════
 
@@ -129,7 +134,7 @@ class-none r t c p s = by (fromSrl t s) (isZero (r .value (t .position) c p))
 place-zero : (r : Rule) (t : Step) (c p s : ℤ) → 1 ≤ t .width → classOf r t c p s ≡ 0 → (x : Words) → GoesOver ListsNumbers FewWords (placeLists r t c p s) 1 x x
 place-zero r t c p s h e x = record {
   over = subst (λ (l : Lists). ListsNumbers l x x) (sym (place-srl r t c p s h (class-none r t c p s e))) (record { bits = λ ns ms. refl });
-  bound = λ n b. record { few = omega (arith, b .few) };
+  bound = λ n b. record { few = omega (arith, b .few); all = b .all };
 }
 
 -- m places of class 0

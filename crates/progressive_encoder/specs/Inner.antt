@@ -11,16 +11,20 @@ use lib.IntN.{ℤ, pos}
 use lib.ListN.{length, getD, take, replicate}
 use lib.Seq.{sets}
 use Rattle.bits.specs.Written.{bitsOf, bitsOfAll}
+use Rattle.bits.specs.Inner.{WroteWords}
+use Rattle.bits.specs.declared.writer.WordWriter.{WordWriter}
 use Rattle.answer.specs.Refusals.{firstOf, stored}
 use Rattle.fixed.specs.Fixed.{isZero}
 use Rattle.srl_encoder.specs.Encode.{nonzeroBits, runBits, runKp}
 use Rattle.srl_encoder.specs.Finish.{flush, streamBits}
+use Rattle.srl_encoder.specs.declared.encoder.CallState.{CallState}
 use Rattle.upgrade_steps.specs.Steps.{Step, srlWidths, rawWidths}
 use Rattle.upgrade_steps.specs.Inner.{fromSrl}
 use Rattle.progressive_encoder.specs.Encode.{Rule, floorRule, symmetricRule, srlDifferences, rawDifferences, srlStream, rawStream, anyTooLarge, valuesFault, noRoomFor, written}
 use Rattle.progressive_encoder.specs.declared.Written.{Written}
 use Rattle.progressive_encoder.specs.declared.events.Events.{Events}
 use Rattle.progressive_encoder.specs.declared.look.Found.{Found}
+use Rattle.progressive_encoder.specs.declared.measure.EventsMeasured.{EventsMeasured}
 use Rattle.progressive_encoder.specs.declared.measure.Lengths.{Lengths}
 
 -- ════ the rule, as the code has it ════
@@ -126,9 +130,20 @@ rawThen x ns ms = numberBits (held x) ++ bitsOfAll ns ms
 pub record ListsNumbers (l : Lists) (x y : Words) : Type 0 where
   pub bits : (ns ms : List ℕ) → rawThen x (l .numberWidths ++ ns) (l .numbers ++ ms) ≡ rawThen y ns ms
 
+-- a word whose number has the bits of its width, at most 15
+pub record NumberWord (x : ℕ) : Type 0 where
+  pub small : numberOf x < 2 ^ numberWidthOf x
+  pub narrow : numberWidthOf x ≤ 15
+
+-- each of some words satisfies a property
+pub data Each (P : ℕ → Type 0) : List ℕ → Type 0 where
+  none : Each P []
+  one : {x : ℕ} {xs : List ℕ} → P x → Each P xs → Each P (x ∷ xs)
+
 -- n places have at most n words
 pub record FewWords (x : Words) (n : ℕ) : Type 0 where
   pub few : x .count ≤ n
+  pub all : Each NumberWord (held x)
 
 -- ════ the values for the SRL stream that are not 0: events ════
 
@@ -165,6 +180,15 @@ unfoldable pub eventsThen : ℕ → List ℕ → (ℕ → List Bool) → List Bo
 eventsThen kp [] f = f kp
 eventsThen kp (x ∷ xs) f = eventBits kp x ++ eventsThen (eventKp kp x) xs f
 
+-- kp behind some events
+unfoldable pub eventsKp : ℕ → List ℕ → ℕ
+eventsKp kp [] = kp
+eventsKp kp (x ∷ xs) = eventsKp (eventKp kp x) xs
+
+-- the bits of some events alone
+abbrev pub eventsBits : List ℕ → List Bool
+eventsBits xs = eventsThen 8 xs (λ kp. [])
+
 -- whether one has "a magnitude above the maximum of its width"
 unfoldable pub anyEventTooLarge : List ℕ → Bool
 anyEventTooLarge [] = false
@@ -174,11 +198,6 @@ anyEventTooLarge (x ∷ xs) = ltb (2 ^ eventWidth x - 1) (eventMagnitude x) || a
 unfoldable pub eventValues : List ℕ → ℕ
 eventValues [] = 0
 eventValues (x ∷ xs) = eventZeros x + 1 + eventValues xs
-
--- each of them is one
-pub data AllEvents : List ℕ → Type 0 where
-  none : AllEvents []
-  one : {x : ℕ} {xs : List ℕ} → Event x → AllEvents xs → AllEvents (x ∷ xs)
 
 -- a list of events and the zeros pending behind them
 pub record Listed : Type 0 where
@@ -211,7 +230,7 @@ pub record ListsEvents (l : Lists) (x y : Listed) : Type 0 where
 pub record FewEvents (x : Listed) (n : ℕ) : Type 0 where
   pub few : x .words .count ≤ n
   pub zeros : x .zeros ≤ n
-  pub all : AllEvents (held (x .words))
+  pub all : Each Event (held (x .words))
 
 -- ════ both lists ════
 
@@ -276,6 +295,25 @@ sumFrom ks i (suc k) = getD ks i 0 + sumFrom ks (suc i) k
 
 -- ════ measuring ════
 
+-- one event is measured
+pub record MeasuresEvent (x : ℕ) (p q : EventsMeasured) : Type 0 where
+  pub bits : q .bits ≡ p .bits + length (eventBits (p .kp) x)
+  pub kp : q .kp ≡ eventKp (p .kp) x
+  pub large : q .«too_large» ≡ (p .«too_large» || ltb (2 ^ eventWidth x - 1) (eventMagnitude x))
+
+-- some events are
+pub record MeasuresEvents (xs : List ℕ) (q : EventsMeasured) : Type 0 where
+  pub bits : q .bits ≡ length (eventsBits xs)
+  pub kp : q .kp ≡ eventsKp 8 xs
+  pub large : q .«too_large» ≡ anyEventTooLarge xs
+  pub low : q .kp ≤ 80
+  pub few : q .bits ≤ 80000 * length xs
+
+-- how many bytes an SRL stream of so many values and bits has: "the writer gives no SRL bytes" where there is none
+abbrev pub srlLength : ℕ → ℕ → ℕ
+srlLength zero bits = 0
+srlLength (suc n) bits = (bits + 7) / 8 + 1
+
 -- the lengths of both streams, and whether a value is too large
 pub record MeasuresStreams (l : Lists) (r : Lengths) : Type 0 where
   pub large : r .«too_large» ≡ anyTooLarge (l .widths) (l .values)
@@ -289,6 +327,23 @@ pub record FoundAll (l : Lists) (x : Looked) : Type 0 where
   pub count : length (l .values) ≡ eventValues (held (x .events .words)) + x .events .zeros
   pub raw-bits : bitsOfAll (l .numberWidths) (l .numbers) ≡ numberBits (held (x .numbers))
   pub few : FewFound x 4096
+
+-- both lists have room for the places of a component
+pub record Roomy (raws words : List ℕ) : Type 0 where
+  pub numbers : 4096 ≤ length raws
+  pub events : 4096 ≤ length words
+
+-- ════ storing ════
+
+-- at the start of a stream
+abbrev pub freshSink : WordWriter
+freshSink = record { at = 0; word = 0; held = 0 }
+
+-- the events of a list are stored
+pub record StoresEvents (xs : List ℕ) (o : List ℕ) (r : CallState) (z : ℕ) (o′ : List ℕ) : Type 0 where
+  pub wrote : WroteWords o freshSink (eventsBits xs) (r .sink) o′
+  pub kp : r .kp ≡ eventsKp 8 xs
+  pub zeros : r .zeros ≡ z
 
 -- ════ both streams: the answer, and what the two outputs hold then ════
 

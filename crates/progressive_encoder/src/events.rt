@@ -6,7 +6,7 @@ ghost use lib.IntN.{ℤ};
 ghost use lib.ListN.{length};
 ghost use Rattle.bits.specs.Bits.{bitOf};
 ghost use Rattle.upgrade_steps.specs.Inner.{bandStep};
-ghost use Rattle.progressive_encoder.specs.Inner.{ruleOf, placeLists, GoesOver, listedOf, listedBy, ListsEvents, FewEvents, classOf, TakesEvents};
+ghost use Rattle.progressive_encoder.specs.Inner.{ruleOf, placeLists, GoesOver, listedOf, listedBy, ListsEvents, FewEvents, classOf, TakesEvents, eventMagnitude, eventNegative, eventWidth, eventZeros};
 use crate::classes;
 use crate::rule;
 
@@ -199,4 +199,30 @@ pub fn list_events(
         words,
         Events { count, zeros },
     )
+}
+
+// ---- the parts of a word
+
+pub fn magnitude_of(x: u64) -> u16
+    ensures { λ r. ⌜ r ≡ eventMagnitude x ⌝ }
+{
+    (x % 65536) as u16
+}
+
+pub fn is_negative_of(x: u64) -> bool
+    ensures { λ r. ⌜ r ≡ eventNegative x ⌝ }
+{
+    (x / 65536) % 2 == 1
+}
+
+pub fn width_of(x: u64) -> u8
+    ensures { λ r. ⌜ (r ≡ eventWidth x) × (r ≤ 15) ⌝ }
+{
+    ((x / 131072) % 16) as u8
+}
+
+pub fn zeros_of(x: u64) -> usize
+    ensures { λ r. ⌜ r ≡ eventZeros x ⌝ }
+{
+    (x / 2097152) as usize
 }

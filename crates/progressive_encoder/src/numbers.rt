@@ -6,7 +6,7 @@ ghost use mathlib.Core.List.{List};
 ghost use lib.IntN.{ℤ};
 ghost use lib.ListN.{length};
 ghost use Rattle.upgrade_steps.specs.Inner.{bandStep};
-ghost use Rattle.progressive_encoder.specs.Inner.{ruleOf, Part, GoesOverBand, wordsOf, ListsNumbers, FewWords, Classed, Numbered, TakesNumbers};
+ghost use Rattle.progressive_encoder.specs.Inner.{ruleOf, Part, GoesOverBand, wordsOf, ListsNumbers, FewWords, Classed, Numbered, TakesNumbers, numberOf, numberWidthOf};
 use crate::classes;
 use crate::rule;
 
@@ -162,4 +162,18 @@ pub fn list_numbers(
     let mut numbers = [0u16; 1024];
     number_places(coefficients, prev_coefficients, symmetric, t, &mut numbers);
     take_all(classes, &numbers, t, coefficients.len(), raws, start)
+}
+
+// ---- the parts of a word
+
+pub fn number_of(x: u32) -> u64
+    ensures { λ r. ⌜ r ≡ numberOf x ⌝ }
+{
+    (x % 65536) as u64
+}
+
+pub fn width_of(x: u32) -> u16
+    ensures { λ r. ⌜ r ≡ numberWidthOf x ⌝ }
+{
+    (x / 65536) as u16
 }
