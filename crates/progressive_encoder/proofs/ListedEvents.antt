@@ -42,7 +42,7 @@ unfolding eventsThen
 events-append kp [] b f = refl
 events-append kp (x ∷ a) b f = ap (λ (l : List Bool). eventBits kp x ++ l) (events-append (eventKp kp x) a b f)
 
-large-append : (a b : List ℕ) → anyEventTooLarge (a ++ b) ≡ (anyEventTooLarge a || anyEventTooLarge b)
+pub large-append : (a b : List ℕ) → anyEventTooLarge (a ++ b) ≡ (anyEventTooLarge a || anyEventTooLarge b)
 unfolding anyEventTooLarge
 large-append [] b = refl
 large-append (x ∷ a) b = ap (λ (t : Bool). ltb (2 ^ eventWidth x - 1) (eventMagnitude x) || t) (large-append a b) ∙ sym (or-assoc (ltb (2 ^ eventWidth x - 1) (eventMagnitude x)) (anyEventTooLarge a) (anyEventTooLarge b))
