@@ -2,6 +2,7 @@
 pub mod BothStreams
 pub mod Placewise
 mod Rules
+mod StoredStreams
 mod StreamLengths
 mod Held
 mod BothLists

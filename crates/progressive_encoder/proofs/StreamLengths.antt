@@ -80,7 +80,7 @@ pub planned-kp : (kp x : ℕ) (r : RunPlan) (z : ℕ) → z ≡ eventZeros x →
 planned-kp kp x r z f p = sym (p .next) ∙ (λ i. runKp (suc (f i)) kp (f i))
 
 -- at most so many bits
-event-small : (kp x : ℕ) → kp ≤ 80 → Event x → length (eventBits kp x) ≤ 80000
+pub event-small : (kp x : ℕ) → kp ≤ 80 → Event x → length (eventBits kp x) ≤ 80000
 event-small kp x h e =
     let z = eventZeros x in
     let run = runBits (suc z) kp z in

@@ -10,7 +10,7 @@ use lib.Dec.{ltb, eqb}
 use lib.IntN.{ℤ, pos}
 use lib.ListN.{length, getD, take, replicate}
 use lib.Seq.{sets}
-use Rattle.bits.specs.Written.{bitsOf, bitsOfAll}
+use Rattle.bits.specs.Written.{bitsOf, bitsOfAll, pack}
 use Rattle.bits.specs.Inner.{WroteWords}
 use Rattle.bits.specs.declared.writer.WordWriter.{WordWriter}
 use Rattle.answer.specs.Refusals.{firstOf, stored}
@@ -339,11 +339,29 @@ pub record Roomy (raws words : List ℕ) : Type 0 where
 abbrev pub freshSink : WordWriter
 freshSink = record { at = 0; word = 0; held = 0 }
 
+-- one event is stored behind what a writer has
+pub record StoresEvent (x : ℕ) (o : List ℕ) (c d : CallState) (o′ : List ℕ) : Type 0 where
+  pub wrote : WroteWords o (c .sink) (eventBits (c .kp) x) (d .sink) o′
+  pub kp : d .kp ≡ eventKp (c .kp) x
+  pub zeros : d .zeros ≡ c .zeros
+
 -- the events of a list are stored
-pub record StoresEvents (xs : List ℕ) (o : List ℕ) (r : CallState) (z : ℕ) (o′ : List ℕ) : Type 0 where
-  pub wrote : WroteWords o freshSink (eventsBits xs) (r .sink) o′
-  pub kp : r .kp ≡ eventsKp 8 xs
-  pub zeros : r .zeros ≡ z
+pub record StoresEvents (xs : List ℕ) (o : List ℕ) (d : CallState) (z : ℕ) (o′ : List ℕ) : Type 0 where
+  pub wrote : WroteWords o freshSink (eventsBits xs) (d .sink) o′
+  pub kp : d .kp ≡ eventsKp 8 xs
+  pub zeros : d .zeros ≡ z
+  pub low : d .kp ≤ 80
+  pub few : length (eventsBits xs) ≤ 80000 * length xs
+
+-- the SRL stream is stored, n bytes
+pub record StoresSrl (l : Lists) (o : List ℕ) (n : ℕ) (o′ : List ℕ) : Type 0 where
+  pub count : n ≡ length (srlStream (l .widths) (l .values))
+  pub out : o′ ≡ sets o 0 (srlStream (l .widths) (l .values))
+
+-- bits are stored and padded, n bytes
+pub record StoresRaw (bs : List Bool) (o : List ℕ) (n : ℕ) (o′ : List ℕ) : Type 0 where
+  pub count : n ≡ length (pack 0 0 bs)
+  pub out : o′ ≡ sets o 0 (pack 0 0 bs)
 
 -- ════ both streams: the answer, and what the two outputs hold then ════
 

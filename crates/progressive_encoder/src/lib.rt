@@ -10,6 +10,7 @@ mod look;
 mod measure;
 mod numbers;
 mod rule;
+mod store;
 
 // What `encode_upgrade_pass` answers: how many bytes of the SRL stream and of the raw stream it wrote, or a refusal.
 pub enum Written {
