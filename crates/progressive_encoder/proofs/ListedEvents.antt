@@ -128,7 +128,7 @@ module _ (r : Rule) (t : Step) (c p s : ℤ) (h : 1 ≤ t .width) (l : List ℕ)
 
   -- a value that is not 0: x is its word
   module _ (x m : ℕ) (negative : Bool) (room : n < length l) (small : m < 65536) (narrow : t .width ≤ 15) (some : 1 ≤ m) (few : z ≤ 4096)
-    (is : r .value (t .position) c p ≡ withSign negative m) (e : x ≡ m + 65536 * (bitOf negative + 2 * (t .width + 16 * z))) where
+      (is : r .value (t .position) c p ≡ withSign negative m) (e : x ≡ m + 65536 * (bitOf negative + 2 * (t .width + 16 * z))) where
     word : Word x m negative (t .width) z
     word = word-of x m negative (t .width) z small narrow e
 

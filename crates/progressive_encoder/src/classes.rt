@@ -63,6 +63,9 @@ pub fn zeros_of_eight(classes: &[u8], i: usize) -> usize
     ensures { λ r. ⌜ (r + sumFrom (now (classes .entry)) i 8 ≡ 8) ⌝ }
 {
     let low = wide(classes[i]) + wide(classes[i + 1]) + wide(classes[i + 2]) + wide(classes[i + 3]);
-    let high = wide(classes[i + 4]) + wide(classes[i + 5]) + wide(classes[i + 6]) + wide(classes[i + 7]);
+    let high = wide(classes[i + 4])
+        + wide(classes[i + 5])
+        + wide(classes[i + 6])
+        + wide(classes[i + 7]);
     8 - (low + high)
 }

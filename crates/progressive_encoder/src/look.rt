@@ -45,7 +45,14 @@ fn look_band(
         return done;
     }
     let mut classes = [0u8; 1024];
-    classes::classify(coefficients, prev_coefficients, sign, symmetric, t, &mut classes);
+    classes::classify(
+        coefficients,
+        prev_coefficients,
+        sign,
+        symmetric,
+        t,
+        &mut classes,
+    );
     let n = numbers::list_numbers(
         coefficients,
         prev_coefficients,

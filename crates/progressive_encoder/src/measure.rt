@@ -54,14 +54,22 @@ fn measure_events(words: &[u64], count: usize) -> EventsMeasured
     let mut too_large = false;
     let mut j: usize = 0;
     while j < count {
-        let done = EventsMeasured { bits, kp, too_large };
+        let done = EventsMeasured {
+            bits,
+            kp,
+            too_large,
+        };
         let next = measure_event(words[j], done);
         bits = next.bits;
         kp = next.kp;
         too_large = next.too_large;
         j += 1;
     }
-    EventsMeasured { bits, kp, too_large }
+    EventsMeasured {
+        bits,
+        kp,
+        too_large,
+    }
 }
 
 // How many bits the first `count` numbers take.

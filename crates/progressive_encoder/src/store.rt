@@ -12,7 +12,11 @@ use crate::look::Found;
 use crate::numbers;
 
 // One event, stored behind what a writer has.
-fn store_event(out: &mut [u8], x: u64, c: srl_encoder::encoder::CallState) -> srl_encoder::encoder::CallState
+fn store_event(
+    out: &mut [u8],
+    x: u64,
+    c: srl_encoder::encoder::CallState,
+) -> srl_encoder::encoder::CallState
     requires { ⌜ Event x × SoundWord (c .sink) × (c .kp ≤ 80) × (c .sink .at + 100000 < 2 ^ 64) ⌝ }
     ensures { λ r. ⌜ StoresEvent x (now (out .entry)) c r (now (out .exit)) ⌝ }
 {
@@ -43,7 +47,12 @@ fn state_of(at: usize, word: u64, held: u8, kp: u8, zeros: usize) -> srl_encoder
 }
 
 // The first `count` events; `zeros` are pending behind them. The loop keeps the writer's parts: a struct that went round it would be copied each time.
-fn store_events(words: &[u64], count: usize, zeros: usize, out: &mut [u8]) -> srl_encoder::encoder::CallState
+fn store_events(
+    words: &[u64],
+    count: usize,
+    zeros: usize,
+    out: &mut [u8],
+) -> srl_encoder::encoder::CallState
     requires { ⌜ (count ≤ 4096) × (count ≤ length (now words)) × Each Event (take count (now words)) ⌝ }
     ensures { λ r. ⌜ StoresEvents (take count (now (words .entry))) (now (out .entry)) r zeros (now (out .exit)) ⌝ }
 {
@@ -91,7 +100,12 @@ fn store_raw(raws: &[u32], count: usize, out: &mut [u8]) -> usize
     while j < count {
         let x = raws[j];
         let sink = bits::writer::WordWriter { at, word, held };
-        let k = bits::writer::put_word(out, sink, numbers::number_of(x), numbers::width_of(x) as u8);
+        let k = bits::writer::put_word(
+            out,
+            sink,
+            numbers::number_of(x),
+            numbers::width_of(x) as u8,
+        );
         at = k.at;
         word = k.word;
         held = k.held;

@@ -19,7 +19,7 @@ floors c =
     let a = c .before .shift-right-floor in
     let b = c .shift-right-floor2 in
     λ i. got w16 (a .ok) (a .ensures ∙ ap (λ v. floorShift v q) (toZ-ofZ w16 (k .args .c) (k .fits .c))) i
-        -ℤ got w16 (b .ok) (b .ensures ∙ ap (λ v. floorShift v q) (toZ-ofZ w16 (k .args .p) (k .fits .p))) i
+    -ℤ got w16 (b .ok) (b .ensures ∙ ap (λ v. floorShift v q) (toZ-ofZ w16 (k .args .p) (k .fits .p))) i
 
 -- that difference
 apart : (k : tie.Start) → ℤ
