@@ -114,7 +114,7 @@ static void upgrade(const char *name, struct tile *tile, const uint8_t rows[30],
 /*
  * A luma coefficient of -21 that the coarse tile has as 0: the pass to position 1 brings its sign and the bits of its
  * magnitude, so -20, as 21 would be 20. Then the same pass once more, of whose SRL stream one byte arrives: the bits
- * behind them are read as zeros, and counted.
+ * behind it are read as zeros, and counted.
  */
 static void sharpen(void)
 {
