@@ -669,16 +669,12 @@ mod tests {
 
     const LAYOUTS: [bool; 2] = [false, true];
 
+    type Quant = ComponentCodecQuant;
+    type Streams = Result<(Vec<u8>, Vec<u8>), SrlError>;
+    type Write = fn(&[i16], &[i16], &Quant, &Quant, &[i8], bool) -> Streams;
+
     /// Both writers of a pass.
-    const WRITERS: [fn(
-        &[i16],
-        &[i16],
-        &ComponentCodecQuant,
-        &ComponentCodecQuant,
-        &[i8],
-        bool,
-    ) -> Result<(Vec<u8>, Vec<u8>), SrlError>; 2] =
-        [encode_upgrade_pass, encode_upgrade_pass_symmetric];
+    const WRITERS: [Write; 2] = [encode_upgrade_pass, encode_upgrade_pass_symmetric];
 
     fn all(number: u8) -> ComponentCodecQuant {
         ComponentCodecQuant::of_bands([number; NUM_BANDS])
