@@ -5,7 +5,7 @@
  * Link with libtarjimp.a, which `rt staticlib tarjimp` writes to
  * target/staticlib/. It needs no other library, keeps no state of its own,
  * allocates nothing, and any number of threads may call it. A call takes up to
- * 1 KB of stack; tarjimp_band_of_place and tarjimp_encode_upgrade_pass 5,
+ * 1 KB of stack; tarjimp_band_of_place and the two writers of a pass 5,
  * tarjimp_decode_upgrade_pass and tarjimp_tile_decode_upgrade 12,
  * tarjimp_tile_reconstruct_to_rgba 36 (measured on x86-64).
  *
@@ -148,12 +148,14 @@ uint8_t tarjimp_decode_upgrade_pass(const uint8_t *srl, size_t srl_len,
 
 /*
  * Writes an upgrade pass over one component: from prev_coefficients, with
- * their signs, to coefficients. written has the counts of bytes of the SRL
- * stream and of the raw stream. Refusals: 1, 2, 5, 7.
+ * their signs, to coefficients, both shifted right with floor at a sign 0.
+ * written has the counts of bytes of the SRL stream and of the raw stream.
+ * Refusals: 1, 2, 5, 7.
  * 5 cannot happen where the coefficients are multiples of 2^position in curr,
  * prev_coefficients are the same without the bits below prev of their
  * magnitudes, and signs are those of prev_coefficients, outside LL3 (proved:
- * own_cuts_sent in crates/progressive).
+ * own_cuts_sent in crates/progressive). A negative coefficient of LL3 over its
+ * floor gains nothing.
  */
 uint8_t tarjimp_encode_upgrade_pass(const int16_t *coefficients, size_t coefficients_len,
                                     const int16_t *prev_coefficients, size_t prev_coefficients_len,
@@ -163,6 +165,26 @@ uint8_t tarjimp_encode_upgrade_pass(const int16_t *coefficients, size_t coeffici
                                     uint8_t *srl_out, size_t srl_out_len,
                                     uint8_t *raw_out, size_t raw_out_len,
                                     size_t written[2]);
+
+/*
+ * The same by the symmetric rule, under which a negative coefficient is sent
+ * like its positive twin: at a sign 0 outside LL3 the difference of the two
+ * coefficients, its sign kept and its magnitude shifted right; in LL3 the
+ * difference of the two floors, not below 0. -7 over 0 from position 3 to 1
+ * sends -3 (the function above: 5), and 7 sends 3. coefficients may be the
+ * picture itself, in every pass: the rule cuts it at curr. prev_coefficients
+ * are what the reader has: the same cut at prev, outside LL3 with the bits below
+ * prev of its magnitude 0, in LL3 by floor. Then 5 cannot happen.
+ * Refusals: 1, 2, 5, 7.
+ */
+uint8_t tarjimp_encode_upgrade_pass_symmetric(const int16_t *coefficients, size_t coefficients_len,
+                                              const int16_t *prev_coefficients, size_t prev_coefficients_len,
+                                              const uint8_t prev[10], const uint8_t curr[10],
+                                              const int8_t *sign, size_t sign_len,
+                                              bool use_reduce_extrapolate,
+                                              uint8_t *srl_out, size_t srl_out_len,
+                                              uint8_t *raw_out, size_t raw_out_len,
+                                              size_t written[2]);
 
 /* Dequantizes a component in place. Refusals: 1, 2. */
 uint8_t tarjimp_dequantize_component(int16_t *coefficients, size_t coefficients_len,

@@ -112,8 +112,9 @@ static void upgrade(const char *name, struct tile *tile, const uint8_t rows[30],
 }
 
 /*
- * A luma coefficient of -21 that the coarse tile has as 0: the pass brings it, and its sign. Then the same pass once
- * more, of whose SRL stream two bytes arrive: the bits behind them are read as zeros, and counted.
+ * A luma coefficient of -21 that the coarse tile has as 0: the pass to position 1 brings its sign and the bits of its
+ * magnitude, so -20, as 21 would be 20. Then the same pass once more, of whose SRL stream one byte arrives: the bits
+ * behind it are read as zeros, and counted.
  */
 static void sharpen(void)
 {
@@ -126,18 +127,19 @@ static void sharpen(void)
     memset(tile.prog_quant, 5, sizeof tile.prog_quant);
     memset(tile.base_quant, 6, sizeof tile.base_quant);
     memset(rows, 5, sizeof rows);
-    memset(rows, 0, 10);
+    memset(rows, 1, 10);
     tile.pass = 1;
     tarjimp_tile_zero_signs(tile.sign, true, tile.zero_signs);
     cut = tile;
     print_pixel("before", &tile);
 
     target[0] = -21;
-    accepted("write", tarjimp_encode_upgrade_pass(target, 4096, tile.coefficients, 4096, tile.prog_quant, rows,
-                                                  tile.sign, 4096, true, srl, sizeof srl, raw, sizeof raw, written));
+    accepted("write", tarjimp_encode_upgrade_pass_symmetric(target, 4096, tile.coefficients, 4096, tile.prog_quant,
+                                                            rows, tile.sign, 4096, true, srl, sizeof srl, raw,
+                                                            sizeof raw, written));
     printf("the pass: %zu bytes of SRL, %zu bytes of raw bits\n", written[0], written[1]);
     upgrade("after", &tile, rows, srl, written[0], raw, written[1]);
-    upgrade("after a cut pass", &cut, rows, srl, 2, raw, written[1]);
+    upgrade("after a cut pass", &cut, rows, srl, 1, raw, written[1]);
 }
 
 static void print_refusal(const char *what, uint8_t number)

@@ -77,6 +77,23 @@ unsafe extern "C" {
         written: *mut usize,
     ) -> u8;
 
+    fn tarjimp_encode_upgrade_pass_symmetric(
+        coefficients: *const i16,
+        coefficients_len: usize,
+        prev_coefficients: *const i16,
+        prev_coefficients_len: usize,
+        prev: *const u8,
+        curr: *const u8,
+        sign: *const i8,
+        sign_len: usize,
+        use_reduce_extrapolate: bool,
+        srl_out: *mut u8,
+        srl_out_len: usize,
+        raw_out: *mut u8,
+        raw_out_len: usize,
+        written: *mut usize,
+    ) -> u8;
+
     fn tarjimp_dequantize_component(
         coefficients: *mut i16,
         coefficients_len: usize,
@@ -220,8 +237,16 @@ pub fn decode_upgrade_pass(
     }
 }
 
-#[expect(clippy::too_many_arguments, reason = "as the C function has it")]
+/// The two writers of a pass, which have the same parameters.
+#[derive(Debug, Clone, Copy, PartialEq, Eq)]
+pub enum Rule {
+    Floor,
+    Symmetric,
+}
+
+#[expect(clippy::too_many_arguments, reason = "as the C functions have it")]
 pub fn encode_upgrade_pass(
+    rule: Rule,
     coefficients: &[i16],
     prev_coefficients: &[i16],
     prev: &Row,
@@ -232,10 +257,14 @@ pub fn encode_upgrade_pass(
     raw_out: &mut [u8],
     written: &mut [usize; 2],
 ) -> u8 {
+    let write = match rule {
+        Rule::Floor => tarjimp_encode_upgrade_pass,
+        Rule::Symmetric => tarjimp_encode_upgrade_pass_symmetric,
+    };
     // SAFETY: the slices come with their lengths, `prev` and `curr` have ten numbers and `written` two,
     // and what is written through is borrowed by this call alone.
     unsafe {
-        tarjimp_encode_upgrade_pass(
+        write(
             coefficients.as_ptr(),
             coefficients.len(),
             prev_coefficients.as_ptr(),

@@ -3,7 +3,7 @@
 use crate::ComponentCodecQuant;
 use crate::dwt_extrapolate::{BandInfo, band_layout};
 use crate::error::defect;
-use crate::ffi;
+use crate::ffi::{self, Rule};
 use crate::srl::{SrlError, too_large};
 
 /// The coefficients of a component.
@@ -140,6 +140,10 @@ pub fn decode_upgrade_pass_counted(
 /// Writes an upgrade pass over one component, from `prev_coefficients`, with their signs, to
 /// `coefficients`: the SRL stream and the raw stream.
 ///
+/// By the source's rule, which shifts a coefficient of unknown sign with floor: a negative one is cut
+/// further from zero than its positive twin, and may not fit. [`encode_upgrade_pass_symmetric`] treats them
+/// alike.
+///
 /// # Errors
 ///
 /// [`SrlError::SliceTooShort`] if a slice has fewer than 4,096 elements, [`SrlError::OutOfDomain`] if a
@@ -169,11 +173,88 @@ pub fn encode_upgrade_pass(
     sign: &[i8],
     use_reduce_extrapolate: bool,
 ) -> Result<(Vec<u8>, Vec<u8>), SrlError> {
+    write_pass(
+        Rule::Floor,
+        coefficients,
+        prev_coefficients,
+        prev_prog_quant,
+        curr_prog_quant,
+        sign,
+        use_reduce_extrapolate,
+    )
+}
+
+/// As [`encode_upgrade_pass`], by the symmetric rule: a negative coefficient is sent like its positive twin.
+///
+/// At an unknown sign outside LL3 the SRL stream has the difference of the two coefficients, its sign kept
+/// and its magnitude shifted right by the position. In LL3 the raw stream has the difference of the two
+/// floors, not below 0. Other places have what [`encode_upgrade_pass`] writes.
+///
+/// `coefficients` may be the picture itself in every pass. `prev_coefficients` are what the reader has of
+/// it: cut at the previous positions, outside LL3 with its sign kept, in LL3 by floor. Then no magnitude is
+/// too large.
+///
+/// # Errors
+///
+/// As [`encode_upgrade_pass`].
+///
+/// ```
+/// use tarjimp::ComponentCodecQuant;
+/// use tarjimp::progressive::{
+///     decode_upgrade_pass, encode_upgrade_pass, encode_upgrade_pass_symmetric,
+/// };
+///
+/// let [prev, curr] = [3, 1].map(|number| ComponentCodecQuant::of_bands([number; 10]));
+/// let (mut coefficients, mut sign) = ([0; 4096], [0; 4096]);
+/// let mut target = coefficients;
+/// (target[100], target[101]) = (7, -7);
+/// // LL3: from -8, the floor at position 3.
+/// (coefficients[4015], target[4015]) = (-8, -5);
+///
+/// let refused = encode_upgrade_pass(&target, &coefficients, &prev, &curr, &sign, true);
+/// assert_eq!(refused.map_err(|error| error.number()), Err(5));
+///
+/// let (srl, raw) =
+///     encode_upgrade_pass_symmetric(&target, &coefficients, &prev, &curr, &sign, true)?;
+/// decode_upgrade_pass(&srl, &raw, &prev, &curr, true, &mut coefficients, &mut sign)?;
+/// assert_eq!((coefficients[100], coefficients[101], coefficients[4015]), (6, -6, -6));
+/// # Ok::<(), tarjimp::Error>(())
+/// ```
+pub fn encode_upgrade_pass_symmetric(
+    coefficients: &[i16],
+    prev_coefficients: &[i16],
+    prev_prog_quant: &ComponentCodecQuant,
+    curr_prog_quant: &ComponentCodecQuant,
+    sign: &[i8],
+    use_reduce_extrapolate: bool,
+) -> Result<(Vec<u8>, Vec<u8>), SrlError> {
+    write_pass(
+        Rule::Symmetric,
+        coefficients,
+        prev_coefficients,
+        prev_prog_quant,
+        curr_prog_quant,
+        sign,
+        use_reduce_extrapolate,
+    )
+}
+
+/// Either writer, with outputs that grow.
+fn write_pass(
+    rule: Rule,
+    coefficients: &[i16],
+    prev_coefficients: &[i16],
+    prev_prog_quant: &ComponentCodecQuant,
+    curr_prog_quant: &ComponentCodecQuant,
+    sign: &[i8],
+    use_reduce_extrapolate: bool,
+) -> Result<(Vec<u8>, Vec<u8>), SrlError> {
     let mut srl_data = vec![0; USUAL_SRL_BYTES];
     let mut raw_data = vec![0; MOST_RAW_BYTES];
     let mut written = [0; 2];
     loop {
         let number = ffi::encode_upgrade_pass(
+            rule,
             coefficients,
             prev_coefficients,
             &prev_prog_quant.bands(),
@@ -194,6 +275,7 @@ pub fn encode_upgrade_pass(
             2 => return Err(SrlError::OutOfDomain),
             5 => {
                 let refusal = first_too_large(
+                    rule,
                     coefficients,
                     prev_coefficients,
                     prev_prog_quant,
@@ -201,20 +283,39 @@ pub fn encode_upgrade_pass(
                     sign,
                     use_reduce_extrapolate,
                 );
-                return Err(refusal.unwrap_or_else(|| defect("tarjimp_encode_upgrade_pass", 5)));
+                return Err(refusal.unwrap_or_else(|| defect(function_of(rule), 5)));
             }
             // The refusal altered nothing, so the call is made again with more room.
             7 if srl_data.len() < MOST_SRL_BYTES => {
                 srl_data.resize((8 * srl_data.len()).min(MOST_SRL_BYTES), 0);
             }
-            number => defect("tarjimp_encode_upgrade_pass", number),
+            number => defect(function_of(rule), number),
         }
+    }
+}
+
+/// The C function of a rule.
+fn function_of(rule: Rule) -> &'static str {
+    match rule {
+        Rule::Floor => "tarjimp_encode_upgrade_pass",
+        Rule::Symmetric => "tarjimp_encode_upgrade_pass_symmetric",
+    }
+}
+
+/// The magnitude of the value that a place has in the SRL stream.
+fn srl_magnitude(rule: Rule, coefficient: i16, before: i16, position: u8) -> u16 {
+    match rule {
+        Rule::Floor => (coefficient >> position)
+            .saturating_sub(before >> position)
+            .unsigned_abs(),
+        Rule::Symmetric => coefficient.abs_diff(before) >> position,
     }
 }
 
 /// The refusal of the first value of a pass that does not fit its band's width. The library gives its
 /// number alone.
 fn first_too_large(
+    rule: Rule,
     coefficients: &[i16],
     prev_coefficients: &[i16],
     prev_prog_quant: &ComponentCodecQuant,
@@ -231,14 +332,17 @@ fn first_too_large(
         if width == 0 {
             continue;
         }
-        let places = band.offset..band.offset + band.count();
-        let refusal = places
+        let magnitudes = (band.offset..band.offset + band.count())
             .filter(|&place| sign[place] == SIGN_ZERO)
             .map(|place| {
-                let before = prev_coefficients[place] >> position;
-                (coefficients[place] >> position).saturating_sub(before)
-            })
-            .find_map(|value| too_large(&[value], width));
+                srl_magnitude(
+                    rule,
+                    coefficients[place],
+                    prev_coefficients[place],
+                    position,
+                )
+            });
+        let refusal = too_large(magnitudes, width);
         if refusal.is_some() {
             return refusal;
         }
@@ -565,6 +669,13 @@ mod tests {
 
     const LAYOUTS: [bool; 2] = [false, true];
 
+    type Quant = ComponentCodecQuant;
+    type Streams = Result<(Vec<u8>, Vec<u8>), SrlError>;
+    type Write = fn(&[i16], &[i16], &Quant, &Quant, &[i8], bool) -> Streams;
+
+    /// Both writers of a pass.
+    const WRITERS: [Write; 2] = [encode_upgrade_pass, encode_upgrade_pass_symmetric];
+
     fn all(number: u8) -> ComponentCodecQuant {
         ComponentCodecQuant::of_bands([number; NUM_BANDS])
     }
@@ -615,8 +726,10 @@ mod tests {
             );
             assert_eq!(refused, Err(SrlError::SliceTooShort));
             assert!(coefficients.iter().all(|&coefficient| coefficient == 3));
-            let refused = encode_upgrade_pass(&coefficients, &zeros, &all(2), &all(0), &sign, true);
-            assert_eq!(refused, Err(SrlError::SliceTooShort));
+            for write in WRITERS {
+                let refused = write(&coefficients, &zeros, &all(2), &all(0), &sign, true);
+                assert_eq!(refused, Err(SrlError::SliceTooShort));
+            }
         }
         for (prev, curr) in [(16, 0), (0, 16), (255, 255)] {
             let refused = decode_upgrade_pass(
@@ -629,9 +742,10 @@ mod tests {
                 &mut [0; 4096],
             );
             assert_eq!(refused, Err(SrlError::OutOfDomain));
-            let refused =
-                encode_upgrade_pass(&zeros, &zeros, &all(prev), &all(curr), &[0; 4096], true);
-            assert_eq!(refused, Err(SrlError::OutOfDomain));
+            for write in WRITERS {
+                let refused = write(&zeros, &zeros, &all(prev), &all(curr), &[0; 4096], true);
+                assert_eq!(refused, Err(SrlError::OutOfDomain));
+            }
         }
         assert_eq!(
             dequantize_component_ccq(&mut [0; 4095], &all(16), true),
@@ -646,14 +760,15 @@ mod tests {
     /// Streams far longer than the room that they get at first.
     #[test]
     fn the_longest_streams_have_room() {
-        for use_reduce_extrapolate in LAYOUTS {
+        for (write, use_reduce_extrapolate) in WRITERS.into_iter().zip(LAYOUTS) {
             let target = [i16::MAX; 4096];
             let (mut coefficients, mut sign) = ([0; 4096], [0; 4096]);
-            let (srl, raw) = encode_upgrade_pass(
+            let (high, low) = (all(15), all(0));
+            let (srl, raw) = write(
                 &target,
                 &coefficients,
-                &all(15),
-                &all(0),
+                &high,
+                &low,
                 &sign,
                 use_reduce_extrapolate,
             )
@@ -662,8 +777,8 @@ mod tests {
             decode_upgrade_pass(
                 &srl,
                 &raw,
-                &all(15),
-                &all(0),
+                &high,
+                &low,
                 use_reduce_extrapolate,
                 &mut coefficients,
                 &mut sign,
@@ -671,11 +786,11 @@ mod tests {
             .unwrap();
             assert_eq!(coefficients, target);
             let known = [SIGN_NEGATIVE; 4096];
-            let (srl, raw) = encode_upgrade_pass(
+            let (srl, raw) = write(
                 &target,
                 &[0; 4096],
-                &all(15),
-                &all(0),
+                &high,
+                &low,
                 &known,
                 use_reduce_extrapolate,
             )
@@ -693,25 +808,102 @@ mod tests {
             target[bands[0].offset] = 4000; // width 0
             target[bands[1].offset] = 4000; // known
             target[bands[2].offset] = 6; // fits
-            target[bands[3].offset] = -7; // with floor -4 at position 1
-            target[bands[4].offset] = 400;
+            target[bands[3].offset] = -7; // -4 with floor at position 1, else -3, which fits
+            target[bands[4].offset] = -400;
             let mut sign = [SIGN_ZERO; 4096];
             sign[bands[1].offset] = SIGN_POSITIVE;
             let mut prev = [3; 10];
             prev[0] = 1;
-            let refused = encode_upgrade_pass(
-                &target,
-                &[0; 4096],
-                &ComponentCodecQuant::of_bands(prev),
-                &all(1),
-                &sign,
-                use_reduce_extrapolate,
+            for (write, magnitude) in WRITERS.into_iter().zip([4, 200]) {
+                let refused = write(
+                    &target,
+                    &[0; 4096],
+                    &ComponentCodecQuant::of_bands(prev),
+                    &all(1),
+                    &sign,
+                    use_reduce_extrapolate,
+                );
+                let max = 3;
+                assert_eq!(
+                    refused,
+                    Err(SrlError::MagnitudeOutOfRange { magnitude, max })
+                );
+            }
+        }
+    }
+
+    /// The source's writer clamps the difference and then says 32767 or 32768.
+    #[test]
+    fn the_symmetric_writer_clamps_nothing() {
+        for (coefficient, before, magnitude) in [
+            (i16::MAX, i16::MIN, 65535),
+            (i16::MIN, i16::MAX, 65535),
+            (i16::MIN, 0, 32768),
+        ] {
+            let refused = encode_upgrade_pass_symmetric(
+                &[coefficient; 4096],
+                &[before; 4096],
+                &all(15),
+                &all(0),
+                &[SIGN_ZERO; 4096],
+                true,
             );
-            let (magnitude, max) = (4, 3);
+            let max = 32767;
             assert_eq!(
                 refused,
                 Err(SrlError::MagnitudeOutOfRange { magnitude, max })
             );
+        }
+    }
+
+    /// A picture sent by the symmetric writer arrives as its cut at each stage, and at last whole, both signs and the
+    /// least and greatest numbers alike.
+    #[test]
+    fn the_symmetric_writer_sends_cuts() {
+        for use_reduce_extrapolate in LAYOUTS {
+            let bands = bands_of_places(use_reduce_extrapolate);
+            let target: [i16; 4096] = std::array::from_fn(|place| match place % 7 {
+                0 => i16::MIN,
+                1 => i16::MAX,
+                2 => 0,
+                _ => (place as i16).wrapping_mul(24_593) >> (place % 16),
+            });
+            let cut = |position: u8| -> [i16; 4096] {
+                std::array::from_fn(|place| match bands[place] {
+                    9 => target[place] >> position << position,
+                    _ => {
+                        let magnitude = i32::from(target[place].unsigned_abs() >> position);
+                        let cut = i32::from(target[place].signum()) * (magnitude << position);
+                        i16::try_from(cut).unwrap()
+                    }
+                })
+            };
+            let mut before = cut(15);
+            let mut sign = before.map(|coefficient| coefficient.signum() as i8);
+            for (prev, curr) in [(15, 12), (12, 5), (5, 4), (4, 0)] {
+                let (prev_row, curr_row) = (all(prev), all(curr));
+                let (srl, raw) = encode_upgrade_pass_symmetric(
+                    &target,
+                    &before,
+                    &prev_row,
+                    &curr_row,
+                    &sign,
+                    use_reduce_extrapolate,
+                )
+                .unwrap();
+                let missing = decode_upgrade_pass_counted(
+                    &srl,
+                    &raw,
+                    &prev_row,
+                    &curr_row,
+                    use_reduce_extrapolate,
+                    &mut before,
+                    &mut sign,
+                );
+                assert_eq!(missing, Ok(MissingBits::default()));
+                assert_eq!(before, cut(curr));
+            }
+            assert_eq!(before, target);
         }
     }
 

@@ -128,7 +128,9 @@ impl SrlEncoder {
             0 => Ok(()),
             4 => Err(SrlError::InvalidBitCount(num_bits)),
             5 => {
-                Err(too_large(values, num_bits).unwrap_or_else(|| defect("tarjimp_srl_encode", 5)))
+                let magnitudes = values.iter().map(|value| value.unsigned_abs());
+                let refusal = too_large(magnitudes, num_bits);
+                Err(refusal.unwrap_or_else(|| defect("tarjimp_srl_encode", 5)))
             }
             6 => Err(SrlError::ZeroRunTooLong),
             number => defect("tarjimp_srl_encode", number),
@@ -209,11 +211,13 @@ fn max_magnitude(num_bits: u8) -> u16 {
     (1 << num_bits.min(15)) - 1
 }
 
-/// The refusal of the first value whose magnitude is above the maximum of a width. The library gives its
-/// number alone.
-pub(crate) fn too_large(values: &[i16], num_bits: u8) -> Option<SrlError> {
+/// The refusal of the first magnitude that is above the maximum of a width. The library gives its number
+/// alone.
+pub(crate) fn too_large(
+    magnitudes: impl IntoIterator<Item = u16>,
+    num_bits: u8,
+) -> Option<SrlError> {
     let max = max_magnitude(num_bits);
-    let magnitudes = values.iter().map(|value| value.unsigned_abs());
     let magnitude = magnitudes.into_iter().find(|&magnitude| magnitude > max)?;
     Some(SrlError::MagnitudeOutOfRange { magnitude, max })
 }

@@ -1,8 +1,8 @@
 //! The bench samples of the program `samples`, through the crate.
 
 use tarjimp::progressive::{
-    MissingBits, TileState, decode_upgrade_pass, decode_upgrade_pass_counted,
-    dequantize_component_ccq, encode_upgrade_pass, ycbcr_to_rgb,
+    MissingBits, TileState, band_of_place, decode_upgrade_pass, decode_upgrade_pass_counted,
+    dequantize_component_ccq, encode_upgrade_pass, encode_upgrade_pass_symmetric, ycbcr_to_rgb,
 };
 use tarjimp::srl::{SrlDecoder, SrlEncoder, decode_srl, encode_srl};
 use tarjimp::{ComponentCodecQuant, Error, dwt_extrapolate};
@@ -108,6 +108,70 @@ fn a_pass_that_is_written() {
         written,
         Ok((vec![0x80, 0x00, 0x01, 0x00, 0x80, 0x00], vec![]))
     );
+}
+
+/// A pass over one place alone, from one position to another in its band: the streams, and what a reader
+/// that has `before` makes of them.
+fn one_place(
+    place: usize,
+    [coefficient, before]: [i16; 2],
+    sign: i8,
+    [from, to]: [u8; 2],
+) -> Result<(Vec<u8>, Vec<u8>, i16), Error> {
+    let band = usize::from(band_of_place(false, place).expect("it is one of the 4,096"));
+    let [prev, curr] = [from, to].map(|number| {
+        let mut row = [0; 10];
+        row[band] = number;
+        ComponentCodecQuant::of_bands(row)
+    });
+    let (mut target, mut coefficients, mut signs) = ([0; 4096], [0; 4096], [0; 4096]);
+    (target[place], coefficients[place], signs[place]) = (coefficient, before, sign);
+    let (srl, raw) =
+        encode_upgrade_pass_symmetric(&target, &coefficients, &prev, &curr, &signs, false)?;
+    decode_upgrade_pass(
+        &srl,
+        &raw,
+        &prev,
+        &curr,
+        false,
+        &mut coefficients,
+        &mut signs,
+    )?;
+    Ok((srl, raw, coefficients[place]))
+}
+
+#[test]
+fn a_pass_that_is_written_by_the_symmetric_rule() {
+    let srl = |pair, sign| one_place(0, pair, sign, [3, 1]);
+    let of_seven = |first| vec![first, 0x00, 0x01, 0x00, 0x80, 0x00];
+    assert_eq!(srl([7, 0], 0), Ok((of_seven(0x80), vec![], 6)));
+    assert_eq!(srl([-7, 0], 0), Ok((of_seven(0xA0), vec![], -6)));
+    // The difference is 1, and nothing of it is left at position 1; with two floors it would be 1 there.
+    let nothing = srl([1, 1], 0);
+    assert_eq!(srl([2, 1], 0), nothing);
+    // The other signs: 7 is 3 at position 1, the magnitude of -9 is 4.
+    for (pair, sign, number, after) in [([7, 0], 1, 0xC0, 6), ([-9, -8], -1, 0x00, -8)] {
+        let written = srl(pair, sign).map(|(_, raw, read)| (raw[0], read));
+        assert_eq!(written, Ok((number, after)));
+    }
+    let (magnitude, max) = (32768, 32767);
+    let refused = one_place(0, [i16::MIN, 0], 0, [15, 0]);
+    assert_eq!(refused, Err(Error::MagnitudeOutOfRange { magnitude, max }));
+}
+
+#[test]
+fn the_bottom_by_the_symmetric_rule() {
+    for (coefficient, before, bits, after) in [
+        (-2, 0, 0x00, 0),
+        (100, 0, 0x80, 4), // 50, of which the low two bits are written
+        (-5, -8, 0x40, -6),
+        (-8, -8, 0x00, -8),
+        (-1, -8, 0xC0, -2),
+        (5, 0, 0x80, 4),
+    ] {
+        let (srl, raw, read) = one_place(4032, [coefficient, before], 0, [3, 1]).expect("it fits");
+        assert_eq!((srl.len(), raw[0], read), (0, bits, after));
+    }
 }
 
 #[test]

@@ -1,5 +1,5 @@
-// The streams of an upgrade pass over three components: written by the port's writer, and what arrives of them where they are cut. Each function
-// is proved safe and to end.
+// The streams of an upgrade pass over three components: written by the port's symmetric writer, and what arrives of them where they are cut. Each
+// function is proved safe and to end.
 use panel_picture::cut;
 ghost use mathlib.Core.Path.{_≡_};
 ghost use Prim.Native.Nat.{_≤_};
@@ -8,13 +8,13 @@ ghost use lib.ListN.{length};
 // The room for a stream.
 pub const STREAM: usize = 16384;
 
-// The positions after a stage, in band order. The bottom band is whole from the first cut on, since the writer sends nothing, or the
-// wrong way, for a negative value of the bottom (docs/DIFFERENCES.md). No magnitude outside it reaches 2 to the 7.
+// The positions after a stage, in band order. No magnitude outside the bottom reaches 2 to the 7, so that the first cut is the bottom alone, in steps
+// of 16.
 pub fn positions(stage: usize) -> [u8; 10] {
     match stage {
-        0 => [7, 7, 7, 7, 7, 7, 7, 7, 7, 0],
-        1 => [6, 6, 6, 6, 6, 6, 5, 5, 5, 0],
-        2 => [4, 4, 4, 4, 4, 4, 3, 3, 3, 0],
+        0 => [7, 7, 7, 7, 7, 7, 7, 7, 7, 4],
+        1 => [6, 6, 6, 6, 6, 6, 5, 5, 5, 2],
+        2 => [4, 4, 4, 4, 4, 4, 3, 3, 3, 1],
         _ => [0; 10],
     }
 }
@@ -61,7 +61,7 @@ fn write(
     srl: &mut [u8],
     raw: &mut [u8],
 ) -> Written {
-    match progressive_encoder::encode_upgrade_pass(
+    match progressive_encoder::encode_upgrade_pass_symmetric(
         target,
         coefficients,
         prev,
@@ -84,7 +84,7 @@ fn write(
     }
 }
 
-// The same for the component with a number. Its target is its uncut coefficients, cut at the pass's positions.
+// The same for the component with a number. Its target is its uncut coefficients in every pass: the writer cuts them.
 fn write_at(
     k: usize,
     full: &[i16],
@@ -99,15 +99,12 @@ fn write_at(
         (k ≤ 2) × (length (now full) ≡ 12288) × (length (now coefficients) ≡ 12288) × (length (now signs) ≡ 12288)
         × (length (now srl) ≡ 49152) × (length (now raw) ≡ 49152) ⌝ }
 {
-    let mut target = [0i16; bands::COEFFICIENTS_PER_COMPONENT];
-    let mut target_signs = [0i8; bands::COEFFICIENTS_PER_COMPONENT];
-    cut_at(full, k, curr, &mut target, &mut target_signs);
     let from = bands::COEFFICIENTS_PER_COMPONENT * k;
     let to = from + bands::COEFFICIENTS_PER_COMPONENT;
     let at = STREAM * k;
     let end = at + STREAM;
     write(
-        &target,
+        &full[from..to],
         &coefficients[from..to],
         &signs[from..to],
         prev,

@@ -17,13 +17,14 @@ fn same(kind: u8, c: &[u8]) -> bool {
         33 => srl_encode::agrees(c),
         34 => srl_exhaustive::agrees(c),
         36 => upgrade::decode_agrees(c),
-        37 => upgrade::encode_agrees(c),
+        37 => upgrade::encode_agrees(false, c),
         38 => upgrade::dequantize_agrees(c),
         39 => tiles::load_agrees(c),
         40 => ladder::agrees(c),
         41 | 42 | 43 | 44 => replay_pixels::agrees(kind, c),
         45 => tiles::pixels_agrees(c),
         46 => cuts::agrees(c),
+        47 => upgrade::encode_agrees(true, c),
         _ => leaves::agrees(kind, c),
     }
 }
@@ -51,7 +52,7 @@ fn wrong_case(c: &[u8]) -> bool {
     let kind = c[0];
     let from: usize = 1;
     match kind {
-        32 | 33 | 36 | 37 | 38 | 39 | 40 | 45 => !same(kind, &c[from..]),
+        32 | 33 | 36 | 37 | 38 | 39 | 40 | 45 | 47 => !same(kind, &c[from..]),
         _ => false,
     }
 }

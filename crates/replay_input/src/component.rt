@@ -1,4 +1,4 @@
-// The components of kinds 36 to 40 and 45: what a seed and a case's shape give. oracle/README.md has the rule.
+// The components of kinds 36 to 40, 45 and 47: what a seed and a case's shape give. oracle/README.md has the rule.
 use crate::digests;
 use crate::number;
 use bands::span;
@@ -50,10 +50,19 @@ fn target(c: &[u8], word: u64, curr: u8) -> i16 {
     fixed::with_sign(m, negative)
 }
 
-// The coefficient before the pass.
-fn before(c: &[u8], word: u64, target: i16, prev: u8) -> i16 {
+// The sort of the coefficients before the pass of a band: the case's, but for the bottom where it is to be cut with floor.
+fn before_sort(c: &[u8], band: usize) -> u8 {
+    let mode = number::u8_at(c, 11);
+    if mode / 32 % 2 == 1 && band == 9 {
+        return 1;
+    }
+    mode % 4
+}
+
+// The coefficient before the pass, by its sort.
+fn before(c: &[u8], sort: u8, word: u64, target: i16, prev: u8) -> i16 {
     let negative = word / 536870912 % 2 == 1;
-    match number::u8_at(c, 11) % 4 {
+    match sort {
         0 => fixed::with_sign(
             cut(fixed::magnitude(target), prev),
             fixed::is_negative(target),
@@ -80,6 +89,7 @@ fn sign(c: &[u8], word: u64, target: i16, before: i16) -> i8 {
 // Makes the places of a band, and hands back the last word.
 fn fill_band(
     c: &[u8],
+    sort: u8,
     from: usize,
     to: usize,
     prev: u8,
@@ -96,7 +106,7 @@ fn fill_band(
     while i < to {
         word = next(word);
         let t = target(c, word, curr);
-        let p = before(c, word, t, prev);
+        let p = before(c, sort, word, t, prev);
         targets[i] = t;
         befores[i] = p;
         signs[i] = sign(c, word, t, p);
@@ -124,6 +134,7 @@ pub fn fill_rows(
         let at = span::band_span(extrapolate, b);
         word = fill_band(
             c,
+            before_sort(c, b),
             at.from,
             at.to,
             prev[b],
@@ -135,10 +146,21 @@ pub fn fill_rows(
         );
         b += 1;
     }
-    fill_band(c, 4096, 4352, 0, 0, word, targets, befores, signs);
+    fill_band(
+        c,
+        before_sort(c, 10),
+        4096,
+        4352,
+        0,
+        0,
+        word,
+        targets,
+        befores,
+        signs,
+    );
 }
 
-// Makes the places of a case of kinds 36 to 38.
+// Makes the places of a case of kinds 36 to 38 and 47.
 pub fn fill(c: &[u8], targets: &mut [i16], befores: &mut [i16], signs: &mut [i8])
     requires { ⌜ (4352 ≤ length (now targets)) × (4352 ≤ length (now befores)) × (4352 ≤ length (now signs)) ⌝ }
 {

@@ -49,7 +49,7 @@ fn word(text: &[u8], number: u8) {
 // A kind's name: the names stand at the kinds' numbers.
 fn name(kind: u8) {
     word(
-        b"- clamp_i16 clamp_u8 t round_shift_right shift_left_clamp shift_right_floor add_scaled sub_scaled sub_clamp magnitude with_sign sign_of halves widen sign_use - - - - band ll3_offset band_of_place - - - - - - - - wrong_answer srl_decode srl_encode srl_exhaustive wrong_case decode_upgrade encode_upgrade dequantize tile_load upgrade_ladder dwt_decode dwt_impulse ycbcr_to_rgb ycbcr_row tile_pixels cut_everywhere",
+        b"- clamp_i16 clamp_u8 t round_shift_right shift_left_clamp shift_right_floor add_scaled sub_scaled sub_clamp magnitude with_sign sign_of halves widen sign_use - - - - band ll3_offset band_of_place - - - - - - - - wrong_answer srl_decode srl_encode srl_exhaustive wrong_case decode_upgrade encode_upgrade dequantize tile_load upgrade_ladder dwt_decode dwt_impulse ycbcr_to_rgb ycbcr_row tile_pixels cut_everywhere encode_symmetric",
         kind,
     );
 }

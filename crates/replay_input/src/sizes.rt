@@ -23,7 +23,7 @@ pub fn case_size(kind: u8) -> usize {
 // Whether a record of a kind is one case, whatever its size.
 pub fn is_one_case(kind: u8) -> bool {
     match kind {
-        32 | 33 | 35 | 36 | 37 | 38 | 39 | 40 | 45 => true,
+        32 | 33 | 35 | 36 | 37 | 38 | 39 | 40 | 45 | 47 => true,
         _ => false,
     }
 }

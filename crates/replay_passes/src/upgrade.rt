@@ -1,4 +1,5 @@
-// Kinds 36 to 38: a pass over one component that is read, one that is written and read back, and a component that is dequantized.
+// Kinds 36 to 38 and 47: a pass over one component that is read, one that is written, by either rule, and read back, and a component that is
+// dequantized.
 use replay_input::component;
 use replay_input::digests;
 use replay_input::number;
@@ -111,8 +112,36 @@ fn in_numbers(answer: progressive_encoder::Written) -> Counts {
     }
 }
 
+// Writes a pass by the symmetric rule or by the source's.
+fn write_by(
+    symmetric: bool,
+    target: &[i16],
+    before: &[i16],
+    prev: [u8; 10],
+    curr: [u8; 10],
+    sign: &[i8],
+    e: bool,
+    srl: &mut [u8],
+    raw: &mut [u8],
+) -> progressive_encoder::Written {
+    if symmetric {
+        return progressive_encoder::encode_upgrade_pass_symmetric(
+            target,
+            before,
+            prev,
+            curr,
+            sign,
+            e,
+            srl,
+            raw,
+        );
+    }
+    progressive_encoder::encode_upgrade_pass(target, before, prev, curr, sign, e, srl, raw)
+}
+
 // Writes a pass from the elements that the case lends into the bytes that it lends.
 fn write(
+    symmetric: bool,
     c: &[u8],
     targets: &[i16],
     befores: &[i16],
@@ -125,7 +154,8 @@ fn write(
     let m = lent(c, 37, signs.len());
     let srl_room = lent(c, 39, srl_out.len());
     let raw_room = lent(c, 41, raw_out.len());
-    in_numbers(progressive_encoder::encode_upgrade_pass(
+    in_numbers(write_by(
+        symmetric,
         &targets[..l],
         &befores[..n],
         number::row_at(c, 13),
@@ -189,8 +219,8 @@ fn same_written(c: &[u8], counts: Counts, srl_out: &[u8], raw_out: &[u8]) -> boo
     digests::with_bytes(digests::with_bytes(0, srl_out), raw_out) == number::u64_at(c, 48)
 }
 
-// Kind 37: whether the port agrees with a case. A pass that is written is read back.
-pub fn encode_agrees(c: &[u8]) -> bool {
+// Kinds 37 and 47, which is by the symmetric rule: whether the port agrees with a case. A pass that is written is read back.
+pub fn encode_agrees(symmetric: bool, c: &[u8]) -> bool {
     if c.len() != 72 {
         return false;
     }
@@ -202,7 +232,15 @@ pub fn encode_agrees(c: &[u8]) -> bool {
     let mut raw_out = [0u8; 16384];
     outputs::fill(&mut srl_out);
     outputs::fill(&mut raw_out);
-    let done = write(c, &targets, &befores, &signs, &mut srl_out, &mut raw_out);
+    let done = write(
+        symmetric,
+        c,
+        &targets,
+        &befores,
+        &signs,
+        &mut srl_out,
+        &mut raw_out,
+    );
     if !same_written(c, done, &srl_out, &raw_out) {
         return false;
     }

@@ -15,7 +15,8 @@ use Rattle.srl_encoder.specs.declared.Encoded.the-variants as E
 use Rattle.answer.specs.Refusals.{impossibleState, answered}
 use Rattle.progressive_decoder.specs.Upgrade.{decodePassAnswer, decodeCoefficients, decodeSigns, decodeMissing}
 use Rattle.progressive_decoder.specs.declared.MissingBits.{MissingBits}
-use Rattle.progressive_encoder.specs.Encode.{writtenNumber, srlCount, rawCount, encodePassAnswer, encodeSrlOut, encodeRawOut}
+use Rattle.progressive_encoder.specs.Encode.{Rule, writtenNumber, srlCount, rawCount, encodePassAnswer, encodeSrlOut, encodeRawOut}
+use Rattle.progressive_encoder.specs.declared.Written.{Written}
 use Rattle.tile.specs.Tile.{decodeUpgrade, Reconstructs}
 use Rattle.tile.specs.declared.TileState.{TileState}
 use Rattle.tarjimp.specs.States.{readerFits, readerOf, readerNumbers, writerFits, writerOf, writerNumbers}
@@ -113,14 +114,18 @@ pub record ReadsPass (srlData rawData prev curr : List ℕ) (e : Bool) (cs ss : 
   pub sign : ss′ ≡ decodeSigns srlData prev curr e cs ss
   pub missing : counts ≡ missingNumbers (decodeMissing srlData rawData prev curr e cs ss)
 
--- ════ `tarjimp_encode_upgrade_pass` ════
+-- ════ `tarjimp_encode_upgrade_pass` and `tarjimp_encode_upgrade_pass_symmetric`: each by its rule ════
 
--- what the call fixes: the number returned, the counts of both streams ("zero lengths and counts" with a refusal), and both outputs
-pub record WritesPass (cs ps : List ℤ) (prev curr : List ℕ) (ss : List ℤ) (e : Bool) (srlOut rawOut : List ℕ) (r : ℕ) (counts srlOut′ rawOut′ : List ℕ) : Type 0 where
-  pub number : r ≡ writtenNumber (encodePassAnswer cs ps prev curr ss e srlOut rawOut)
-  pub written : counts ≡ (srlCount (encodePassAnswer cs ps prev curr ss e srlOut rawOut) ∷ rawCount (encodePassAnswer cs ps prev curr ss e srlOut rawOut) ∷ [])
-  pub srl : srlOut′ ≡ encodeSrlOut cs ps prev curr ss e srlOut rawOut
-  pub raw : rawOut′ ≡ encodeRawOut cs ps prev curr ss e srlOut rawOut
+-- the counts of both streams: "zero lengths and counts" with a refusal
+abbrev pub writtenCounts : Written → List ℕ
+writtenCounts w = srlCount w ∷ rawCount w ∷ []
+
+-- what the call fixes: the number returned, the counts of both streams, and both outputs
+pub record WritesPass (rule : Rule) (cs ps : List ℤ) (prev curr : List ℕ) (ss : List ℤ) (e : Bool) (srlOut rawOut : List ℕ) (r : ℕ) (counts srlOut′ rawOut′ : List ℕ) : Type 0 where
+  pub number : r ≡ writtenNumber (encodePassAnswer rule cs ps prev curr ss e srlOut rawOut)
+  pub written : counts ≡ writtenCounts (encodePassAnswer rule cs ps prev curr ss e srlOut rawOut)
+  pub srl : srlOut′ ≡ encodeSrlOut rule cs ps prev curr ss e srlOut rawOut
+  pub raw : rawOut′ ≡ encodeRawOut rule cs ps prev curr ss e srlOut rawOut
 
 -- ════ `tarjimp_tile_decode_upgrade` ════
 

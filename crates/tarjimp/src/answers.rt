@@ -5,7 +5,7 @@ ghost use Rattle.srl_decoder.specs.Decode.{decodedNumber, decodedMissing};
 ghost use Rattle.srl_encoder.specs.Encode.{encodedNumber, encodedCount};
 ghost use Rattle.srl_encoder.specs.Finish.{finishedNumber, finishedCount};
 ghost use Rattle.progressive_encoder.specs.Encode.{writtenNumber, srlCount, rawCount};
-ghost use Rattle.tarjimp.specs.Calls.{decodedNumbers, encodedNumbers, missingNumbers};
+ghost use Rattle.tarjimp.specs.Calls.{decodedNumbers, encodedNumbers, missingNumbers, writtenCounts};
 use crate::states;
 use progressive_decoder::MissingBits;
 use progressive_encoder::Written;
@@ -94,7 +94,7 @@ pub fn finished_count(f: Finished) -> usize
 }
 
 // The number of what a writer of a pass answers.
-pub fn written_number(w: Written) -> u8
+fn written_number(w: Written) -> u8
     ensures { λ r. ⌜ r ≡ writtenNumber w ⌝ }
 {
     match w {
@@ -104,7 +104,7 @@ pub fn written_number(w: Written) -> u8
 }
 
 // How many bytes of the SRL stream it wrote.
-pub fn srl_count(w: Written) -> usize
+fn srl_count(w: Written) -> usize
     ensures { λ r. ⌜ r ≡ srlCount w ⌝ }
 {
     match w {
@@ -114,13 +114,21 @@ pub fn srl_count(w: Written) -> usize
 }
 
 // How many bytes of the raw stream it wrote.
-pub fn raw_count(w: Written) -> usize
+fn raw_count(w: Written) -> usize
     ensures { λ r. ⌜ r ≡ rawCount w ⌝ }
 {
     match w {
         Written::Bytes(_, m) => m,
         Written::Refused(_) => 0,
     }
+}
+
+// Hands on what a writer of a pass answers: both counts go to `written`, and the number is returned.
+pub fn hand_on(w: Written, written: &mut [usize; 2]) -> u8
+    ensures { λ r. ⌜ (r ≡ writtenNumber w) × (now (written .exit) ≡ writtenCounts w) ⌝ }
+{
+    *written = [srl_count(w), raw_count(w)];
+    written_number(w)
 }
 
 // The counts of missing bits: of the SRL stream, and of the raw stream.

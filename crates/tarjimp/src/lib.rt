@@ -6,6 +6,7 @@ ghost use mathlib.Core.Path.{_≡_};
 ghost use Rattle.answer.specs.Refusals.{answered};
 ghost use Rattle.bands.specs.Bands.{layout, bandsOf};
 ghost use Rattle.bands.specs.Tables.{bandOfPlace};
+ghost use Rattle.progressive_encoder.specs.Encode.{floorRule, symmetricRule};
 ghost use Rattle.dequantizer.specs.Dequantize.{Dequantizes};
 ghost use Rattle.dwt_extrapolate.specs.Transform.{Inverts};
 ghost use Rattle.color.specs.Color.{rgb};
@@ -130,7 +131,7 @@ pub extern "C" fn tarjimp_dequantize_component(
     ))
 }
 
-// Writes a pass. `written` has the counts of bytes of the SRL stream and of the raw stream then, 0 and 0 after a refusal.
+// Writes a pass by the source's rule. `written` has the counts of bytes of the SRL stream and of the raw stream then, 0 and 0 after a refusal.
 #[no_mangle]
 pub extern "C" fn tarjimp_encode_upgrade_pass(
     coefficients: &[i16],
@@ -143,7 +144,7 @@ pub extern "C" fn tarjimp_encode_upgrade_pass(
     raw_out: &mut [u8],
     written: &mut [usize; 2],
 ) -> u8
-    ensures { λ r. ⌜ WritesPass (now (coefficients .entry)) (now («prev_coefficients» .entry)) (now (prev .entry)) (now (curr .entry)) (now (sign .entry))
+    ensures { λ r. ⌜ WritesPass floorRule (now (coefficients .entry)) (now («prev_coefficients» .entry)) (now (prev .entry)) (now (curr .entry)) (now (sign .entry))
         «use_reduce_extrapolate» (now («srl_out» .entry)) (now («raw_out» .entry))
         r (now (written .exit)) (now («srl_out» .exit)) (now («raw_out» .exit)) ⌝ }
 {
@@ -159,8 +160,39 @@ pub extern "C" fn tarjimp_encode_upgrade_pass(
         srl_out,
         raw_out,
     );
-    *written = [answers::srl_count(w), answers::raw_count(w)];
-    answers::written_number(w)
+    answers::hand_on(w, written)
+}
+
+// Writes a pass by the symmetric rule, with the same parameters.
+#[no_mangle]
+pub extern "C" fn tarjimp_encode_upgrade_pass_symmetric(
+    coefficients: &[i16],
+    prev_coefficients: &[i16],
+    prev: &[u8; 10],
+    curr: &[u8; 10],
+    sign: &[i8],
+    use_reduce_extrapolate: bool,
+    srl_out: &mut [u8],
+    raw_out: &mut [u8],
+    written: &mut [usize; 2],
+) -> u8
+    ensures { λ r. ⌜ WritesPass symmetricRule (now (coefficients .entry)) (now («prev_coefficients» .entry)) (now (prev .entry)) (now (curr .entry)) (now (sign .entry))
+        «use_reduce_extrapolate» (now («srl_out» .entry)) (now («raw_out» .entry))
+        r (now (written .exit)) (now («srl_out» .exit)) (now («raw_out» .exit)) ⌝ }
+{
+    let p = *prev;
+    let q = *curr;
+    let w = progressive_encoder::encode_upgrade_pass_symmetric(
+        coefficients,
+        prev_coefficients,
+        p,
+        q,
+        sign,
+        use_reduce_extrapolate,
+        srl_out,
+        raw_out,
+    );
+    answers::hand_on(w, written)
 }
 
 // The inverse wavelet of a component, in place, with a scratch.

@@ -3,7 +3,7 @@
 
 use tarjimp::dwt_extrapolate::band_layout;
 use tarjimp::progressive::{
-    COEFFICIENTS_PER_COMPONENT, TileState, bands_of_places, encode_upgrade_pass,
+    COEFFICIENTS_PER_COMPONENT, TileState, bands_of_places, encode_upgrade_pass_symmetric,
 };
 use tarjimp::{ComponentCodecQuant, Error};
 
@@ -49,14 +49,15 @@ fn main() -> Result<(), Error> {
     Ok(())
 }
 
-/// The streams that bring the luma component of a tile to a position.
+/// The streams that bring the luma component of a tile to a position: from what it has to the picture itself,
+/// which the writer cuts, a negative coefficient like its positive twin.
 fn luma_pass(
     tile: &TileState,
     target: &Component,
     position: u8,
 ) -> Result<(Vec<u8>, Vec<u8>), Error> {
-    encode_upgrade_pass(
-        &cut(target, position),
+    encode_upgrade_pass_symmetric(
+        target,
         &tile.coefficients[0],
         &tile.prog_quant[0],
         &all(position),
@@ -99,7 +100,7 @@ fn stroke() -> Component {
     let mut target = [0; COEFFICIENTS_PER_COMPONENT];
     target[ll3.offset..].fill(101);
     let row = ll3.offset + 4 * ll3.width;
-    target[row + 1..row + 8].fill(3);
+    target[row + 1..row + 8].fill(-23);
     let row = lh3.offset + 3 * lh3.width;
     target[row + 1..row + 8].fill(-18);
     target[row + lh3.width + 1..row + lh3.width + 8].fill(27);
@@ -117,9 +118,14 @@ fn by_band(target: &Component) -> [usize; 10] {
     counts
 }
 
-/// Coefficients without the bits of their magnitudes below a position.
+/// What is known of coefficients at a position: the bits of their magnitudes from there on, and of the bottom
+/// band, number 9, the floor.
 fn cut(target: &Component, position: u8) -> Component {
-    target.map(|coefficient| coefficient.signum() * (coefficient.abs() >> position << position))
+    let bands = bands_of_places(USE_REDUCE_EXTRAPOLATE);
+    std::array::from_fn(|place| match (bands[place], target[place]) {
+        (9, coefficient) => coefficient >> position << position,
+        (_, coefficient) => coefficient.signum() * (coefficient.abs() >> position << position),
+    })
 }
 
 /// A line for a tile: its pass, how much is undecided, and the brightness down its middle.

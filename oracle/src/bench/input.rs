@@ -6,7 +6,7 @@ use oracle::kinds::missing;
 use oracle::kinds::progressive::zero_signs::{self, ZeroSigns};
 use oracle::kinds::srl::decode::START;
 use oracle::port::Row;
-use oracle::progressive::{self, COEFFICIENTS_PER_COMPONENT, TileState};
+use oracle::progressive::{self, COEFFICIENTS_PER_COMPONENT, TileState, reach};
 use oracle::random::Random;
 use oracle::srl;
 
@@ -230,10 +230,26 @@ pub fn inputs(sort: Sort) -> Vec<Input> {
     (0..16).map(|_| input(&mut random, sort)).collect()
 }
 
+/// The same, with no negative coefficient in the bottom band: both rules of the writer make the same streams of them.
+pub fn alike(sort: Sort) -> Vec<Input> {
+    let bottom = reach::ll3_offset(USE_REDUCE_EXTRAPOLATE);
+    let mut targets: Vec<Vec<i16>> = inputs(sort).into_iter().map(|input| input.target).collect();
+    for coefficient in targets.iter_mut().flat_map(|target| &mut target[bottom..]) {
+        *coefficient = coefficient.abs();
+    }
+    targets.into_iter().map(input_of).collect()
+}
+
 fn input(random: &mut Random, sort: Sort) -> Input {
-    let target: Vec<i16> = (0..COEFFICIENTS_PER_COMPONENT)
-        .map(|_| coefficient(random, sort))
-        .collect();
+    input_of(
+        (0..COEFFICIENTS_PER_COMPONENT)
+            .map(|_| coefficient(random, sort))
+            .collect(),
+    )
+}
+
+/// A target, with what is known of it before the pass and the pass as the text writes it.
+fn input_of(target: Vec<i16>) -> Input {
     let shift = PREV[0];
     let before: Vec<i16> = target
         .iter()

@@ -10,14 +10,14 @@ use std::time::Instant;
 use oracle::codecs::rfx::progressive::ComponentCodecQuant;
 use oracle::dwt_extrapolate;
 use oracle::kinds::progressive::zero_signs;
-use oracle::port;
+use oracle::port::{self, Rule};
 use oracle::progressive::{self, COEFFICIENTS_PER_COMPONENT, TileState, reach};
 
 use oracle::srl::{SrlDecoder, SrlEncoder};
 
 use input::{
     CURR, FAINT, Input, PREV, Pixels, QUANT, SORTS, Stream, Tile, USE_REDUCE_EXTRAPOLATE, Upgrade,
-    cut_streams, empty_upgrades, inputs, rows, streams, tiles, upgrades,
+    alike, cut_streams, empty_upgrades, inputs, rows, streams, tiles, upgrades,
 };
 
 /// The bytes of each output that the port gets: more than any pass here takes.
@@ -94,9 +94,9 @@ fn main() -> ExitCode {
     };
     println!("One call, in nanoseconds, {repetitions} batches of each side.");
     println!("Ratio: port / Rust of each pair of batches, the median and the middle half.");
-    println!("{:<34}{:>16}{:>18}", "", "median of", "lowest of");
+    println!("{:<36}{:>16}{:>18}", "", "median of", "lowest of");
     println!(
-        "{:<34}{:>8}{:>8}{:>10}{:>8}   ratio",
+        "{:<36}{:>8}{:>8}{:>10}{:>8}   ratio",
         "", "Rust", "port", "Rust", "port"
     );
     for sort in SORTS {
@@ -126,6 +126,23 @@ fn main() -> ExitCode {
         repetitions,
         rust_encode,
         port_encode_exact,
+    );
+    // The text has one writer: beside both it is the same.
+    for sort in SORTS {
+        row(
+            &format!("encode symmetric, {}", sort.name),
+            &alike(sort),
+            repetitions,
+            rust_encode,
+            port_encode_symmetric,
+        );
+    }
+    row(
+        "encode symmetric, typical, just fit",
+        &alike(SORTS[1]),
+        repetitions,
+        rust_encode,
+        port_encode_symmetric_exact,
     );
     row(
         "dequantize, typical",
@@ -217,7 +234,7 @@ fn row<I>(name: &str, inputs: &[I], repetitions: usize, rust: Call<I>, port: Cal
     let ratios = sorted(ratios.map(|(port, rust)| port / rust).collect());
     let [rust, port] = times.map(sorted);
     println!(
-        "{name:<34}{:>8.0}{:>8.0}{:>10.0}{:>8.0}   {} ({} to {})",
+        "{name:<36}{:>8.0}{:>8.0}{:>10.0}{:>8.0}   {} ({} to {})",
         quartile(&rust, 2),
         quartile(&port, 2),
         rust[0],
@@ -310,15 +327,30 @@ fn rust_encode(input: &Input, work: &mut Work) {
 
 /// The port writes into outputs that are lent.
 fn port_encode(input: &Input, work: &mut Work) {
-    write(input, work, ROOM, ROOM);
+    write(Rule::Floor, input, work, ROOM, ROOM);
 }
 
 fn port_encode_exact(input: &Input, work: &mut Work) {
-    write(input, work, input.srl.len(), input.raw.len());
+    write(Rule::Floor, input, work, input.srl.len(), input.raw.len());
 }
 
-fn write(input: &Input, work: &mut Work, srl_room: usize, raw_room: usize) {
+fn port_encode_symmetric(input: &Input, work: &mut Work) {
+    write(Rule::Symmetric, input, work, ROOM, ROOM);
+}
+
+fn port_encode_symmetric_exact(input: &Input, work: &mut Work) {
+    write(
+        Rule::Symmetric,
+        input,
+        work,
+        input.srl.len(),
+        input.raw.len(),
+    );
+}
+
+fn write(rule: Rule, input: &Input, work: &mut Work, srl_room: usize, raw_room: usize) {
     let number = port::encode_upgrade_pass(
+        rule,
         &input.target,
         &input.before,
         &PREV,

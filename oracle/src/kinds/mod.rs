@@ -17,7 +17,7 @@ use crate::record::{Case, Recording};
 use oracle::random::Random;
 
 /// The number and the name of each kind.
-pub const KINDS: [(u8, &str); 34] = [
+pub const KINDS: [(u8, &str); 35] = [
     (1, "clamp_i16"),
     (2, "clamp_u8"),
     (3, "t"),
@@ -52,6 +52,7 @@ pub const KINDS: [(u8, &str); 34] = [
     (44, "ycbcr_row"),
     (45, "tile_pixels"),
     (46, "cut_everywhere"),
+    (47, "encode_symmetric"),
 ];
 
 /// The name of a kind.

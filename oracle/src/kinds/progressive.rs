@@ -1,5 +1,6 @@
 //! Kinds 36 to 40: a pass over one component, read and written; dequantizing; a tile, loaded and upgraded.
-//! Kind 45: a tile's pixels. Kind 46: streams that are cut at each byte.
+//! Kind 45: a tile's pixels. Kind 46: streams that are cut at each byte. Kind 47: a pass written by the symmetric
+//! rule.
 
 pub mod component;
 pub mod cuts;
@@ -9,6 +10,7 @@ pub mod encode;
 pub mod ladder;
 mod load;
 pub mod pixels;
+mod symmetric;
 pub mod tile;
 pub mod zero_signs;
 
@@ -44,6 +46,7 @@ pub fn record_all(recording: &mut Recording<'_>) -> io::Result<Vec<(u8, Case)>> 
     models.extend(recording.kind(ladder::UPGRADE_LADDER, ladder::record_all)?);
     models.extend(recording.kind(pixels::TILE_PIXELS, pixels::record_all)?);
     recording.kind(cuts::CUT_EVERYWHERE.number, cuts::record_all)?;
+    models.extend(recording.kind(encode::ENCODE_SYMMETRIC, encode::record_symmetric)?);
     Ok(models)
 }
 

@@ -1,11 +1,13 @@
-//! `tarjimp_decode_upgrade_pass`, `tarjimp_encode_upgrade_pass` and `tarjimp_dequantize_component`.
+//! `tarjimp_decode_upgrade_pass`, `tarjimp_encode_upgrade_pass`, `tarjimp_encode_upgrade_pass_symmetric` and
+//! `tarjimp_dequantize_component`.
 
 use oracle::digest::with_values;
 use oracle::kinds::missing::{self, Missing};
 use oracle::kinds::progressive::component::{Given, Made};
+use oracle::kinds::progressive::encode::Writer;
 use oracle::kinds::progressive::{decode, dequantize, encode};
 use oracle::kinds::room::Room;
-use oracle::port;
+use oracle::port::{self, Rule};
 use oracle::record::Fields;
 
 use super::{Agrees, same, same_answer, same_places};
@@ -65,17 +67,22 @@ pub fn decode_upgrade(fields: &mut Fields<'_>) -> Agrees {
     same_answer(&mut answers, &missing::fields(missing))
 }
 
-/// A pass that is written, and read back if it is accepted.
-pub fn encode_upgrade(fields: &mut Fields<'_>) -> Agrees {
+/// A pass that is written by either rule, and read back if it is accepted.
+pub fn encode_upgrade(fields: &mut Fields<'_>, writer: Writer) -> Agrees {
     let given = Given::read(fields);
     let rooms: [usize; 2] = fields.shorts();
-    let text = encode::answer(&given, rooms.map(Room::Of));
+    let text = writer.answer(&given, rooms.map(Room::Of));
+    let rule = match writer {
+        Writer::Text => Rule::Floor,
+        Writer::Symmetric => Rule::Symmetric,
+    };
     let mut made = given.make();
     let mut outputs = [encode::held(&[]), encode::held(&[])];
     let [srl_out, raw_out] = &mut outputs;
     let [target, before, sign] = given.lengths;
     let mut written = [usize::MAX; 2];
     let number = port::encode_upgrade_pass(
+        rule,
         &made.target[..target],
         &made.before[..before],
         &given.prev,

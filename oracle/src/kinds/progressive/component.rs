@@ -4,6 +4,7 @@
 use oracle::codecs::rfx::progressive::ComponentCodecQuant;
 use oracle::progressive::reach;
 
+use super::COMPONENT;
 use crate::kinds::short;
 use crate::record::Fields;
 
@@ -24,6 +25,8 @@ pub enum Before {
     Any,
     /// The least and the greatest.
     Extreme,
+    /// The target as the symmetric rule cuts it: towards zero, in the bottom band with floor.
+    OfBand,
 }
 
 /// The signs.
@@ -104,15 +107,20 @@ impl Given {
             sign: Vec::new(),
         };
         let mut word = self.shape.seed;
-        for (prev, curr) in self.positions() {
+        for (place, (prev, curr)) in self.positions().into_iter().enumerate() {
             word = next(word);
             let target = self.shape.target(word, curr);
-            let before = self.shape.before(word, target, prev);
+            let before = self.shape.before(word, target, prev, self.is_bottom(place));
             made.target.push(target);
             made.before.push(before);
             made.sign.push(self.shape.sign(word, target, before));
         }
         made
+    }
+
+    /// Whether a place lies in the bottom band, the last of the ten.
+    pub fn is_bottom(&self, place: usize) -> bool {
+        (reach::ll3_offset(self.use_reduce_extrapolate)..COMPONENT).contains(&place)
     }
 
     /// The positions of each place, those of its band; behind the last band, 0.
@@ -141,7 +149,10 @@ impl Shape {
     pub fn read(fields: &mut Fields<'_>) -> Self {
         let seed = fields.u64();
         let [density, drop, spread, mode] = [(); 4].map(|()| fields.u8());
-        let befores = [Before::Cut, Before::Floor, Before::Any, Before::Extreme];
+        let befores = match mode / 32 % 2 {
+            0 => [Before::Cut, Before::Floor, Before::Any, Before::Extreme],
+            _ => [Before::OfBand; 4],
+        };
         let signs = [Signs::Before, Signs::Any, Signs::Zero, Signs::Later];
         Self {
             seed,
@@ -165,7 +176,11 @@ impl Shape {
             signs,
             cut,
         } = *self;
-        let mode = before as u8 + 4 * signs as u8 + 16 * u8::from(cut);
+        let before = match before {
+            Before::OfBand => 32,
+            before => before as u8,
+        };
+        let mode = before + 4 * signs as u8 + 16 * u8::from(cut);
         let mut fields = [0; 12];
         fields[..8].copy_from_slice(&seed.to_le_bytes());
         fields[8..].copy_from_slice(&[density, drop, spread, mode]);
@@ -186,13 +201,11 @@ impl Shape {
         with_sign(magnitude, bit(word, 28))
     }
 
-    fn before(&self, word: u64, target: i16, prev: u8) -> i16 {
+    fn before(&self, word: u64, target: i16, prev: u8, bottom: bool) -> i16 {
         match self.before {
-            Before::Cut => with_sign(cut(target.unsigned_abs(), prev), target < 0),
-            Before::Floor => {
-                let shift = prev.min(15);
-                target >> shift << shift
-            }
+            Before::OfBand if bottom => cut_down(target, prev),
+            Before::Cut | Before::OfBand => cut_towards_zero(target, prev),
+            Before::Floor => cut_down(target, prev),
             Before::Any => with_sign(shifted((word >> 32) as u16, self.drop), bit(word, 29)),
             Before::Extreme => with_sign(u16::MAX, bit(word, 29)),
         }
@@ -229,6 +242,17 @@ fn cut(magnitude: u16, bits: u8) -> u16 {
         return 0;
     }
     magnitude >> bits << bits
+}
+
+/// A coefficient without the lowest bits of its magnitude.
+pub fn cut_towards_zero(coefficient: i16, bits: u8) -> i16 {
+    with_sign(cut(coefficient.unsigned_abs(), bits), coefficient < 0)
+}
+
+/// The multiple of a power of two that is not above a coefficient.
+pub fn cut_down(coefficient: i16, bits: u8) -> i16 {
+    let shift = bits.min(15);
+    coefficient >> shift << shift
 }
 
 /// A magnitude with a sign, clamped.
