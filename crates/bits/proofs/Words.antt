@@ -10,7 +10,7 @@ use Rattle.bits.specs.Written.{bitsOf, writer, after}
 use Rattle.bits.specs.Inner.{Sound, write, Wrote, byteStart, waiting, settled, settledOut, SoundWord, WroteWords, wordStored, wordOf}
 use Rattle.bits.specs.declared.writer.BitWriter.{BitWriter}
 use Rattle.bits.specs.declared.writer.WordWriter.{WordWriter}
-use Rattle.bits.proofs.Puts.{after-sound, after-append, write-append, then, renamed, length-bitsOf, bits-append, bits-mod, waits, byte, byte-then, fresh}
+use Rattle.bits.proofs.Puts.{after-sound, after-append, write-append, then, renamed, bits-append, bits-mod, waits, byte, byte-then, fresh}
 
 -- ════ four bytes ════
 
