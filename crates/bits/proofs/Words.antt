@@ -2,15 +2,15 @@
 use mathlib.Core.Path.{_≡_, refl, ap, sym, _∙_, subst}
 use mathlib.Core.Bool.{Bool}
 use mathlib.Core.List.{List, [], _++_}
-use Prim.Native.Nat.{ℕ, _+_, _*_, _/_, _%_, _^_}
+use Prim.Native.Nat.{ℕ, zero, suc, _+_, _*_, _/_, _%_, _^_, _≤_}
+use native.Mathlib.Nat.{add-zero}
 use native.Mathlib.Omega.{arith}
 use lib.ListN.{length, set, length-append}
 use Rattle.bits.specs.Written.{bitsOf, writer, after}
 use Rattle.bits.specs.Inner.{Sound, write, Wrote, byteStart, waiting, settled, settledOut, SoundWord, WroteWords, wordStored, wordOf}
 use Rattle.bits.specs.declared.writer.BitWriter.{BitWriter}
 use Rattle.bits.specs.declared.writer.WordWriter.{WordWriter}
-use Rattle.bits.proofs.Puts.{after-sound, after-append, write-append, then, renamed, length-bitsOf, bits-append, bits-mod, byte, byte-then, fresh}
-use Rattle.bits.proofs.Packed.{count-after}
+use Rattle.bits.proofs.Puts.{after-sound, after-append, write-append, then, renamed, bits-append, bits-mod, waits, byte, byte-then, fresh}
 
 -- ════ four bytes ════
 
@@ -37,18 +37,27 @@ word-stored out at x =
     c : List ℕ
     c = set b (at + 2) (x / 2 ^ 8 % 256)
 
--- 32 bits, and some that wait behind them
+-- 32 bits, and some that wait behind them: o is the output after the 32
 pub word-then : (out : List ℕ) (at n left x : ℕ) (y : WordWriter) → n ≡ 32 + left → y .at ≡ at + 4 → y .held ≡ left → y .word ≡ x % 2 ^ left
-    → {o : List ℕ} → o ≡ wordStored out at (x / 2 ^ left) → Wrote out (writer at 0 0) (bitsOf n x) (settled y) (settledOut o y)
+    → {o : List ℕ} → o ≡ write out (writer at 0 0) (bitsOf 32 (x / 2 ^ left)) → Wrote out (writer at 0 0) (bitsOf n x) (settled y) (settledOut o y)
 word-then out at n left x y e a h w {o = o} s =
+    let top = word-stored out at (x / 2 ^ left) in
     let place : byteStart y ≡ writer (at + 4) 0 0 = ap (λ i. writer i 0 0) a in
     let rest : waiting y ≡ bitsOf left x = ap (λ i. bitsOf i (y .word)) h ∙ ap (bitsOf left) w ∙ bits-mod left x in
     renamed out (writer at 0 0) (sym (ap (λ j. bitsOf j x) e ∙ bits-append 32 left x))
-    (then out (writer at 0 0) (bitsOf 32 (x / 2 ^ left)) (bitsOf left x) (word-stored out at (x / 2 ^ left)) (
+    (then out (writer at 0 0) (bitsOf 32 (x / 2 ^ left)) (bitsOf left x) {x = writer (at + 4) 0 0} {o = o} (top .0, s) (
       ap (λ z. after z (waiting y)) place ∙ ap (after (writer (at + 4) 0 0)) rest,
-      ap (λ z. write z (byteStart y) (waiting y)) s ∙ ap (λ z. write (wordStored out at (x / 2 ^ left)) z (waiting y)) place
-          ∙ ap (write (wordStored out at (x / 2 ^ left)) (writer (at + 4) 0 0)) rest,
+      ap (λ z. write o z (waiting y)) place ∙ ap (write o (writer (at + 4) 0 0)) rest,
     ))
+
+-- whole bytes of bits, and fewer than 8 that wait behind them
+bytes-then : (q r x at : ℕ) → r ≤ 7 → after (writer at 0 0) (bitsOf (8 * q + r) x) ≡ writer (at + q) (x % 2 ^ r) r
+bytes-then zero r x at h =
+    let e : 8 * 0 + r ≡ r = omega arith in
+    ap (λ j. after (writer at 0 0) (bitsOf j x)) e ∙ sym (waits [] at r x h .0) ∙ ap (λ j. writer j (x % 2 ^ r) r) (sym (add-zero at))
+bytes-then (suc q) r x at h =
+    let e : at + 1 + q ≡ at + suc q = omega arith in
+    sym (byte-then [] at (8 * suc q + r) (8 * q + r) x (omega arith) (refl, refl) .0) ∙ bytes-then q r x (at + 1) h ∙ ap (λ j. writer j (x % 2 ^ r) r) e
 
 -- ════ bits behind those that wait ════
 
@@ -82,10 +91,15 @@ words-renamed o k {x = x} {p = p} q d = subst (λ l. WroteWords o k l x p) q d
 
 -- ════ where a writer is ════
 
+-- the whole bytes that wait, and what is left of them
+pub settled-is : (k : WordWriter) → settled k ≡ writer (k .at + k .held / 8) (k .word % 2 ^ (k .held % 8)) (k .held % 8)
+settled-is k =
+    let e : k .held ≡ 8 * (k .held / 8) + k .held % 8 = omega arith in
+    ap (λ j. after (byteStart k) (bitsOf j (k .word))) e ∙ bytes-then (k .held / 8) (k .held % 8) (k .word) (k .at) (omega arith)
+
 -- the whole bytes, with those that wait
 pub settled-at : (k : WordWriter) → settled k .at ≡ k .at + k .held / 8
-settled-at k =
-    ap (λ p. p .at) (count-after (byteStart k) (waiting k) (omega arith)) ∙ ap (λ n. k .at + (0 + n) / 8) (length-bitsOf (k .held) (k .word)) ∙ omega arith
+settled-at k = ap (λ x. x .at) (settled-is k)
 
 -- fewer than 8 bits wait then, as a number
 pub settled-sound : (k : WordWriter) → Sound (settled k)

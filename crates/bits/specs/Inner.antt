@@ -98,13 +98,10 @@ pub record WroteWords (o : List ℕ) (k : WordWriter) (bs : List Bool) (x : Word
   -- stored and waiting, there are so many bits more
   pub near : 8 * x .at + x .held ≡ 8 * k .at + k .held + length bs
 
--- four bytes in a row
-abbrev pub fourStored : List ℕ → ℕ → ℕ → ℕ → ℕ → ℕ → List ℕ
-fourStored out at a b c d = set (set (set (set out at a) (at + 1) b) (at + 2) c) (at + 3) d
-
--- the low 32 bits of a number as four bytes
+-- the low 32 bits of a number, stored as four bytes
 abbrev pub wordStored : List ℕ → ℕ → ℕ → List ℕ
-wordStored out at x = fourStored out at (x / 2 ^ 24 % 256) (x / 2 ^ 16 % 256) (x / 2 ^ 8 % 256) (x % 256)
+wordStored out at x =
+    set (set (set (set out at (x / 2 ^ 24 % 256)) (at + 1) (x / 2 ^ 16 % 256)) (at + 2) (x / 2 ^ 8 % 256)) (at + 3) (x % 256)
 
 -- a writer by words that begins with the bits that another keeps
 abbrev pub wordOf : BitWriter → WordWriter

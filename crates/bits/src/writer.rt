@@ -2,10 +2,10 @@
 ghost use mathlib.Core.Path.{_≡_};
 ghost use mathlib.Core.Bool.{false};
 ghost use Prim.Native.Nat.{_+_, _%_, _^_, _≤_, _<_};
-ghost use lib.ListN.{set, replicate};
+ghost use lib.ListN.{length, set, replicate};
 ghost use Rattle.bits.specs.Bits.{bitOf};
-ghost use Rattle.bits.specs.Written.{bitsOf};
-ghost use Rattle.bits.specs.Inner.{Sound, Room, padCount, padOut, counted, settled, settledOut, SoundWord, WroteWords, fourStored, wordStored};
+ghost use Rattle.bits.specs.Written.{bitsOf, writer};
+ghost use Rattle.bits.specs.Inner.{Sound, Room, write, padCount, padOut, counted, settled, settledOut, SoundWord, WroteWords, wordStored};
 
 // Where bits go: `at` whole bytes are written, and `bit_count` bits, the number `current`, wait for the next byte.
 pub struct BitWriter {
@@ -60,33 +60,41 @@ fn low_byte(x: u64) -> u8
     (x % 256) as u8
 }
 
-// Four bytes in a row. Inside the slice the compiler makes one store of them.
-fn store_four(out: &mut [u8], at: usize, a: u8, b: u8, c: u8, d: u8)
-    requires { ⌜ at + 8 < 2 ^ 64 ⌝ }
-    ensures { λ _. ⌜ now (out .exit) ≡ fourStored (now (out .entry)) at a b c d ⌝ }
-{
-    if at + 4 <= out.len() {
-        out[at] = a;
-        out[at + 1] = b;
-        out[at + 2] = c;
-        out[at + 3] = d;
-        return;
-    }
-    store(out, at, a);
-    store(out, at + 1, b);
-    store(out, at + 2, c);
-    store(out, at + 3, d);
-}
-
-// The low 32 bits of a number, highest byte first.
-fn store_word(out: &mut [u8], at: usize, x: u64)
-    requires { ⌜ at + 8 < 2 ^ 64 ⌝ }
+// The low 32 bits of a number, inside the slice: the compiler makes one store of the four bytes.
+fn store_four(out: &mut [u8], at: usize, x: u64)
+    requires { ⌜ at + 4 ≤ length (now out) ⌝ }
     ensures { λ _. ⌜ now (out .exit) ≡ wordStored (now (out .entry)) at x ⌝ }
 {
-    let a = low_byte(x >> 24);
-    let b = low_byte(x >> 16);
-    let c = low_byte(x >> 8);
-    store_four(out, at, a, b, c, low_byte(x));
+    out[at] = low_byte(x >> 24);
+    out[at + 1] = low_byte(x >> 16);
+    out[at + 2] = low_byte(x >> 8);
+    out[at + 3] = low_byte(x);
+}
+
+// The whole bytes of n bits, the number x, each by itself.
+fn store_bytes(out: &mut [u8], at: usize, x: u64, n: u8)
+    requires { ⌜ (n ≤ 32) × (at + 8 < 2 ^ 64) ⌝ }
+    ensures { λ _. ⌜ now (out .exit) ≡ write (now (out .entry)) (writer at 0 0) (bitsOf n x) ⌝ }
+{
+    let mut next = at;
+    let mut left = n;
+    while 8 <= left {
+        left -= 8;
+        store(out, next, low_byte(x >> left));
+        next += 1;
+    }
+}
+
+// The low 32 bits of a number. The bytes are made behind the test, else they would be four stores.
+fn store_word(out: &mut [u8], at: usize, x: u64)
+    requires { ⌜ at + 8 < 2 ^ 64 ⌝ }
+    ensures { λ _. ⌜ now (out .exit) ≡ write (now (out .entry)) (writer at 0 0) (bitsOf 32 x) ⌝ }
+{
+    if at + 4 <= out.len() {
+        store_four(out, at, x);
+        return;
+    }
+    store_bytes(out, at, x, 32);
 }
 
 // n bits, the number `value`: they wait with the others, or the first 32 bits are stored.
@@ -133,18 +141,15 @@ pub fn settle(out: &mut [u8], k: WordWriter) -> BitWriter
     requires { ⌜ SoundWord k × (k .at + 8 < 2 ^ 64) ⌝ }
     ensures { λ r. ⌜ (r ≡ settled k) × (now (out .exit) ≡ settledOut (now (out .entry)) k) ⌝ }
 {
+    let at = k.at;
     let word = k.word;
-    let mut at = k.at;
-    let mut held = k.held;
-    while 8 <= held {
-        held -= 8;
-        store(out, at, low_byte(word >> held));
-        at += 1;
-    }
+    let held = k.held;
+    store_bytes(out, at, word, held);
+    let left = held % 8;
     BitWriter {
-        at,
-        current: low_bits(word, held) as u8,
-        bit_count: held,
+        at: at + ((held / 8) as usize),
+        current: low_bits(word, left) as u8,
+        bit_count: left,
     }
 }
 

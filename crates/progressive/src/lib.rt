@@ -16,6 +16,7 @@ pub use progressive_decoder::PassDecoded;
 pub use progressive_decoder::decode_upgrade_pass;
 pub use progressive_encoder::Written;
 pub use progressive_encoder::encode_upgrade_pass;
+pub use progressive_encoder::encode_upgrade_pass_symmetric;
 
 // What a writer wrote is read back, by whatever rule, and where the source's rule brings a component to its target.
 pub fn pass_round_trip()

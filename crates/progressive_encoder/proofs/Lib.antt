@@ -1,12 +1,12 @@
 -- Laws of a pass, written, for the proofs here and in the crates above.
-pub mod BothStreams
 pub mod Placewise
+pub mod StreamLengths
 mod Rules
-mod StoredStreams
-mod StreamLengths
-mod Held
-mod BothLists
-mod ListedEvents
-mod ListedNumbers
 mod Classed
+mod Held
+mod ListedNumbers
+mod ListedEvents
+mod BothLists
+mod StoredStreams
+mod BothStreams
 mod Pending

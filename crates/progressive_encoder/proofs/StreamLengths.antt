@@ -120,7 +120,8 @@ pub stream-none : (ws : List ℕ) (vs : List ℤ) → length vs ≡ 0 → srlStr
 stream-none ws [] h = refl
 stream-none ws (v ∷ vs) h = absurd (omega arith)
 
-some-length : (ws : List ℕ) (vs : List ℤ) → (length vs ≡ 0 → ⊥) → length (srlStream ws vs) ≡ (length (streamBits 8 0 ws vs) + 7) / 8 + 1
+-- its length
+pub some-length : (ws : List ℕ) (vs : List ℤ) → (length vs ≡ 0 → ⊥) → length (srlStream ws vs) ≡ (length (streamBits 8 0 ws vs) + 7) / 8 + 1
 some-length ws vs h =
     let bits = streamBits 8 0 ws vs in
     ap length (stream-some ws vs h) ∙ omega (arith, length-append (pack 0 0 bits) (0 ∷ []), length-pack bits 0 0 (omega arith))

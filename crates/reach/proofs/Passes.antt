@@ -21,11 +21,10 @@ use Rattle.srl.proofs.Magnitudes.{magnitudes as read-magnitudes}
 use Rattle.upgrade_steps.specs.Steps.{Step, stepOf, Source, skipped, srl, raw, source, sourceOf, srlWidth, srlWidths, rawWidth, rawWidths}
 use Rattle.progressive_decoder.specs.Upgrade.{signThen, signsAfter, coefficientThen, coefficientsAfter, srlValues, rawNumbers, upgradedSigns, upgradedCoefficients}
 use Rattle.progressive.specs.Laws.{Small, small}
-use Rattle.progressive_encoder.specs.Inner.{magnitudes}
 use Rattle.progressive_encoder.specs.Encode.{srlStream, rawStream}
 use Rattle.progressive.proofs.AnyRule.{read-values, read-numbers}
 use Rattle.bits.proofs.Holds.{pack-holds}
-use Rattle.reach.proofs.Streams.{Stream, srl-stream, raw-stream}
+use Rattle.reach.proofs.Streams.{magnitudes, Stream, srl-stream, raw-stream}
 use Rattle.fitting.specs.Place.{Place, place, Fits}
 use Rattle.reach.specs.Place.{Gains}
 use Rattle.reach.proofs.Places.{due, gain-refl, gain-same, gain-mid, raw-sound, raw-whole, srl-sound, srl-whole}

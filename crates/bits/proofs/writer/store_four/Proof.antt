@@ -1,5 +1,5 @@
--- `bits::writer::store_four` meets its contract: past the end each byte is stored by itself. Assumes nothing.
-use mathlib.Core.Path.{refl, ap, _∙_}
+-- `bits::writer::store_four` meets its contract. Assumes nothing.
+use mathlib.Core.Path.{refl}
 use Prim.Native.Nat.{_+_}
 use native.Mathlib.Omega.{arith}
 use lib.ListN.{set, length-set}
@@ -8,52 +8,46 @@ use Rattle.bits.proofs.writer.store_four.Statement.{statement}
 use Rattle.bits.proofs.writer.store_four.Tie as tie
 
 slice-write-out-2 : tie.Need-slice-write-out-2
-slice-write-out-2 c = let a = c .before .before .args in omega (arith, length-set (a .out .now) (a .at) (a .a), c .if1 .taken)
+slice-write-out-2 c =
+    let start = c .before .before .before in
+    let a = start .args in
+    omega (arith, length-set (a .out .now) (a .at) (c .before .low-byte .result), start .pre)
 
 slice-write-out-3 : tie.Need-slice-write-out-3
 slice-write-out-3 c =
-    let a = c .before .before .args in
-    let o = set (a .out .now) (a .at) (a .a) in
-    omega (arith, length-set (a .out .now) (a .at) (a .a), length-set o (a .at + 1) (a .b), c .if1 .taken)
+    let start = c .before .before .before .before in
+    let a = start .args in
+    let x = c .before .before .low-byte .result in
+    let o = set (a .out .now) (a .at) x in
+    omega (arith, length-set (a .out .now) (a .at) x, length-set o (a .at + 1) (c .before .low-byte2 .result), start .pre)
 
 slice-write-out-4 : tie.Need-slice-write-out-4
 slice-write-out-4 c =
-    let a = c .before .before .args in
-    let o = set (a .out .now) (a .at) (a .a) in
-    let p = set o (a .at + 1) (a .b) in
-    omega (arith, length-set (a .out .now) (a .at) (a .a), length-set o (a .at + 1) (a .b), length-set p (a .at + 2) (a .c), c .if1 .taken)
+    let start = c .before .before .before .before .before in
+    let a = start .args in
+    let x = c .before .before .before .low-byte .result in
+    let y = c .before .before .low-byte2 .result in
+    let o = set (a .out .now) (a .at) x in
+    let p = set o (a .at + 1) y in
+    omega (arith, length-set (a .out .now) (a .at) x, length-set o (a .at + 1) y, length-set p (a .at + 2) (c .before .low-byte3 .result), start .pre)
 
-returns-2 : tie.Need-returns-2
-returns-2 c =
-    let third = c .before .before .before .before .before .before in
-    let second = third .before .before .before .before in
-    let first = second .before .before .before .before in
-    let a = first .before .before .before .before .args in
-    c .before .before .store4 .ensures
-    ∙ ap (λ o. set o (a .at + 3) (a .d)) (third .store3 .ensures
-    ∙ ap (λ o. set o (a .at + 2) (a .c)) (second .store2 .ensures
-    ∙ ap (λ o. set o (a .at + 1) (a .b)) (first .store .ensures)))
+returns : tie.Need-returns
+returns c = rw (c .low-byte4 .ensures, c .before .low-byte3 .ensures, c .before .before .low-byte2 .ensures, c .before .before .before .low-byte .ensures) refl
 
 pub store-four-spec : {M : Type 1} → statement M
 store-four-spec =
     tie.close
     (tie.spec
+    (λ c κs. search needs)
     (λ c. search needs)
-    (λ c. search needs)
+    (λ c κs. search needs)
     (λ c. search needs)
     slice-write-out-2
+    (λ c κs. search needs)
     (λ c. search needs)
     slice-write-out-3
+    (λ c κs. search needs)
     (λ c. search needs)
     slice-write-out-4
     (λ c. search needs)
-    (λ c. refl)
-    (λ c κs. search needs)
-    (λ c. search needs)
-    (λ c κs. search needs)
-    (λ c. search needs)
-    (λ c κs. search needs)
-    (λ c. search needs)
-    (λ c κs. search needs)
-    (λ c. search needs)
-    returns-2)
+    returns)
