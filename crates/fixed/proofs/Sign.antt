@@ -1,10 +1,11 @@
 -- Signs and magnitudes. Assumes nothing.
 use mathlib.Core.Path.{_≡_, refl, sym, ap, _∙_, subst}
-use mathlib.Core.Bool.{Bool, true, false, true≢false}
-use Prim.Native.Nat.{ℕ, zero, suc, _<_}
+use mathlib.Core.Bool.{Bool, true, false, cond, true≢false}
+use Prim.Native.Nat.{ℕ, zero, suc, _+_, _-_, _<_}
 use native.Mathlib.Omega.{arith}
-use borrow.Author.Tests.{ltb-true, ltb-false}
-use lib.IntN.{ℤ, pos, negsuc, natAbs, negℤ, _+ℤ_, _-ℤ_, +ℤ-idl, +ℤ-comm, negℤ-+ℤ, negℤ-negℤ}
+use borrow.Author.Tests.{lt-ltb, le-ltb, ltb-true, ltb-false}
+use lib.Dec.{ltb}
+use lib.IntN.{ℤ, pos, negsuc, subℕ, natAbs, negℤ, _+ℤ_, _-ℤ_, +ℤ-idl, +ℤ-comm, negℤ-+ℤ, negℤ-negℤ}
 use lib.Signed.{ltZ, mag}
 use mir.Syntax.{Width}
 use mir.Val.{SFits, ofZ}
@@ -106,3 +107,27 @@ apart-below a b e = swapped a b ∙ minus-abs (a -ℤ b) e
 -- a difference that is not negative has sixteen bits
 pub apart-small : (a b : ℤ) {n : ℕ} → mag a < 32768 → mag b < 32768 → a -ℤ b ≡ pos n → n < 65536
 apart-small a b h k e = subst (λ (z : ℤ). mag z < 65536) e (sub-mag a b 65536 h k)
+
+-- which of two naturals is below, by the difference
+side : (a b : ℕ) → ltb a b ≡ ltZ (subℕ a b) (pos 0)
+side a b = by (ltb a b)
+  where
+    by : (t : Bool) → t ≡ ltZ (cond t (negsuc (b - suc a)) (pos (a - b))) (pos 0)
+    by true = refl
+    by false = sym (le-ltb (a - b) 0 (omega arith))
+
+both-more : (a b : ℕ) → ltb a b ≡ ltb (suc a) (suc b)
+both-more a b = by (ltb a b) refl
+  where
+    by : (t : Bool) → ltb a b ≡ t → t ≡ ltb (suc a) (suc b)
+    by true e = sym (lt-ltb (suc a) (suc b) (omega (arith, ltb-true a b e)))
+    by false e = sym (le-ltb (suc a) (suc b) (omega (arith, ltb-false a b e)))
+
+-- which of two numbers is
+pub below-is : (a b : ℤ) → ltZ a b ≡ ltZ (a -ℤ b) (pos 0)
+below-is (pos a) (pos zero) = le-ltb a 0 (omega arith) ∙ sym (le-ltb (a + 0) 0 (omega arith))
+below-is (pos a) (pos (suc b)) = side a (suc b)
+below-is (pos a) (negsuc b) = sym (le-ltb (a + suc b) 0 (omega arith))
+below-is (negsuc a) (pos zero) = sym (lt-ltb 0 (suc a) (omega arith)) ∙ side 0 (suc a)
+below-is (negsuc a) (pos (suc b)) = refl
+below-is (negsuc a) (negsuc b) = both-more b a ∙ side (suc b) (suc a)

@@ -199,7 +199,7 @@ fn difference(a: i16, b: i16) -> i32
 pub fn is_below(a: i16, b: i16) -> bool
     ensures { λ r. ⌜ r ≡ isNegative (a -ℤ b) ⌝ }
 {
-    difference(a, b) < 0
+    a < b
 }
 
 // How far `a` is from `b`: at most 65535.

@@ -1,13 +1,14 @@
 -- Laws of what a place gives by either rule: a value by its magnitude and its side, values that are 0, numbers that are not below 0. Assumes nothing.
 use mathlib.Core.Path.{_≡_, refl, ap, sym, _∙_}
-use mathlib.Core.Bool.{Bool, true, false, true≢false}
+use mathlib.Core.Bool.{Bool, true, false, _&&_, true≢false}
 use Prim.Native.Nat.{ℕ, zero, suc, _/_, _^_}
 use native.Mathlib.Omega.{arith}
 use borrow.Author.Tests.{le-ltb, ltb-true, ltb-false}
 use lib.IntN.{ℤ, pos, negsuc, natAbs, _+ℤ_, _-ℤ_, +ℤ-idl, +ℤ-invr, -ℤ-+ℤ-cancel}
 use Rattle.fixed.specs.Fixed.{clampI16, floorShift, isZero, isNegative, withSign}
 use Rattle.fixed.proofs.Sign.{abs-minus}
-use Rattle.progressive_encoder.specs.Encode.{srlDifference, cutDifference, notBelow}
+use Rattle.progressive_encoder.specs.Encode.{srlDifference, notBelow, cutNumber}
+use Rattle.progressive_encoder.specs.Inner.{ruleOf}
 
 -- ════ a magnitude with a sign ════
 
@@ -75,3 +76,8 @@ below-none (negsuc n) e = refl
 pub above-abs : (z : ℤ) → isNegative z ≡ false → natAbs z ≡ notBelow z
 above-abs (pos n) e = refl
 above-abs (negsuc n) e = absurd (true≢false e)
+
+-- the number that a rule gives, by whether it goes by floors
+pub number-rule : (symmetric bottom : Bool) (q : ℕ) (c p : ℤ) → cutNumber (symmetric && bottom) q c p ≡ ruleOf symmetric .number bottom q c p
+number-rule true bottom q c p = refl
+number-rule false bottom q c p = refl

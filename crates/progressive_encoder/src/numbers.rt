@@ -32,15 +32,10 @@ fn number_places(
         × (t .position ≤ 15) ⌝ }
     ensures { λ _. ⌜ Numbered (ruleOf symmetric) (bandStep t) (now (coefficients .entry)) (now («prev_coefficients» .entry)) (now (numbers .exit)) ⌝ }
 {
+    let floors = rule::by_floors(symmetric, t.bottom);
     let mut i: usize = 0;
     while i < coefficients.len() {
-        let m = rule::raw_number(
-            symmetric,
-            t.bottom,
-            coefficients[i],
-            prev_coefficients[i],
-            t.position,
-        );
+        let m = rule::raw_number(floors, coefficients[i], prev_coefficients[i], t.position);
         numbers[i] = low_bits(m, t.width);
         i += 1;
     }

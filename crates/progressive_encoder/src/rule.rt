@@ -1,6 +1,7 @@
 // What a place gives for both streams, by the writer's rule: `symmetric` picks the rule. The flag does not change in a loop, so that a loop pays
 // nothing for it.
 ghost use mathlib.Core.Path.{_≡_};
+ghost use mathlib.Core.Bool.{_&&_};
 ghost use Prim.Native.Nat.{_≤_};
 ghost use lib.IntN.{natAbs};
 ghost use Rattle.fixed.specs.Fixed.{isZero, withSign};
@@ -71,24 +72,20 @@ fn floors_apart(c: i16, p: i16, position: u8) -> u16
     fixed::distance(a, b)
 }
 
-// The number for the raw stream, of which the low bits are written. `floors` says that it goes by floors.
-fn number_by(floors: bool, c: i16, p: i16, position: u8) -> u16
+// Whether numbers for the raw stream go by floors: in the bottom, by the symmetric rule.
+pub fn by_floors(symmetric: bool, bottom: bool) -> bool
+    ensures { λ r. ⌜ r ≡ (symmetric && bottom) ⌝ }
+{
+    if symmetric { bottom } else { false }
+}
+
+// The number for the raw stream, of which the low bits are written: by floors, or by magnitudes.
+pub fn raw_number(floors: bool, c: i16, p: i16, position: u8) -> u16
     requires { ⌜ position ≤ 15 ⌝ }
     ensures { λ r. ⌜ r ≡ cutNumber floors position c p ⌝ }
 {
     if floors {
         return floors_apart(c, p, position);
-    }
-    raw_difference(c, p, position)
-}
-
-// The number for the raw stream, of which the low bits are written.
-pub fn raw_number(symmetric: bool, bottom: bool, c: i16, p: i16, position: u8) -> u16
-    requires { ⌜ position ≤ 15 ⌝ }
-    ensures { λ r. ⌜ r ≡ ruleOf symmetric .number bottom position c p ⌝ }
-{
-    if symmetric {
-        return number_by(bottom, c, p, position);
     }
     raw_difference(c, p, position)
 }
