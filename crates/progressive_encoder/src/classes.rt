@@ -1,22 +1,29 @@
 // What the places of a band give: a value 0 for the SRL stream (class 0), a number for the raw stream (1), or a value that is not 0 (2).
 ghost use mathlib.Core.Path.{_≡_};
+ghost use mathlib.Core.Bool.{cond};
 ghost use Prim.Native.Nat.{ℕ, _+_, _≤_, _<_};
 ghost use lib.ListN.{length, getD};
 ghost use Rattle.upgrade_steps.specs.Inner.{bandStep};
 ghost use Rattle.progressive_encoder.specs.Inner.{ruleOf, Part, classOf, Classed, sumFrom};
 use crate::rule;
 
+// By whether a place has an SRL value, and whether that is 0.
+fn class_by(given: bool, zero: bool) -> u8
+    ensures { λ r. ⌜ r ≡ cond given (cond zero 0 2) 1 ⌝ }
+{
+    if given {
+        return if zero { 0 } else { 2 };
+    }
+    1
+}
+
+// The class of a place. Both tests are made first: a branch before the second would keep the compiler from doing several places at a time.
 fn class_of(symmetric: bool, t: upgrade_steps::BandStep, c: i16, p: i16, s: i8) -> u8
     requires { ⌜ t .position ≤ 15 ⌝ }
     ensures { λ r. ⌜ r ≡ classOf (ruleOf symmetric) (bandStep t) c p s ⌝ }
 {
-    if !upgrade_steps::from_srl(t, s) {
-        return 1;
-    }
-    if rule::value_is_zero(symmetric, c, p, t.position) {
-        return 0;
-    }
-    2
+    let zero = rule::value_is_zero(symmetric, c, p, t.position);
+    class_by(upgrade_steps::from_srl(t, s), zero)
 }
 
 // The class of each place. There is no branch, so the compiler does several places at a time.
