@@ -35,7 +35,7 @@
  * Past a stream's end every bit is 0, so a stream that is cut is not refused.
  * Each call that reads a stream says in missing how many of the bits that it
  * read came from past the end; 0 means that the stream had all of them. What
- * tarjimp_encode_upgrade_pass writes misses none where it is read with the same
+ * either writer of a pass writes misses none where it is read with the same
  * signs and rows (proved). Some writers leave out zeros at the end of a stream:
  * those count as missing too, though nothing is lost with them. Nor does a cut
  * stream take long: the loop that counts a value's zeros turns at most once for
@@ -174,7 +174,9 @@ uint8_t tarjimp_encode_upgrade_pass(const int16_t *coefficients, size_t coeffici
  * sends -3 (the function above: 5), and 7 sends 3. coefficients may be the
  * picture itself, in every pass: the rule cuts it at curr. prev_coefficients
  * are what the reader has: the same cut at prev, outside LL3 with the bits below
- * prev of its magnitude 0, in LL3 by floor. Then 5 cannot happen.
+ * prev of its magnitude 0, in LL3 by floor, and signs outside LL3 are those of
+ * prev_coefficients. Then 5 cannot happen, and the reader comes to the picture
+ * cut at curr (proved: cut_round_trip in crates/progressive).
  * Refusals: 1, 2, 5, 7.
  */
 uint8_t tarjimp_encode_upgrade_pass_symmetric(const int16_t *coefficients, size_t coefficients_len,
