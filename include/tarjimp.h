@@ -5,7 +5,7 @@
  * Link with libtarjimp.a, which `rt staticlib tarjimp` writes to
  * target/staticlib/. It needs no other library, keeps no state of its own,
  * allocates nothing, and any number of threads may call it. A call takes up to
- * 1 KB of stack; tarjimp_band_of_place and the two writers of a pass 5,
+ * 1 KB of stack; tarjimp_band_of_place 5, the two writers of a pass 57,
  * tarjimp_decode_upgrade_pass and tarjimp_tile_decode_upgrade 12,
  * tarjimp_tile_reconstruct_to_rgba 36 (measured on x86-64).
  *
