@@ -187,10 +187,6 @@ module _ (rule : Rule) {X : Type 0} (R : Lists → X → X → Type 0) (o : Plac
     bound = λ n b. on x n (n + length cs) (omega arith) b;
   }
 
-  -- a walk that can go over all of them has room for one behind the first i
-  pub room-for-one : (i : ℕ) → i < length cs → (x y : X) → Before B x (length cs) → GoesOver R B (bandLists rule t i cs ps ss) i x y → Before B y 1
-  room-for-one i k x y p g = record { done = p .done + i; bound = g .bound (p .done) (p .bound); left = omega (arith, p .left) }
-
 -- ════ from band to band ════
 
 -- the places of a band in a slice

@@ -35,7 +35,7 @@ srlDifference q c p = clampI16 (floorShift c q -ℤ floorShift p q)
 abbrev pub rawDifference : ℕ → ℤ → ℤ → ℕ
 rawDifference q c p = natAbs c / 2 ^ q - natAbs p / 2 ^ q
 
--- "by floor": in the bottom as elsewhere
+-- "the source's, by floor": in the bottom as elsewhere
 abbrev pub floorRule : Rule
 floorRule = record { value = srlDifference; number = λ bottom. rawDifference }
 
@@ -59,7 +59,7 @@ abbrev pub cutNumber : Bool → ℕ → ℤ → ℤ → ℕ
 cutNumber true q c p = floorsApart q c p
 cutNumber false q c p = rawDifference q c p
 
--- "symmetric": a negative coefficient as its positive twin
+-- "it writes a negative coefficient as its positive twin"
 abbrev pub symmetricRule : Rule
 symmetricRule = record { value = cutDifference; number = cutNumber }
 
