@@ -2,7 +2,7 @@
 use mathlib.Core.Path.{_≡_, refl, ap, sym, _∙_}
 use mathlib.Core.Bool.{Bool, true, false, cond}
 use mathlib.Core.List.{List, [], _∷_, _++_, append-assoc, append-nil}
-use Prim.Native.Nat.{ℕ, zero, suc, _+_, _*_, _/_, _%_, _^_, _≤_, _<_}
+use Prim.Native.Nat.{ℕ, zero, suc, _+_, _*_, _/_, _%_, _^_, _<_}
 use native.Mathlib.Nat.{pow-suc, add-suc, add-zero, mul-assoc, mod-eq-of-lt}
 use native.Mathlib.Numerals.{add-one}
 use native.Mathlib.Omega.{arith}
@@ -34,22 +34,10 @@ step-sound k b h = by (eqb (k .«bit_count») 7) refl
     by true q = (omega arith, omega arith)
     by false q = let n : (k .«bit_count» ≡ 7 → ⊥) = eqb-false _ _ q in (omega arith, byte-fits k b h)
 
-step-at : (k : BitWriter) (b e : Bool) → (k .at ≤ stepBy k b e .at) × (stepBy k b e .at ≤ k .at + 1)
-step-at k b true = (omega arith, omega arith)
-step-at k b false = (omega arith, omega arith)
-
 -- some bits leave fewer than 8 bits waiting, as a number
 pub after-sound : (k : BitWriter) (bs : List Bool) → Sound k → Sound (after k bs)
 after-sound k [] h = h
 after-sound k (b ∷ bs) h = after-sound (afterBit k b) bs (step-sound k b h)
-
--- the bytes are counted up, and there are no more of them than bits
-pub after-at : (k : BitWriter) (bs : List Bool) → (k .at ≤ after k bs .at) × (after k bs .at ≤ k .at + length bs)
-after-at k [] = (omega arith, omega arith)
-after-at k (b ∷ bs) =
-    let s = step-at k b (eqb (k .«bit_count») 7) in
-    let a = after-at (afterBit k b) bs in
-    (omega (arith, s .0, a .0), omega (arith, s .1, a .1))
 
 -- ════ bits in a row ════
 

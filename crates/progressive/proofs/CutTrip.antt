@@ -2,20 +2,20 @@
 use mathlib.Core.Path.{_≡_, refl, sym, ap, ap₂, _∙_, subst, subst₂}
 use mathlib.Core.Bool.{Bool, true, false, not, true≢false}
 use mathlib.Core.List.{List, [], _∷_, _++_, map}
-use Prim.Native.Nat.{ℕ, zero, suc, _+_, _-_, _*_, _/_, _%_, _^_, _≤_, _<_}
+use Prim.Native.Nat.{ℕ, zero, suc, _+_, _-_, _*_, _/_, _^_, _≤_, _<_}
 use native.Mathlib.Nat.{zero-div, zero-mul, suc-mul, add-zero, mul-assoc, mul-comm, mul-pos, mul-le-mul-right}
 use native.Mathlib.Omega.{arith}
 use native.Mathlib.Decide.{decLt}
 use borrow.Author.Tests.{le-ltb, le-leb}
 use lib.Arith.{digits-div}
-use lib.IntN.{ℤ, pos, negsuc, negℤ, natAbs, _+ℤ_, _-ℤ_, _*ℤ_, +ℤ-assoc, +ℤ-comm, +ℤ-idr, +ℤ-sucℤ, sucℤ-*ℤ, +ℤ-negℤ-cancel, -ℤ-+ℤ-cancel, negℤ-+ℤ, zero-*ℤ}
+use lib.IntN.{ℤ, pos, negsuc, negℤ, natAbs, _+ℤ_, _-ℤ_, _*ℤ_, +ℤ-assoc, +ℤ-comm, +ℤ-idr, +ℤ-sucℤ, sucℤ-*ℤ, +ℤ-negℤ-cancel, zero-*ℤ}
 use lib.ListN.{length, getD, replicate, length-append, length-replicate, List·getD-eq-default}
 use lib.Pow.{pow-pos, pow-add, shr-shr, shl-shr, shr-mono}
 use lib.Signed.{mag}
 use Rattle.fixed.specs.Fixed.{clampI16, floorShift, isZero, isOne, isNegative, signOf, withSign, addScaled}
 use Rattle.fixed.specs.Cut.{cutLevel, towardZero, downward}
 use Rattle.fixed.proofs.Clamp.{clamp-same}
-use Rattle.fixed.proofs.Cuts.{cut-rest, rest-small, cut-below, abs-toward, toward-range}
+use Rattle.fixed.proofs.Cuts.{cut-below, cut-clean, down-rest, abs-toward, toward-range}
 use Rattle.fixed.proofs.Sign.{zero-is, abs-minus}
 use Rattle.bands.specs.Bands.{positionOf, bandsOf}
 use Rattle.bands.specs.Positions.{rowInDomain}
@@ -30,7 +30,7 @@ use Rattle.progressive_encoder.specs.Encode.{symmetricRule, cutDifference, cutN
 use Rattle.progressive.specs.CutTrip.{before, cutBefore, signsBefore, cutBehind, signsBehind, Aimed, aimed, Brings, CutAsked, CutCalls, extremes, CutRoundTrip}
 use Rattle.progressive.proofs.AnyRule.{Fitting, Fittings, fitting, all-sent, comesTo, signTo, Comes, comes, come-back, room-decides, calls-come}
 use Rattle.progressive.proofs.Regained.{from-zero, down-range, raw-cut, sign-cut}
-use Rattle.progressive.proofs.OwnCuts.{cut-clean, number-small, sign-none}
+use Rattle.progressive.proofs.OwnCuts.{number-small, sign-none}
 
 -- ════ integers ════
 
@@ -183,27 +183,6 @@ down-split q w c =
     ap₂ (λ (z : ℤ) (k : ℕ). z *ℤ pos k) (floor-twice q w c) (pow-add 2 q w ∙ mul-comm (2 ^ q) (2 ^ w))
     ∙ sym (times-twice (floorShift (floorShift c q) w) (2 ^ w) (2 ^ q))
 
--- a negative number and what it is less by
-neg-add : (m k : ℕ) → negℤ (pos (m + k)) +ℤ pos k ≡ negℤ (pos m)
-neg-add m k = ap (λ (z : ℤ). z +ℤ pos k) (negℤ-+ℤ (pos m) (pos k)) ∙ -ℤ-+ℤ-cancel (negℤ (pos m)) (pos k)
-
--- a number lies less than 2^w above its cut
-record Rest (w : ℕ) (v : ℤ) : Type 0 where
-  rest : ℕ
-  less : rest < 2 ^ w
-  is : v ≡ downward w v +ℤ pos rest
-
-rest-of : (w : ℕ) (v : ℤ) → Rest w v
-rest-of w (pos n) = record { rest = n % 2 ^ w; less = rest-small w n; is = ap pos (cut-rest w n) }
-rest-of w (negsuc n) =
-    let r = 2 ^ w - 1 - n % 2 ^ w in
-    let e : suc (n / 2 ^ w) * 2 ^ w ≡ suc n + r = omega (arith, suc-mul (n / 2 ^ w) (2 ^ w), cut-rest w n, rest-small w n) in
-    record {
-      rest = r;
-      less = omega (arith, pow-pos w);
-      is = sym (ap (λ (m : ℕ). negℤ (pos m) +ℤ pos r) e ∙ neg-add (suc n) r);
-    }
-
 -- a sum less its first part
 add-minus : (x d : ℤ) → x +ℤ d -ℤ x ≡ d
 add-minus x d = ap (λ (z : ℤ). z -ℤ x) (+ℤ-comm x d) ∙ +ℤ-negℤ-cancel d x
@@ -214,7 +193,7 @@ unfolding addScaled
 bottom-goes q w c s h l =
     let v = floorShift c q in
     let x = downward w v in
-    let r = rest-of w v in
+    let r = down-rest w v in
     let d = r .rest in
     let from : downward (q + w) c ≡ x *ℤ pos (2 ^ q) = down-split q w c in
     let apart : v -ℤ floorShift (downward (q + w) c) q ≡ pos d =

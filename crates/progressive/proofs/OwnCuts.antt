@@ -4,15 +4,15 @@ use mathlib.Core.Logic.{_≢_}
 use mathlib.Core.Bool.{Bool, true, false, cond, _&&_, true≢false}
 use mathlib.Core.List.{List}
 use Prim.Native.Nat.{ℕ, zero, suc, _+_, _-_, _*_, _/_, _^_, _≤_, _<_}
-use native.Mathlib.Nat.{zero-div, div-lt-iff-lt-mul, mul-assoc, mul-comm}
+use native.Mathlib.Nat.{zero-div, div-lt-iff-lt-mul}
 use native.Mathlib.Omega.{arith}
 use lib.Dec.{ltb}
 use lib.IntN.{ℤ, pos, negsuc, natAbs, _-ℤ_, +ℤ-idr}
 use lib.ListN.{length}
-use lib.Pow.{pow-pos, pow-add, shr-shr, shl-shr}
+use lib.Pow.{pow-pos}
 use Rattle.fixed.specs.Fixed.{clampI16, floorShift, isZero, signOf}
 use Rattle.fixed.specs.Cut.{cutLevel, towardZero}
-use Rattle.fixed.proofs.Cuts.{cut-rest, rest-small, abs-toward}
+use Rattle.fixed.proofs.Cuts.{cut-rest, rest-small, cut-steps, abs-toward}
 use Rattle.fixed.proofs.Sign.{zero-is}
 use Rattle.bands.specs.Positions.{rowInDomain}
 use Rattle.upgrade_steps.specs.Steps.{Step, source, sourceOf, steps}
@@ -23,23 +23,7 @@ use Rattle.progressive.proofs.AnyRule.{Fitting, Fittings, fitting, all-
 
 -- ════ a magnitude ════
 
--- a cut at 2^(q + w) is a cut at 2^w, in steps of 2^q
-cut-split : (q w n : ℕ) → cutLevel (q + w) n ≡ cutLevel w (n / 2 ^ q) * 2 ^ q
-cut-split q w n =
-    let k = n / 2 ^ (q + w) in
-    ap (λ (m : ℕ). k * m) (pow-add 2 q w ∙ mul-comm (2 ^ q) (2 ^ w))
-    ∙ sym (mul-assoc k (2 ^ w) (2 ^ q))
-    ∙ ap (λ (m : ℕ). m * 2 ^ w * 2 ^ q) (sym (shr-shr n q w))
-
--- so many of them
-cut-steps : (q w n : ℕ) → cutLevel (q + w) n / 2 ^ q ≡ cutLevel w (n / 2 ^ q)
-cut-steps q w n = ap (λ (m : ℕ). m / 2 ^ q) (cut-split q w n) ∙ shl-shr (cutLevel w (n / 2 ^ q)) q
-
--- with nothing left to cut at 2^q
-pub cut-clean : (q w n : ℕ) → cutLevel q (cutLevel (q + w) n) ≡ cutLevel (q + w) n
-cut-clean q w n = ap (λ (m : ℕ). m * 2 ^ q) (cut-steps q w n) ∙ sym (cut-split q w n)
-
--- what it takes away is less than 2^w of them
+-- what a cut takes away is less than 2^w steps of 2^q
 taken-small : (q w n : ℕ) → n / 2 ^ q - cutLevel (q + w) n / 2 ^ q < 2 ^ w
 taken-small q w n = omega (arith, cut-steps q w n, cut-rest w (n / 2 ^ q), rest-small w (n / 2 ^ q))
 
