@@ -10,7 +10,7 @@ use lib.Pow.{pow-pos}
 use lib.Signed.{mag}
 use Rattle.fixed.specs.Fixed.{signOf}
 use Rattle.fixed.proofs.Sign.{abs-minus}
-use Rattle.fitting.specs.Place.{Place, place, Multiple, Fits}
+use Rattle.fitting.specs.Place.{Place, place, Multiple, Fits, levelOf}
 use Rattle.fitting.proofs.Level.{multiple-down, multiple-add, multiple-diff, multiple-times}
 
 -- ════ families and levels ════
@@ -52,12 +52,6 @@ sideOf (negsuc n) = minus
 abbrev pub familyOf : Bool → Place → Family
 familyOf true x = floor (x .sign)
 familyOf false x = sideOf (x .coefficient)
-
--- the level of a coefficient: its magnitude, and in the bottom how far it lies above -32768
-abbrev pub levelOf : Bool → ℤ → ℕ
-levelOf true (pos n) = n + 32768
-levelOf true (negsuc n) = 32767 - n
-levelOf false c = natAbs c
 
 -- ════ integers ════
 

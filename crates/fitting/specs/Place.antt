@@ -2,7 +2,7 @@
 -- test that computes.
 use mathlib.Core.Path.{_≡_}
 use mathlib.Core.Bool.{Bool, true, false, _&&_}
-use Prim.Native.Nat.{ℕ, _*_, _%_, _^_, _≤_, _<_}
+use Prim.Native.Nat.{ℕ, _+_, _-_, _*_, _%_, _^_, _≤_, _<_}
 use lib.Dec.{eqb, leb, ltb}
 use lib.IntN.{ℤ, pos, negsuc, natAbs}
 use lib.Signed.{mag}
@@ -38,6 +38,14 @@ pub record Fits (bottom : Bool) (p : ℕ) (x : Place) : Type 0 where
   -- "every coefficient, in the bottom too, is a multiple of 2^(position of its band)"
   pub multiple : Multiple (2 ^ p) (natAbs (x .coefficient))
   pub own : OwnSign bottom x
+
+-- ════ levels ════
+
+-- the level of a coefficient, which passes only raise: "in magnitude, and in the bottom in value", there how far it lies above -32768
+abbrev pub levelOf : Bool → ℤ → ℕ
+levelOf true (pos n) = n + 32768
+levelOf true (negsuc n) = 32767 - n
+levelOf false c = natAbs c
 
 -- ════ as a test ════
 

@@ -1,7 +1,7 @@
 -- The round trip by the symmetric rule over a target's own cut: one place outside the bottom, one of the bottom, then all places, then the calls.
 use mathlib.Core.Path.{_≡_, refl, sym, ap, ap₂, _∙_, subst, subst₂}
 use mathlib.Core.Bool.{Bool, true, false, not, true≢false}
-use mathlib.Core.List.{List, [], _∷_, _++_, map}
+use mathlib.Core.List.{List, [], _∷_, _++_, map, append-nil}
 use Prim.Native.Nat.{ℕ, zero, suc, _+_, _-_, _*_, _/_, _^_, _≤_, _<_}
 use native.Mathlib.Nat.{zero-div, zero-mul, suc-mul, add-zero, mul-assoc, mul-comm, mul-pos, mul-le-mul-right}
 use native.Mathlib.Omega.{arith}
@@ -27,7 +27,7 @@ use Rattle.upgrade_steps.specs.Cut.{cutAt, cutSignAt, cutAll, cutSignsAll, cutC
 use Rattle.upgrade_steps.proofs.CutLists.{cut-length, cut-signs-length, cut-mapped, cut-signs-mapped}
 use Rattle.progressive_decoder.specs.Upgrade.{srlCoefficient, srlSign}
 use Rattle.progressive_encoder.specs.Encode.{symmetricRule, cutDifference, cutNumber, notBelow, srlGiven, srlDifferences, rawGiven, rawDifferences}
-use Rattle.progressive.specs.CutTrip.{before, cutBefore, signsBefore, cutBehind, signsBehind, Aimed, aimed, Brings, CutAsked, CutCalls, extremes, CutRoundTrip}
+use Rattle.progressive.specs.CutTrip.{before, cutBefore, signsBefore, cutBehind, signsBehind, Aimed, aimed, Brings, Alike, CutAsked, CutCalls, extremes, CutRoundTrip}
 use Rattle.progressive.proofs.AnyRule.{Fitting, Fittings, fitting, all-sent, comesTo, signTo, Comes, comes, come-back, room-decides, calls-come}
 use Rattle.progressive.proofs.Regained.{from-zero, down-range, raw-cut, sign-cut}
 use Rattle.progressive.proofs.OwnCuts.{number-small, sign-none}
@@ -300,8 +300,12 @@ module _ (xs ys : List ℤ) where
 
 -- ════ a component ════
 
+-- nothing past the places
+nils : (P : List ℤ → List ℤ → Type 0) (p s : List ℤ) → P (p ++ []) (s ++ []) → P p s
+nils P p s x = subst₂ P (append-nil p) (append-nil s) x
+
 -- a row in the domain has no position above 15, also past its end
-row-low : (row : List ℕ) → rowInDomain row ≡ true → (b : ℕ) → positionOf row b ≤ 15
+pub row-low : (row : List ℕ) → rowInDomain row ≡ true → (b : ℕ) → positionOf row b ≤ 15
 row-low row h b = by (decLt b (length row))
   where
     by : Dec (b < length row) → getD row b 0 ≤ 15
@@ -369,18 +373,39 @@ module _ {prev curr : List ℕ} {cs ss : List ℤ} (a : CutAsked prev curr cs ss
         signs = back .1;
       }
 
-  -- and by the component
+  -- what holds of the steps' cuts holds of the component's
+  at-rows : (P : (ps ss ps′ ss′ : List ℤ) → Type 0)
+      → P (cutBefore (steps e prev curr) cs) (signsBefore (steps e prev curr) cs ss) (cutBehind (steps e prev curr) cs) (signsBehind (steps e prev curr) cs ss)
+      → P (cutComponent e prev cs) (cutComponentSigns e prev cs ss) (cutComponent e curr cs) (cutComponentSigns e curr cs ss)
+  at-rows P x =
+      let ts = steps e prev curr in
+      subst₂ (λ (p s : List ℤ). P p s (cutComponent e curr cs) (cutComponentSigns e curr cs ss)) cut-before signs-before
+      (subst₂ (λ (p s : List ℤ). P (cutBefore ts cs) (signsBefore ts cs ss) p s) cut-behind signs-behind x)
+
   component-calls : (xs ys : List ℤ) (srlOut rawOut : List ℕ)
       → CutCalls e prev curr cs srlOut rawOut
       (cutComponent e prev cs ++ xs) (cutComponentSigns e prev cs ss ++ ys)
       (cutComponent e curr cs ++ xs) (cutComponentSigns e curr cs ss ++ ys)
   component-calls xs ys srlOut rawOut =
+      at-rows (λ p s p′ s′. CutCalls e prev curr cs srlOut rawOut (p ++ xs) (s ++ ys) (p′ ++ xs) (s′ ++ ys)) (steps-calls xs ys srlOut rawOut)
+
+  -- a pass from a component's cut at a row to its cut at the next one
+  pub component-brings : Brings (steps e prev curr) cs (cutComponent e prev cs) (cutComponentSigns e prev cs ss) (cutComponent e curr cs) (cutComponentSigns e curr cs ss)
+  component-brings =
       let ts = steps e prev curr in
-      let ps′ = cutComponent e curr cs ++ xs in
-      let ss′ = cutComponentSigns e curr cs ss ++ ys in
-      subst₂ (λ (p s : List ℤ). CutCalls e prev curr cs srlOut rawOut (p ++ xs) (s ++ ys) ps′ ss′) cut-before signs-before
-      (subst₂ (λ (p s : List ℤ). CutCalls e prev curr cs srlOut rawOut (cutBefore ts cs ++ xs) (signsBefore ts cs ss ++ ys) (p ++ xs) (s ++ ys)) cut-behind signs-behind
-      (steps-calls xs ys srlOut rawOut))
+      let ps = cutBefore ts cs in
+      let sg = signsBefore ts cs ss in
+      let ps′ = cutBehind ts cs in
+      let sg′ = signsBehind ts cs ss in
+      at-rows (Brings ts cs)
+      (nils (λ p s. Brings ts cs p s ps′ sg′) ps sg (nils (Brings ts cs (ps ++ []) (sg ++ [])) ps′ sg′ (all-brought [] [] aimed-steps)))
+
+  -- gives the same to both streams from the target and from its next cut
+  pub component-alike : Alike (steps e prev curr) cs (cutComponent e curr cs) (cutComponent e prev cs) (cutComponentSigns e prev cs ss)
+  component-alike =
+      let ts = steps e prev curr in
+      at-rows (λ p s p′ s′. Alike ts cs p′ p s)
+      (nils (Alike ts cs (cutBehind ts cs)) (cutBefore ts cs) (signsBefore ts cs ss) (record { values = values-alike [] [] aimed-steps; numbers = numbers-alike [] [] aimed-steps }))
 
 -- ════ the law ════
 

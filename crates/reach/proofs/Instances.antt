@@ -169,15 +169,17 @@ darker-place false = record {
   less = omega arith;
 }
 
+-- what each place has by its band
+pub place-at : {A : Type 0} (e : Bool) (f : ℕ → A) (d : A) (i : ℕ) → i < length (bandsOf e) → getD (perPlace e f) i d ≡ f (getD (bandsOf e) i 0)
+place-at {A} e f d i h = ap (λ (l : List A). getD l i d) (place-map e f (λ b. b)) ∙ getD-map f (bandsOf e) i 0 d h
+
 -- the coefficients of a component then
 deep : Bool → List ℤ
 deep e = perPlace e (λ b. cond (isBottom b) (negsuc 1) (negsuc 13))
 
 deep-at : (e : Bool) (i : ℕ) → i < length (bandsOf e) → getD (deep e) i (pos 0) ≡ cond (isBottom (getD (bandsOf e) i 0)) (negsuc 1) (negsuc 13)
 unfolding deep
-deep-at e i h =
-    ap (λ (l : List ℤ). getD l i (pos 0)) (place-map e (λ b. cond (isBottom b) (negsuc 1) (negsuc 13)) (λ b. b))
-    ∙ getD-map (λ b. cond (isBottom b) (negsuc 1) (negsuc 13)) (bandsOf e) i 0 (pos 0) h
+deep-at e i h = place-at e (λ b. cond (isBottom b) (negsuc 1) (negsuc 13)) (pos 0) i h
 
 component-darker : (e : Bool) → ComponentGains (bandsOf e) (replicate 10 3) (replicate 10 1) (replicate 4096 (negsuc 7)) (replicate 4096 (negsuc 0)) (deep e) (replicate 4096 (negsuc 0))
 unfolding deep

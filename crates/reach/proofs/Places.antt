@@ -15,9 +15,9 @@ use Rattle.fixed.proofs.Cuts.{cut-rest, rest-small}
 use Rattle.fixed.proofs.Sign.{abs-minus}
 use Rattle.fixed.specs.Fixed.{clampI16, isZero, isOne, signOf, addScaled, subScaled}
 use Rattle.progressive_decoder.specs.Upgrade.{srlCoefficient, srlSign, rawCoefficient}
-use Rattle.fitting.specs.Place.{Place, Multiple, Fits}
+use Rattle.fitting.specs.Place.{Place, Multiple, Fits, levelOf}
 use Rattle.fitting.proofs.Level.{multiple-down, multiple-add, multiple-diff, multiple-times, add-small, small-add, room, cut-multiple}
-use Rattle.fitting.proofs.Families.{own, Family, plus, minus, floor, bottom, atLevel, top, sideOf, levelOf, mag-neg, floor-range, more-floor, level-fits, place-path, own-is, floor-is, floor-level, level-below, level-multiple, Levelled, levelled}
+use Rattle.fitting.proofs.Families.{own, Family, plus, minus, floor, bottom, atLevel, top, sideOf, mag-neg, floor-range, more-floor, level-fits, place-path, own-is, floor-is, floor-level, level-below, level-multiple, Levelled, levelled}
 use Rattle.reach.specs.Place.{Kept, More, Gains}
 
 -- ---- integers

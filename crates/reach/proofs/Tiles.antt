@@ -40,7 +40,7 @@ row-at k b l h = getD-take 10 (drop (k * 10) l) b 0 h ∙ getD-drop (k * 10) l b
 row-past : (k b : ℕ) (l : List ℕ) → 10 ≤ b → getD (rowOf k l) b 0 ≡ 0
 row-past k b l h = List·getD-eq-default (rowOf k l) 0 {n = b} (omega (arith, length-take 10 (drop (k * 10) l)))
 
-lower-row : (p q : List ℕ) → Lower p q → (k : ℕ) → k < 3 → Below (rowOf k p) (rowOf k q)
+pub lower-row : (p q : List ℕ) → Lower p q → (k : ℕ) → k < 3 → Below (rowOf k p) (rowOf k q)
 lower-row p q l k h b = by (decLt b 10)
   where
     by : Dec (b < 10) → positionOf (rowOf k q) b ≤ positionOf (rowOf k p) b
@@ -68,11 +68,11 @@ pub joined-path : {A : Type 0} (f g : ℕ → List A) → ((k : ℕ) → k < 3 �
 joined-path {A} f g e = ap₂ (λ (x y : List A). x ++ y) (e 0 (omega arith)) (ap₂ (λ (x y : List A). x ++ y) (e 1 (omega arith)) (e 2 (omega arith)))
 
 -- a list by its components
-by-components : {A : Type 0} (f : ℕ → List A) (l : List A) → length l ≡ 12288 → ((k : ℕ) → k < 3 → f k ≡ component k l) → joined f ≡ l
+pub by-components : {A : Type 0} (f : ℕ → List A) (l : List A) → length l ≡ 12288 → ((k : ℕ) → k < 3 → f k ≡ component k l) → joined f ≡ l
 by-components f l h e = joined-path f (λ k. component k l) e ∙ joined-components l h
 
 -- a picture by its coefficients and signs, where the numbers are right in both
-picture-path : (e : Bool) {x y : Picture} → x .«zero_signs» ≡ zeroSigns e (x .sign) → y .«zero_signs» ≡ zeroSigns e (y .sign) → x .coefficients ≡ y .coefficients → x .sign ≡ y .sign → x ≡ y
+pub picture-path : (e : Bool) {x y : Picture} → x .«zero_signs» ≡ zeroSigns e (x .sign) → y .«zero_signs» ≡ zeroSigns e (y .sign) → x .coefficients ≡ y .coefficients → x .sign ≡ y .sign → x ≡ y
 picture-path e n m c s = λ i. record { coefficients = c i; sign = s i; «zero_signs» = (n ∙ ap (zeroSigns e) s ∙ sym m) i }
 
 -- and cannot change

@@ -1,11 +1,11 @@
--- Lists of cut coefficients and signs: known ones, how many there are, and by things that are made of other things. Assumes nothing.
+-- Lists of cut coefficients and signs: known ones, how many there are, place by place, and by things that are made of other things. Assumes nothing.
 use mathlib.Core.Path.{_≡_, refl, ap₂}
 use mathlib.Core.Bool.{Bool, true, false}
 use mathlib.Core.List.{List, [], _∷_, map}
-use Prim.Native.Nat.{ℕ, _≤_}
+use Prim.Native.Nat.{ℕ, zero, suc, _≤_, _<_}
 use native.Mathlib.Omega.{arith}
 use lib.IntN.{ℤ, pos, negsuc}
-use lib.ListN.{length, replicate}
+use lib.ListN.{length, getD, replicate}
 use Rattle.fixed.specs.Fixed.{signOf}
 use Rattle.upgrade_steps.specs.Cut.{cutAt, cutSignAt, cutAll, cutSignsAll}
 
@@ -43,6 +43,26 @@ module _ {B : Type 0} (bottom : B → Bool) (at : B → ℕ) where
   cut-signs-length (b ∷ bs) [] ss h k = absurd (omega arith)
   cut-signs-length (b ∷ bs) (c ∷ cs) [] h k = absurd (omega arith)
   cut-signs-length (b ∷ bs) (c ∷ cs) (s ∷ ss) h k = omega (arith, cut-signs-length bs cs ss (omega arith) (omega arith))
+
+-- ════ place by place ════
+
+module _ {B : Type 0} (bottom : B → Bool) (at : B → ℕ) (d : B) where
+  pub cut-at : (bs : List B) (cs : List ℤ) (i : ℕ) → i < length bs → length bs ≤ length cs
+      → getD (cutAll bottom at bs cs) i (pos 0) ≡ cutAt (bottom (getD bs i d)) (at (getD bs i d)) (getD cs i (pos 0))
+  unfolding cutAll
+  cut-at [] cs i h k = absurd (omega arith)
+  cut-at (b ∷ bs) [] i h k = absurd (omega arith)
+  cut-at (b ∷ bs) (c ∷ cs) zero h k = refl
+  cut-at (b ∷ bs) (c ∷ cs) (suc i) h k = cut-at bs cs i (omega arith) (omega arith)
+
+  pub cut-sign-at : (bs : List B) (cs ss : List ℤ) (i : ℕ) → i < length bs → length bs ≤ length cs → length bs ≤ length ss
+      → getD (cutSignsAll bottom at bs cs ss) i (pos 0) ≡ cutSignAt (bottom (getD bs i d)) (at (getD bs i d)) (getD cs i (pos 0)) (getD ss i (pos 0))
+  unfolding cutSignsAll
+  cut-sign-at [] cs ss i h k l = absurd (omega arith)
+  cut-sign-at (b ∷ bs) [] ss i h k l = absurd (omega arith)
+  cut-sign-at (b ∷ bs) (c ∷ cs) [] i h k l = absurd (omega arith)
+  cut-sign-at (b ∷ bs) (c ∷ cs) (s ∷ ss) zero h k l = refl
+  cut-sign-at (b ∷ bs) (c ∷ cs) (s ∷ ss) (suc i) h k l = cut-sign-at bs cs ss i (omega arith) (omega arith) (omega arith)
 
 -- ════ things made of other things: where these have the same positions, the cut is the same ════
 
