@@ -93,6 +93,17 @@ enum tarjimp_refusal {
 #define TARJIMP_NO_BAND 10
 
 /*
+ * Room for a pass: with outputs of at least so many bytes neither writer of a
+ * pass is refused by 7, whatever its other arguments are (proved: room_suffices
+ * in crates/progressive). drop is the most by which the pass lowers a position,
+ * from prev to curr: 0 to 15. The two constants are for any pass.
+ */
+#define TARJIMP_SRL_BYTES(drop) (((size_t)504 << (drop)) + 2)
+#define TARJIMP_RAW_BYTES(drop) ((size_t)512 * (drop))
+#define TARJIMP_SRL_BYTES_MAX 16515074
+#define TARJIMP_RAW_BYTES_MAX 7680
+
+/*
  * SRL streams. A state is handed in and back as numbers, so that a stream may
  * be read or written in any number of calls. A number that does not fit its
  * field, as a kp of 300 or a flag of 2, is an impossible state: 8. Fresh states:
@@ -150,7 +161,7 @@ uint8_t tarjimp_decode_upgrade_pass(const uint8_t *srl, size_t srl_len,
  * Writes an upgrade pass over one component: from prev_coefficients, with
  * their signs, to coefficients, both shifted right with floor at a sign 0.
  * written has the counts of bytes of the SRL stream and of the raw stream.
- * Refusals: 1, 2, 5, 7.
+ * Refusals: 1, 2, 5, 7 (not with the room above).
  * 5 cannot happen where the coefficients are multiples of 2^position in curr,
  * prev_coefficients are the same without the bits below prev of their
  * magnitudes, and signs are those of prev_coefficients, outside LL3 (proved:

@@ -120,7 +120,7 @@ static void sharpen(void)
 {
     static struct tile tile, cut;
     static int16_t target[4096];
-    static uint8_t srl[8192], raw[8192];
+    static uint8_t srl[TARJIMP_SRL_BYTES(4)], raw[TARJIMP_RAW_BYTES(4)]; /* room enough: positions fall from 5 to 1 */
     uint8_t rows[30];
     size_t written[2];
 

@@ -25,15 +25,47 @@ pub const SIGN_POSITIVE: i8 = 1;
 /// The sign of a negative coefficient.
 pub const SIGN_NEGATIVE: i8 = -1;
 
-/// No raw stream of a pass is longer: fifteen bits for each coefficient.
-const MOST_RAW_BYTES: usize = COEFFICIENTS_PER_COMPONENT * 15 / 8;
+/// No SRL stream of a pass has more bytes: [`srl_bytes_for`] a drop of 15, the greatest.
+pub const SRL_BYTES_MAX: usize = srl_bytes_for(15);
 
-/// No SRL stream of a pass is longer: a sign, the greatest magnitude and a run for each coefficient, and
-/// the end.
-const MOST_SRL_BYTES: usize = COEFFICIENTS_PER_COMPONENT * (12 + 32767) / 8 + 4;
+/// No raw stream of a pass has more bytes: [`raw_bytes_for`] a drop of 15, the greatest.
+pub const RAW_BYTES_MAX: usize = raw_bytes_for(15);
 
 /// The room that an SRL stream gets at first. Few are longer.
 const USUAL_SRL_BYTES: usize = 8192;
+
+/// The bytes that the SRL stream of a pass has at most, by either writer. `drop` is the most by which the
+/// pass lowers a position; above 15 it counts as 15, since such positions are refused. Proved:
+/// `room_suffices` of the library's crate `progressive`.
+///
+/// ```
+/// use tarjimp::progressive::{SRL_BYTES_MAX, srl_bytes_for};
+///
+/// assert_eq!(srl_bytes_for(1), 1010);
+/// assert_eq!(SRL_BYTES_MAX, 16_515_074);
+/// ```
+pub const fn srl_bytes_for(drop: u8) -> usize {
+    // 2^drop bits for each of at most 4,032 values, and two bytes more.
+    (504 << at_most_15(drop)) + 2
+}
+
+/// The bytes that the raw stream of a pass has at most, by either writer, as [`srl_bytes_for`].
+///
+/// ```
+/// use tarjimp::progressive::{RAW_BYTES_MAX, raw_bytes_for};
+///
+/// assert_eq!(raw_bytes_for(1), 512);
+/// assert_eq!(RAW_BYTES_MAX, 7680);
+/// ```
+pub const fn raw_bytes_for(drop: u8) -> usize {
+    // A bit of each place for each position.
+    COEFFICIENTS_PER_COMPONENT / 8 * at_most_15(drop)
+}
+
+/// The drop of a pass that is not refused for its positions.
+const fn at_most_15(drop: u8) -> usize {
+    if drop < 15 { drop as usize } else { 15 }
+}
 
 /// How many of the bits that a pass read came from past the end of its streams. Both are 0 where the streams
 /// had all of them.
@@ -250,7 +282,7 @@ fn write_pass(
     use_reduce_extrapolate: bool,
 ) -> Result<(Vec<u8>, Vec<u8>), SrlError> {
     let mut srl_data = vec![0; USUAL_SRL_BYTES];
-    let mut raw_data = vec![0; MOST_RAW_BYTES];
+    let mut raw_data = vec![0; RAW_BYTES_MAX];
     let mut written = [0; 2];
     loop {
         let number = ffi::encode_upgrade_pass(
@@ -286,8 +318,8 @@ fn write_pass(
                 return Err(refusal.unwrap_or_else(|| defect(function_of(rule), 5)));
             }
             // The refusal altered nothing, so the call is made again with more room.
-            7 if srl_data.len() < MOST_SRL_BYTES => {
-                srl_data.resize((8 * srl_data.len()).min(MOST_SRL_BYTES), 0);
+            7 if srl_data.len() < SRL_BYTES_MAX => {
+                srl_data.resize((8 * srl_data.len()).min(SRL_BYTES_MAX), 0);
             }
             number => defect(function_of(rule), number),
         }
@@ -757,6 +789,69 @@ mod tests {
         );
     }
 
+    /// What a writer answers with the room for a drop, from position `drop` to 0, and less than that.
+    fn answered(rule: Rule, drop: u8, layout: bool, target: &[i16], sign: i8, less: usize) -> u8 {
+        let mut srl = vec![0; srl_bytes_for(drop) - less];
+        let mut raw = vec![0; raw_bytes_for(drop).saturating_sub(less)];
+        ffi::encode_upgrade_pass(
+            rule,
+            target,
+            &[0; 4096],
+            &[drop; 10],
+            &[0; 10],
+            &[sign; 4096],
+            layout,
+            &mut srl,
+            &mut raw,
+            &mut [0; 2],
+        )
+    }
+
+    /// The greatest and least values, and all lengths of runs of zeros, in outputs of the room for their drop.
+    #[test]
+    fn no_pass_needs_more_room() {
+        for drop in 0..=15 {
+            let most = ((1 << drop) - 1) as i16;
+            let runs = |longest: usize| -> Vec<i16> {
+                let run = |zeros| [vec![0; zeros], vec![most; 1 + zeros % 3]].concat();
+                let targets = (0..=longest).cycle().flat_map(run);
+                targets.take(4096).collect()
+            };
+            let same = [i16::MAX, i16::MIN, most, -most, 1, 0].map(|value| vec![value; 4096]);
+            let others = [1, 2, 3, 4, 5, 9, 40].map(runs);
+            for target in same.iter().chain(&others) {
+                for (rule, layout) in [Rule::Floor, Rule::Symmetric].into_iter().zip(LAYOUTS) {
+                    for sign in [SIGN_ZERO, SIGN_POSITIVE, SIGN_NEGATIVE] {
+                        assert_ne!(answered(rule, drop, layout, target, sign, 0), 7);
+                        assert_ne!(answered(rule, drop, !layout, target, sign, 0), 7);
+                    }
+                }
+            }
+        }
+    }
+
+    /// In the standard layout the room is used up: with a byte less there is a refusal by 7.
+    #[test]
+    fn some_passes_need_all_of_the_room() {
+        for drop in 1..=15 {
+            let most = ((1 << drop) - 1) as i16;
+            for rule in [Rule::Floor, Rule::Symmetric] {
+                for sign in [SIGN_ZERO, SIGN_POSITIVE] {
+                    assert_eq!(answered(rule, drop, false, &[most; 4096], sign, 0), 0);
+                    assert_eq!(answered(rule, drop, false, &[most; 4096], sign, 1), 7);
+                }
+            }
+        }
+    }
+
+    #[test]
+    fn a_drop_above_15_counts_as_15() {
+        for drop in [15, 16, 255] {
+            assert_eq!(srl_bytes_for(drop), SRL_BYTES_MAX);
+            assert_eq!(raw_bytes_for(drop), RAW_BYTES_MAX);
+        }
+    }
+
     /// Streams far longer than the room that they get at first.
     #[test]
     fn the_longest_streams_have_room() {
@@ -795,7 +890,7 @@ mod tests {
                 use_reduce_extrapolate,
             )
             .unwrap();
-            assert_eq!((srl.len(), raw.len()), (0, MOST_RAW_BYTES));
+            assert_eq!((srl.len(), raw.len()), (0, RAW_BYTES_MAX));
         }
     }
 

@@ -4,4 +4,6 @@ pub mod OwnCuts
 pub mod CutTrip
 pub mod Regained
 pub mod Missed
+pub mod Lengths
+pub mod Room
 pub mod Samples

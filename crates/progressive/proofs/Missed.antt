@@ -30,7 +30,7 @@ use Rattle.progressive.proofs.AnyRule.{pass-values, taken, long}
 -- ════ how many raw bits are read, and written ════
 
 -- the count behind some numbers
-count-sum : (ws : List ℕ) (n : ℕ) → countAfter ws n ≡ n + sum ws
+pub count-sum : (ws : List ℕ) (n : ℕ) → countAfter ws n ≡ n + sum ws
 unfolding countAfter sum
 count-sum [] n = omega arith
 count-sum (w ∷ ws) n = omega (arith, count-sum ws (n + w))

@@ -4,4 +4,5 @@ pub mod Refused
 pub mod OwnCuts
 pub mod Missing
 pub mod CutTrip
+pub mod Room
 pub mod SmallCases

@@ -8,6 +8,7 @@ ghost use Rattle.progressive.specs.Refused.{PassRefusals};
 ghost use Rattle.progressive.specs.OwnCuts.{OwnCutsSent};
 ghost use Rattle.progressive.specs.Missing.{PassMissingBits};
 ghost use Rattle.progressive.specs.CutTrip.{CutRoundTrip};
+ghost use Rattle.progressive.specs.Room.{RoomSuffices};
 ghost use Rattle.progressive.specs.SmallCases.{SmallCases};
 pub use answer::Answer;
 pub use dequantizer::dequantize_component_ccq;
@@ -43,6 +44,12 @@ pub fn own_cuts_sent()
 // bytes behind both streams change nothing but the counts, which go down by 8 for each.
 pub fn missing_bits()
     ensures { λ _. ⌜ PassMissingBits ⌝ }
+{}
+
+// With outputs of 504 * 2^w + 2 bytes for the SRL stream and 512 * w for the raw stream no pass that lowers no position by more than w is refused by 7, by
+// either rule; with those of w = 15, which are 16,515,074 and 7,680 bytes, no pass at all.
+pub fn room_suffices()
+    ensures { λ _. ⌜ RoomSuffices ⌝ }
 {}
 
 // What both rules give for some passes of one place, as a table: -7 over 0 from position 3 to 1 is -3 by the symmetric rule, and -4, which is refused

@@ -7,7 +7,7 @@ use native.Mathlib.Decide.{decLt}
 use native.Mathlib.Omega.{arith}
 use lib.IntN.{ℤ}
 use lib.ListN.{length, getD, replicate, List·getD-eq-default}
-use Rattle.bands.specs.Bands.{layout, countOf, spread}
+use Rattle.bands.specs.Bands.{layout, countOf, spread, positionOf}
 use Rattle.bands.specs.Positions.{rowInDomain}
 use Rattle.bands.specs.declared.BandInfo.{BandInfo}
 use Rattle.bands.proofs.Every.{low-position}
@@ -53,55 +53,60 @@ raw-missing ts rawData ss =
 
 -- ════ at most how many ════
 
--- every step has a width of at most 15
-pub data Slim : List Step → Type 0 where
-  none : Slim []
-  slim : {t : Step} {ts : List Step} → t .width ≤ 15 → Slim ts → Slim (t ∷ ts)
+-- every step has a width of at most m
+pub data Slim (m : ℕ) : List Step → Type 0 where
+  none : Slim m []
+  slim : {t : Step} {ts : List Step} → t .width ≤ m → Slim m ts → Slim m (t ∷ ts)
 
-slim-band : (n : ℕ) (t : Step) (ts : List Step) → t .width ≤ 15 → Slim ts → Slim (replicate n t ++ ts)
+slim-band : {m : ℕ} (n : ℕ) (t : Step) (ts : List Step) → t .width ≤ m → Slim m ts → Slim m (replicate n t ++ ts)
 slim-band zero t ts h l = l
 slim-band (suc n) t ts h l = slim h (slim-band n t ts h l)
 
-slim-bands : (f : ℕ → Step) → ((b : ℕ) → f b .width ≤ 15) → (b : ℕ) (is : List BandInfo) → Slim (spread f b is)
+slim-bands : {m : ℕ} (f : ℕ → Step) → ((b : ℕ) → f b .width ≤ m) → (b : ℕ) (is : List BandInfo) → Slim m (spread f b is)
 unfolding spread
 slim-bands f h b [] = Slim.none
 slim-bands f h b (i ∷ is) = slim-band (countOf i) (f b) (spread f (suc b) is) (h b) (slim-bands f h (suc b) is)
 
+-- where no position falls by more than m
+pub slim-falls : {m : ℕ} (e : Bool) (prev curr : List ℕ) → ((b : ℕ) → positionOf prev b ≤ positionOf curr b + m) → Slim m (steps e prev curr)
+slim-falls e prev curr h = slim-bands (stepOf prev curr) (λ b. omega (arith, h b)) 0 (layout e)
+
 -- a position of a row in the domain; past the row there is 0
-low : (row : List ℕ) (b : ℕ) → rowInDomain row ≡ true → getD row b 0 ≤ 15
+pub low : (row : List ℕ) (b : ℕ) → rowInDomain row ≡ true → positionOf row b ≤ 15
 low row b h = by (decLt b (length row))
   where
     by : Dec (b < length row) → getD row b 0 ≤ 15
     by (yes l) = low-position row b h l
     by (no l) = omega (arith, List·getD-eq-default row 0 {n = b} (omega arith))
 
-pub slim-steps : (e : Bool) (prev curr : List ℕ) → rowInDomain prev ≡ true → Slim (steps e prev curr)
-slim-steps e prev curr h = slim-bands (stepOf prev curr) (λ b. omega (arith, low prev b h)) 0 (layout e)
+pub slim-steps : (e : Bool) (prev curr : List ℕ) → rowInDomain prev ≡ true → Slim 15 (steps e prev curr)
+slim-steps e prev curr h = slim-falls e prev curr (λ b. omega (arith, low prev b h))
 
 narrow-more : (o : Source) (w : ℕ) {ws : List ℕ} → w ≤ 15 → Narrow ws → Narrow (srlWidth o w ws)
 narrow-more skipped w h l = l
 narrow-more srl w h l = narrow h l
 narrow-more raw w h l = l
 
-pub narrow-widths : {ts : List Step} → Slim ts → (ss : List ℤ) → Narrow (srlWidths ts ss)
+pub narrow-widths : {ts : List Step} → Slim 15 ts → (ss : List ℤ) → Narrow (srlWidths ts ss)
 unfolding srlWidths
 narrow-widths Slim.none ss = Narrow.none
 narrow-widths (slim h l) [] = Narrow.none
 narrow-widths (slim {t = t} h l) (s ∷ ss) = narrow-more (source t s) (t .width) h (narrow-widths l ss)
 
-raw-more : (o : Source) (w : ℕ) (ws : List ℕ) (n m : ℕ) → w ≤ 15 → ((n : ℕ) → countAfter ws n ≤ n + m) → countAfter (rawWidth o w ws) n ≤ n + (15 + m)
+raw-more : (o : Source) (w : ℕ) (ws : List ℕ) (n k m : ℕ) → w ≤ m → ((n : ℕ) → countAfter ws n ≤ n + k) → countAfter (rawWidth o w ws) n ≤ n + (m + k)
 unfolding countAfter
-raw-more skipped w ws n m h l = omega (arith, l n)
-raw-more srl w ws n m h l = omega (arith, l n)
-raw-more raw w ws n m h l = omega (arith, l (n + w))
+raw-more skipped w ws n k m h l = omega (arith, l n)
+raw-more srl w ws n k m h l = omega (arith, l n)
+raw-more raw w ws n k m h l = omega (arith, l (n + w))
 
-raw-near : {ts : List Step} → Slim ts → (ss : List ℤ) (n : ℕ) → countAfter (rawWidths ts ss) n ≤ n + 15 * length ts
+-- a place takes at most m raw bits
+pub raw-near : {m : ℕ} {ts : List Step} → Slim m ts → (ss : List ℤ) (n : ℕ) → countAfter (rawWidths ts ss) n ≤ n + length ts * m
 unfolding rawWidths countAfter
 raw-near Slim.none ss n = omega arith
 raw-near (slim h l) [] n = omega arith
-raw-near (slim {t = t} {ts = ts} h l) (s ∷ ss) n = omega (arith, raw-more (source t s) (t .width) (rawWidths ts ss) n (15 * length ts) h (raw-near l ss))
+raw-near {m} (slim {t = t} {ts = ts} h l) (s ∷ ss) n = omega (arith, raw-more (source t s) (t .width) (rawWidths ts ss) n (length ts * m) m h (raw-near l ss))
 
-few-values : (e : Bool) (prev curr : List ℕ) (ss : List ℤ) → length (srlWidths (steps e prev curr) ss) ≤ 4032
+pub few-values : (e : Bool) (prev curr : List ℕ) (ss : List ℤ) → length (srlWidths (steps e prev curr) ss) ≤ 4032
 few-values e prev curr ss = omega (arith, few-srl-values .most e prev curr ss, by e)
   where
     by : (e : Bool) → mostSrlValues e ≤ 4032

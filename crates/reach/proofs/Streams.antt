@@ -1,42 +1,39 @@
 -- The streams that a writer makes are bytes, and not too many.
+use mathlib.Core.Path.{_≡_}
+use mathlib.Core.Bool.{Bool, true, false}
 use mathlib.Core.List.{List, [], _∷_}
-use Prim.Native.Nat.{ℕ, _+_, _*_, _/_, _≤_, _<_}
+use Prim.Native.Nat.{ℕ, zero, suc, _+_, _-_, _*_, _≤_}
 use native.Mathlib.Omega.{arith}
-use lib.IntN.{ℤ, natAbs}
-use lib.ListN.{length, length-append}
+use lib.IntN.{ℤ, pos, negsuc, natAbs}
+use lib.ListN.{length}
 use Rattle.bits.specs.Written.{pack, bitsOfAll}
 use Rattle.bits.proofs.Numbers.{Bytes}
 use Rattle.bits.proofs.Packed.{length-pack, bytes-none, bytes-cons, bytes-append, pack-bytes}
-use Rattle.srl_encoder.specs.Encode.{valueBits, valueKp, valueZeros}
+use Rattle.srl_encoder.specs.Encode.{nonzeroBits}
 use Rattle.srl_encoder.specs.Finish.{streamBits}
+use Rattle.srl_encoder.proofs.Nonzeros.{nonzero-le}
 use Rattle.progressive_encoder.specs.Encode.{srlStream, rawStream}
-use Rattle.srl_encoder.proofs.EncodedValues.{value-kp}
-use Rattle.srl_encoder.proofs.Runs.{length-flush}
-use Rattle.srl_encoder.proofs.Sizes.{value-length}
-use Rattle.progressive_encoder.proofs.StreamLengths.{some-length}
+use Rattle.progressive.proofs.Lengths.{valueTakes, valuesTake, srl-length}
 
 -- the sum of the magnitudes of some values
 abbrev pub magnitudes : List ℤ → ℕ
 magnitudes [] = 0
 magnitudes (v ∷ vs) = natAbs v + magnitudes vs
 
--- a value takes at most its magnitude and 12 bits, and before them come the zeros that are pending
-stream-small : (kp z : ℕ) (ws : List ℕ) (vs : List ℤ) → kp ≤ 80 → length (streamBits kp z ws vs) ≤ z + magnitudes vs + 12 * length vs + 11
-unfolding streamBits
-stream-small kp z ws [] h = omega (arith, length-flush kp z h)
-stream-small kp z [] (v ∷ vs) h = omega arith
-stream-small kp z (w ∷ ws) (v ∷ vs) h =
-    omega (
-      arith,
-      length-append (valueBits w kp z v) (streamBits (valueKp kp z v) (valueZeros z v) ws vs),
-      value-length w kp z v h,
-      stream-small (valueKp kp z v) (valueZeros z v) ws vs (value-kp kp z v h),
-    )
+-- values take at most two bits each and a bit for each one of their magnitudes
+takes-few : (ws : List ℕ) (vs : List ℤ) → valuesTake ws vs ≤ magnitudes vs + 2 * length vs
+unfolding valuesTake
+takes-few ws [] = omega arith
+takes-few [] (v ∷ vs) = omega arith
+takes-few (w ∷ ws) (v ∷ vs) = omega (arith, one v, takes-few ws vs)
+  where
+    nonzero : (b : Bool) (m : ℕ) → length (nonzeroBits w b m) ≤ m + 2
+    nonzero b m = let n : m + 1 - 1 ≡ m = omega arith in omega (arith, rw n at (nonzero-le w (m + 1) b (omega arith)))
 
--- so a stream of so many bytes at most
-surely : (ws : List ℕ) (vs : List ℤ) (room : ℕ) → (magnitudes vs + 12 * length vs + 40) / 8 < room → length (srlStream ws vs) ≤ room
-surely ws [] room h = omega arith
-surely ws (v ∷ vs) room h = omega (arith, some-length ws (v ∷ vs) (λ e. omega arith), stream-small 8 0 ws (v ∷ vs) (omega arith))
+    one : (v : ℤ) → valueTakes w v ≤ natAbs v + 2
+    one (pos zero) = omega arith
+    one (pos (suc m)) = omega (arith, nonzero false m)
+    one (negsuc m) = omega (arith, nonzero true m)
 
 -- bytes for n places, at most 4,098 for each and a few more
 pub record Stream (s : List ℕ) (n : ℕ) : Type 0 where
@@ -45,7 +42,7 @@ pub record Stream (s : List ℕ) (n : ℕ) : Type 0 where
 
 -- the SRL stream of values that are not too large together
 pub srl-stream : (ws : List ℕ) (vs : List ℤ) (n : ℕ) → length vs ≤ n → magnitudes vs ≤ 32768 * n → Stream (srlStream ws vs) n
-srl-stream ws vs n h l = record { bytes = by vs; short = surely ws vs (4098 * n + 6) (omega arith) }
+srl-stream ws vs n h l = record { bytes = by vs; short = omega (arith, srl-length ws vs, takes-few ws vs) }
   where
     by : (vs : List ℤ) → Bytes (srlStream ws vs)
     by [] = bytes-none
