@@ -1,7 +1,7 @@
 -- The theorem, and its corollaries.
 use mathlib.Core.Path.{_≡_, refl, sym, ap, _∙_, subst}
 use mathlib.Core.Logic.{_≢_}
-use mathlib.Core.Bool.{Bool, true, false, cond}
+use mathlib.Core.Bool.{Bool, true, false, cond, _&&_}
 use mathlib.Core.List.{List, [], _∷_}
 use Prim.Native.Nat.{ℕ, zero, suc, _≤_, _<_}
 use native.Mathlib.Omega.{arith}
@@ -13,10 +13,12 @@ use Rattle.fixed.specs.Fixed.{signOf}
 use Rattle.fixed.specs.Cut.{cutLevel, towardZero, downward}
 use Rattle.fixed.proofs.Cuts.{cut-rest, rest-small, toward-pos, Above, down-rest}
 use Rattle.bands.specs.Bands.{isBottom, positionOf, bandsOf}
-use Rattle.answer.specs.Refusals.{outputTooShort, firstOf}
+use Rattle.bands.specs.Positions.{rowInDomain}
+use Rattle.answer.specs.Refusals.{sliceTooShort, outOfDomain, outputTooShort, unless, firstOf, longEnough}
 use Rattle.answer.proofs.Numbers.{first-none}
+use Rattle.upgrade_steps.specs.Steps.{steps}
 use Rattle.upgrade_steps.specs.Cut.{cutAt, cutSignAt, cutComponent, cutComponentSigns}
-use Rattle.progressive_encoder.specs.Encode.{symmetricRule, noRoomFor}
+use Rattle.progressive_encoder.specs.Encode.{symmetricRule, passFault, noRoomFor}
 use Rattle.progressive.proofs.Room.{room-suffices}
 use Rattle.planes.specs.Planes.{component, rowOf, of}
 use Rattle.planes.proofs.Joined.{Long, parts-long, joined-components}
@@ -175,11 +177,17 @@ not-short false false h = refl
 
 never-refused : (target : List ℤ) (t : TileState) (rows : List (List ℕ)) (k : ℕ) → WritesBoth target t rows k → NeverRefused target t rows k
 never-refused target t rows k w srlOut rawOut h j =
+    let tg = component k target in
+    let cs = component k (t .coefficients) in
+    let ss = component k (t .sign) in
+    let p = rowOf k (t .«prog_quant») in
+    let e = t .«use_reduce_extrapolate» in
     let a = srlFor target t rows k in
     let b = rawFor target t rows k in
-    let room : writeRefusal (component k target) t rows k srlOut rawOut ≡ noRoomFor a srlOut b rawOut =
-    room-counts _ _ _ (noRoomFor a a b b) (w .from-target .accepted a b (omega arith) (omega arith)) (noRoomFor a srlOut b rawOut) in
-    let most = room-suffices .any-pass symmetricRule (component k target) (component k (t .coefficients)) (component k (t .sign)) (rowOf k (t .«prog_quant»)) (of rows k) (t .«use_reduce_extrapolate») srlOut rawOut h j in
+    let room : writeRefusal tg t rows k srlOut rawOut ≡ noRoomFor a srlOut b rawOut =
+    room-counts (unless (longEnough tg && (longEnough cs && longEnough ss)) sliceTooShort) (unless (rowInDomain p && rowInDomain (of rows k)) outOfDomain)
+    (passFault symmetricRule (steps e p (of rows k)) tg cs ss) (noRoomFor a a b b) (w .from-target .accepted a b (omega arith) (omega arith)) (noRoomFor a srlOut b rawOut) in
+    let most = room-suffices .any-pass symmetricRule tg cs ss p (of rows k) e srlOut rawOut h j in
     room ∙ not-short (ltb (length srlOut) (length a)) (ltb (length rawOut) (length b)) (λ z. most (room ∙ z))
 
 -- what follows for each call follows for all
