@@ -26,8 +26,9 @@ use Rattle.reach.proofs.Tiles.{given-row, rows-in-domain}
 use Rattle.reach.proofs.Instances.{three-at, row-of, lower-at, same-position, place-at}
 use Rattle.ladder.specs.Ladder.{IsTarget, IsCut, placeIn, cutPlace, threeOf, Lowering, lastPositions}
 use Rattle.ladder.specs.Corollaries.{cutTile, stroke, strokeTile, threePasses, HypothesesMet}
+use Rattle.ladder.proofs.CutFits.{narrow-append}
 use Rattle.ladder.proofs.CutPlaces.{component-long, signs-long, cut-places}
-use Rattle.ladder.proofs.Ladders.{three-of}
+use Rattle.ladder.proofs.Ladders.{Narrow, three-of}
 use Rattle.ladder.proofs.Ends.{own-sign, whole-at-zero}
 
 -- ════ a loaded tile ════
@@ -50,7 +51,7 @@ module _ (f : ℕ → List ℤ) (h : Long 4096 f) where
 module _ (target : List ℤ) (cs ss : ℕ → List ℤ) (rows quants : List (List ℕ)) (e : Bool) (aim : IsTarget target) (lc : Long 4096 cs) (ls : Long 4096 ss)
     (w : ThreeRows rows) (v : ThreeRows quants) (d : rowsInDomain rows ≡ true) (q : rowsInDomain quants ≡ true)
     (each : (k i : ℕ) → k < 3 → i < 4096
-      → placeAt (cs k) (ss k) i ≡ cutPlace (getD (bandsOf e) i 0) (of rows k) (getD (component k target) i (pos 0)) (placeAt (cs k) (ss k) i .sign)) where
+    → placeAt (cs k) (ss k) i ≡ cutPlace (getD (bandsOf e) i 0) (of rows k) (getD (component k target) i (pos 0)) (placeAt (cs k) (ss k) i .sign)) where
   pub loaded-cut : IsCut target (loaded (threeOf cs) (threeOf ss) rows quants e)
   unfolding loaded
   loaded-cut = record {
@@ -86,18 +87,7 @@ module _ (target signs : List ℤ) (rows quants : List (List ℕ)) (e : Bool) (a
 
 -- ════ -32768 in the first band, -7 elsewhere ════
 
--- lists of sixteen-bit numbers
-Narrow : List ℤ → Type 0
-Narrow l = (i : ℕ) → mag (getD l i (pos 0)) < 32768
-
-narrow-append : (a b : List ℤ) → Narrow a → Narrow b → Narrow (a ++ b)
-unfolding Narrow
-narrow-append [] b h k i = k i
-narrow-append (x ∷ a) b h k zero = h zero
-narrow-append (x ∷ a) b h k (suc i) = narrow-append a b (λ j. h (suc j)) k i
-
 narrow-map : (f : ℕ → ℤ) → ((b : ℕ) → mag (f b) < 32768) → (l : List ℕ) → Narrow (map f l)
-unfolding Narrow
 narrow-map f h [] i = omega arith
 narrow-map f h (b ∷ l) zero = h b
 narrow-map f h (b ∷ l) (suc i) = narrow-map f h l i
@@ -121,7 +111,7 @@ aim-narrow b = by (eqb b 0)
     by false = omega arith
 
 stroke-aim : (e : Bool) → IsTarget (stroke e)
-unfolding aimAt Narrow
+unfolding aimAt
 stroke-aim e =
     let one : Narrow (perPlace e aimAt) = subst Narrow (sym (place-map e aimAt (λ b. b))) (narrow-map aimAt aim-narrow (bandsOf e)) in
     record {

@@ -31,13 +31,19 @@ use Rattle.ladder.proofs.CutPlaces.{component-long, signs-long, each-pa
 
 -- ════ parts of three ════
 
+-- the one with a number
 pub three-of : {A : Type 0} (f : ℕ → List A) (k : ℕ) → k < 3 → of (three (f 0) (f 1) (f 2)) k ≡ f k
 three-of f zero h = refl
 three-of f (suc zero) h = refl
 three-of f (suc (suc zero)) h = refl
 three-of f (suc (suc (suc k))) h = absurd (omega arith)
 
-pub part-range : (k : ℕ) (l : List ℤ) → ((i : ℕ) → mag (getD l i (pos 0)) < 32768) → (i : ℕ) → mag (getD (component k l) i (pos 0)) < 32768
+-- a list of sixteen-bit numbers
+abbrev pub Narrow : List ℤ → Type 0
+Narrow l = (i : ℕ) → mag (getD l i (pos 0)) < 32768
+
+-- so is a component of one
+pub part-range : (k : ℕ) (l : List ℤ) → Narrow l → Narrow (component k l)
 part-range k l r i = by (decLt i 4096)
   where
     by : Dec (i < 4096) → mag (getD (component k l) i (pos 0)) < 32768

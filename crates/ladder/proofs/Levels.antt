@@ -27,12 +27,12 @@ level-more x r h =
     ∙ floor-level (levelOf true x + r)
 
 -- the magnitude of a product
-abs-times : (z : ℤ) (k : ℕ) → natAbs (z *ℤ pos k) ≡ natAbs z * k
+pub abs-times : (z : ℤ) (k : ℕ) → natAbs (z *ℤ pos k) ≡ natAbs z * k
 abs-times (pos n) k = omega arith
 abs-times (negsuc n) k = abs-minus (suc n * k)
 
 -- a number that lies less than 2^p above a multiple of it is cut to that multiple
-cut-to : (p n r : ℕ) → Multiple (2 ^ p) n → r < 2 ^ p → cutLevel p (n + r) ≡ n
+pub cut-to : (p n r : ℕ) → Multiple (2 ^ p) n → r < 2 ^ p → cutLevel p (n + r) ≡ n
 cut-to p n r m h =
     ap (λ (x : ℕ). cutLevel p (x + r)) (m .is) ∙ ap (λ (x : ℕ). x * 2 ^ p) (digits-div (m .times) {m = 2 ^ p} {r = r} h) ∙ sym (m .is)
 

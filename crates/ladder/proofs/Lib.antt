@@ -3,4 +3,5 @@ pub mod Levels
 pub mod CutPlaces
 pub mod Ladders
 pub mod Ends
+pub mod CutFits
 pub mod Instances

@@ -15,7 +15,7 @@ use Rattle.progressive.specs.Room.{srlRoom, rawRoom}
 use Rattle.planes.specs.Planes.{component, joined, of}
 use Rattle.tile.specs.Tile.{loaded}
 use Rattle.tile.specs.declared.TileState.{TileState}
-use Rattle.reach.specs.Reach.{Pass, ThreeRows, AllRows, answersTo, pictureOf}
+use Rattle.reach.specs.Reach.{TileFits, Pass, ThreeRows, AllRows, answersTo, pictureOf}
 use Rattle.reach.specs.Corollaries.{rowsAt}
 use Rattle.ladder.specs.Ladder.{IsTarget, IsCut, Lowering, lastPositions, callsFor, sharpened, placeIn, threeOf, writeRefusal, EachWrite}
 
@@ -53,6 +53,13 @@ pub record Whole (target : List ℤ) (u : TileState) : Type 0 where
 pub record WholeAtZero : Type 0 where
   pub whole : (target : List ℤ) (t : TileState) → IsCut target t → (os : List Pass) → AllRows os
       → Lowering (t .«prog_quant») os → lastPositions (t .«prog_quant») os ≡ replicate 30 0 → Whole target (sharpened target t os)
+
+-- ════ which tiles these are ════
+
+-- "a tile is some target cut at its positions if and only if it fits": its own coefficients are such a target
+pub record CutsFit : Type 0 where
+  pub fits : (target : List ℤ) (t : TileState) → IsCut target t → TileFits t
+  pub own : (t : TileState) → TileFits t → IsCut (t .coefficients) t
 
 -- ════ the hypotheses are met ════
 

@@ -3,7 +3,7 @@
 
 ghost use Rattle.ladder.specs.Levels.{LevelLaw};
 ghost use Rattle.ladder.specs.Ladder.{LadderDoesNotMatter};
-ghost use Rattle.ladder.specs.Corollaries.{SameEnd, NothingRefused, WholeAtZero, HypothesesMet};
+ghost use Rattle.ladder.specs.Corollaries.{SameEnd, NothingRefused, WholeAtZero, CutsFit, HypothesesMet};
 
 // Whatever rows lie between: no call is refused, and what is left is the target cut at the last rows.
 pub fn ladder_does_not_matter()
@@ -23,6 +23,11 @@ pub fn nothing_refused()
 // Rows that are all 0 leave the target itself.
 pub fn whole_at_zero()
     ensures { λ _. ⌜ WholeAtZero ⌝ }
+{}
+
+// The tiles of which all this is said are those that fit: each is its own coefficients, cut.
+pub fn cuts_fit()
+    ensures { λ _. ⌜ CutsFit ⌝ }
 {}
 
 // Every target, cut and loaded, is such a tile; one with -32768 and a negative bottom goes down to 0 in three passes.
