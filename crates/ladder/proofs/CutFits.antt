@@ -4,10 +4,9 @@ use mathlib.Core.Bool.{Bool, true, false}
 use mathlib.Core.List.{List, [], _∷_, _++_}
 use Prim.Native.Nat.{ℕ, zero, suc, _*_, _^_, _≤_, _<_}
 use native.Mathlib.Nat.{add-zero}
-use native.Mathlib.Decide.{decLt}
 use native.Mathlib.Omega.{arith}
 use lib.IntN.{ℤ, pos, negsuc, negℤ, natAbs, _+ℤ_}
-use lib.ListN.{length, getD, List·getD-eq-default}
+use lib.ListN.{length, getD}
 use lib.Pow.{pow-pos}
 use lib.Signed.{mag}
 use Rattle.fixed.specs.Fixed.{floorShift, signOf}
@@ -30,7 +29,7 @@ use Rattle.reach.specs.Reach.{TileFits}
 use Rattle.ladder.specs.Ladder.{IsTarget, IsCut, placeIn, cutPlace}
 use Rattle.ladder.specs.Corollaries.{CutsFit}
 use Rattle.ladder.proofs.Levels.{abs-times, cut-to, level-cut}
-use Rattle.ladder.proofs.Ladders.{Narrow, part-range}
+use Rattle.ladder.proofs.Ladders.{Narrow, narrow-within, part-range}
 
 -- ════ one place ════
 
@@ -89,16 +88,11 @@ module _ {t : TileState} (f : TileFits t) where
   place-fits k i m n = f .each k m .each i (omega (arith, bands-whole (t .«use_reduce_extrapolate»)))
 
   part-narrow : (k : ℕ) → k < 3 → Narrow (component k (t .coefficients))
-    part-narrow k m i = by (decLt i 4096)
-    where
-      by : Dec (i < 4096) → mag (getD (component k (t .coefficients)) i (pos 0)) < 32768
-      by (yes n) = place-fits k i m n .range
-      by (no n) =
-          let long : length (component k (t .coefficients)) ≤ i = omega (arith, parts-long 4096 (t .coefficients) (f .coefficients) k m) in
-          subst (λ (z : ℤ). mag z < 32768) (sym (List·getD-eq-default (component k (t .coefficients)) (pos 0) {n = i} long)) (omega arith)
+  part-narrow k m = narrow-within (component k (t .coefficients))
+      (λ i h. place-fits k i m (omega (arith, parts-long 4096 (t .coefficients) (f .coefficients) k m)) .range)
 
   own-target : IsCut (t .coefficients) t
-    own-target = record {
+  own-target = record {
     aim = record { whole = f .coefficients; sixteen-bits = narrow-parts (t .coefficients) (f .coefficients) part-narrow };
     coefficients = f .coefficients;
     sign = f .sign;

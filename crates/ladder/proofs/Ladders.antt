@@ -3,10 +3,9 @@ use mathlib.Core.Path.{_≡_, refl, sym, ap, ap₂, _∙_, subst}
 use mathlib.Core.Bool.{Bool, true}
 use mathlib.Core.List.{List, [], _∷_}
 use Prim.Native.Nat.{ℕ, zero, suc, _+_, _*_, _≤_, _<_}
-use native.Mathlib.Decide.{decLt}
 use native.Mathlib.Omega.{arith}
 use lib.IntN.{ℤ, pos}
-use lib.ListN.{length, getD, drop, replicate, length-take, List·getD-eq-default}
+use lib.ListN.{length, getD, drop, replicate, length-take}
 use lib.Seq.{getD-take, getD-drop}
 use lib.Signed.{mag}
 use Rattle.bands.specs.Bands.{positionOf}
@@ -42,13 +41,20 @@ three-of f (suc (suc (suc k))) h = absurd (omega arith)
 abbrev pub Narrow : List ℤ → Type 0
 Narrow l = (i : ℕ) → mag (getD l i (pos 0)) < 32768
 
--- so is a component of one
+-- past its end it reads as zeros
+pub narrow-within : (l : List ℤ) → ((i : ℕ) → i < length l → mag (getD l i (pos 0)) < 32768) → Narrow l
+narrow-within [] h i = omega arith
+narrow-within (x ∷ l) h zero = h zero (omega arith)
+narrow-within (x ∷ l) h (suc i) = narrow-within l (λ j n. h (suc j) (omega arith)) i
+
+-- a component of one is one
 pub part-range : (k : ℕ) (l : List ℤ) → Narrow l → Narrow (component k l)
-part-range k l r i = by (decLt i 4096)
+part-range k l r = narrow-within (component k l) by
   where
-    by : Dec (i < 4096) → mag (getD (component k l) i (pos 0)) < 32768
-    by (yes h) = subst (λ (z : ℤ). mag z < 32768) (sym (getD-take 4096 (drop (k * 4096) l) i (pos 0) h ∙ getD-drop (k * 4096) l i (pos 0))) (r (k * 4096 + i))
-    by (no h) = subst (λ (z : ℤ). mag z < 32768) (sym (List·getD-eq-default (component k l) (pos 0) {n = i} (omega (arith, length-take 4096 (drop (k * 4096) l))))) (omega arith)
+    by : (i : ℕ) → i < length (component k l) → mag (getD (component k l) i (pos 0)) < 32768
+    by i n =
+        let h : i < 4096 = omega (arith, length-take 4096 (drop (k * 4096) l)) in
+        subst (λ (z : ℤ). mag z < 32768) (sym (getD-take 4096 (drop (k * 4096) l) i (pos 0) h ∙ getD-drop (k * 4096) l i (pos 0))) (r (k * 4096 + i))
 
 -- ════ rows that fall are accepted ════
 
