@@ -11,6 +11,10 @@
 #include <stdlib.h>
 #include <string.h>
 
+/* Outputs for any pass have the room of the greatest drop, from position 15 to 0. */
+_Static_assert(TARJIMP_SRL_BYTES(15) == TARJIMP_SRL_BYTES_MAX, "SRL bytes of the greatest drop");
+_Static_assert(TARJIMP_RAW_BYTES(15) == TARJIMP_RAW_BYTES_MAX, "raw bytes of the greatest drop");
+
 /* Ends the program where a call is refused that should not be. */
 static void accepted(const char *call, uint8_t number)
 {

@@ -20,6 +20,8 @@
 //! - Past a stream's end every bit is 0, here and in the Rust; here each reading also says how many bits came
 //!   from there: [`srl::SrlDecoder::missing_bits`], [`progressive::decode_upgrade_pass_counted`] and
 //!   [`progressive::TileState::decode_upgrade_counted`].
+//! - [`progressive::SRL_BYTES_MAX`] and [`progressive::RAW_BYTES_MAX`] are the bytes that the streams of a pass have
+//!   at most.
 //!
 //! ```
 //! use tarjimp::srl::{decode_srl, encode_srl};

@@ -1,6 +1,6 @@
--- How long the two streams of a pass can be. kp rises only by zeros, for which a stream takes fewer bits than two each; what is left of these pays for
--- the bits of a run's end. So a stream takes two bits for a zero, and for another value one more than the value's own. Assumes nothing.
-use mathlib.Core.Path.{_≡_, refl, sym, ap, _∙_, subst}
+-- How long the two streams of a pass can be. kp rises only by zeros and falls where a run ends. With a weight for kp, a zero takes at most two bits, and
+-- another value at most one bit more than its own. Assumes nothing.
+use mathlib.Core.Path.{_≡_, refl, subst}
 use mathlib.Core.Bool.{Bool, true, false, cond, _&&_, _||_, true≢false}
 use mathlib.Core.List.{List, [], _∷_, _++_}
 use Prim.Native.Nat.{ℕ, zero, suc, _+_, _-_, _*_, _/_, _^_, _≤_, _<_, min}
@@ -10,7 +10,7 @@ use borrow.Author.Tests.{leb-true, ltb-true, ltb-false}
 use lib.Dec.{leb, ltb}
 use lib.IntN.{ℤ, pos, negsuc, natAbs}
 use lib.ListN.{length, replicate, length-append, length-replicate}
-use lib.Pow.{pow-mono, pow-pos}
+use lib.Pow.{pow-mono}
 use Rattle.fixed.specs.Fixed.{isZero}
 use Rattle.bands.proofs.Every.{both-true}
 use Rattle.bits.specs.Written.{bitsOf, bitsOfAll}
@@ -26,13 +26,14 @@ use Rattle.progressive.specs.Missing.{sum}
 
 -- ════ a run ════
 
--- how many bits are left at kp
-unfoldable spare : ℕ → ℕ
-spare kp = kp * kp / 64
+-- of kp, as a number of bits
+unfoldable weight : ℕ → ℕ
+weight kp = kp * kp / 64
 
--- they pay for the bits of a code word 1 behind its first, where kp falls by 6; and two bits for each zero of a code word 0 pay for its bit, where kp rises by 4
-abbrev pays : ℕ → Bool
-pays kp = leb (kp / 8 + spare (kp - 6)) (spare kp) && leb (1 + spare (min (kp + 4) 80)) (2 * 2 ^ (kp / 8) + spare kp)
+-- at a code word 1 kp falls by 6, and its weight by no fewer bits than follow the 1; at a code word 0, which stands for 2^(kp / 8) zeros, kp rises by 4, and its
+-- weight and the one bit are no more than two bits for each of them
+abbrev weighed : ℕ → Bool
+weighed kp = leb (kp / 8 + weight (kp - 6)) (weight kp) && leb (1 + weight (min (kp + 4) 80)) (2 * 2 ^ (kp / 8) + weight kp)
 
 -- a test of each number up to n
 abbrev upTo : (ℕ → Bool) → ℕ → Bool
@@ -48,28 +49,28 @@ up-to f (suc n) k e h = let p = both-true (f (suc n)) (upTo f n) e in by (decLt 
     by (no l) p r = let s : suc n ≡ k = omega arith in subst (λ (j : ℕ). f j ≡ true) s p
 
 -- at each kp
-all-pay : upTo pays 80 ≡ true
-unfolding spare
-all-pay = refl
+all-weighed : upTo weighed 80 ≡ true
+unfolding weight
+all-weighed = refl
 
-one-pays : (kp : ℕ) → kp ≤ 80 → (kp / 8 + spare (kp - 6) ≤ spare kp) × (1 + spare (min (kp + 4) 80) ≤ 2 * 2 ^ (kp / 8) + spare kp)
-one-pays kp h =
-    let a = leb (kp / 8 + spare (kp - 6)) (spare kp) in
-    let b = leb (1 + spare (min (kp + 4) 80)) (2 * 2 ^ (kp / 8) + spare kp) in
-    let p = both-true a b (up-to pays 80 kp all-pay h) in
-    (leb-true (kp / 8 + spare (kp - 6)) (spare kp) (p .0), leb-true (1 + spare (min (kp + 4) 80)) (2 * 2 ^ (kp / 8) + spare kp) (p .1))
+weight-moves : (kp : ℕ) → kp ≤ 80 → (kp / 8 + weight (kp - 6) ≤ weight kp) × (1 + weight (min (kp + 4) 80) ≤ 2 * 2 ^ (kp / 8) + weight kp)
+weight-moves kp h =
+    let a = leb (kp / 8 + weight (kp - 6)) (weight kp) in
+    let b = leb (1 + weight (min (kp + 4) 80)) (2 * 2 ^ (kp / 8) + weight kp) in
+    let p = both-true a b (up-to weighed 80 kp all-weighed h) in
+    (leb-true (kp / 8 + weight (kp - 6)) (weight kp) (p .0), leb-true (1 + weight (min (kp + 4) 80)) (2 * 2 ^ (kp / 8) + weight kp) (p .1))
 
--- a run takes two bits for each of its zeros, one for its end, and of what is left
-run-length : (f kp z : ℕ) → kp ≤ 80 → length (runBits f kp z) + spare (runKp f kp z) ≤ 2 * z + spare kp + 1
+-- a run takes two bits for each of its zeros and one for its end, but for what the weight falls by
+run-length : (f kp z : ℕ) → kp ≤ 80 → length (runBits f kp z) + weight (runKp f kp z) ≤ 2 * z + weight kp + 1
 run-length zero kp z h = omega arith
 run-length (suc f) kp z h = by (ltb z (2 ^ (kp / 8))) refl (run-length f (min (kp + 4) 80) (z - 2 ^ (kp / 8)) (omega arith))
   where
     by : (b : Bool) → ltb z (2 ^ (kp / 8)) ≡ b
-        → length (runBits f (min (kp + 4) 80) (z - 2 ^ (kp / 8))) + spare (runKp f (min (kp + 4) 80) (z - 2 ^ (kp / 8))) ≤ 2 * (z - 2 ^ (kp / 8)) + spare (min (kp + 4) 80) + 1
-        → length (cond b (true ∷ bitsOf (kp / 8) z) (false ∷ runBits f (min (kp + 4) 80) (z - 2 ^ (kp / 8)))) + spare (cond b (kp - 6) (runKp f (min (kp + 4) 80) (z - 2 ^ (kp / 8))))
-        ≤ 2 * z + spare kp + 1
-    by true e i = omega (arith, length-bitsOf (kp / 8) z, one-pays kp h .0)
-    by false e i = let j : 2 ^ (kp / 8) ≤ z = ltb-false _ _ e in omega (arith, i, one-pays kp h .1)
+        → length (runBits f (min (kp + 4) 80) (z - 2 ^ (kp / 8))) + weight (runKp f (min (kp + 4) 80) (z - 2 ^ (kp / 8))) ≤ 2 * (z - 2 ^ (kp / 8)) + weight (min (kp + 4) 80) + 1
+        → length (cond b (true ∷ bitsOf (kp / 8) z) (false ∷ runBits f (min (kp + 4) 80) (z - 2 ^ (kp / 8)))) + weight (cond b (kp - 6) (runKp f (min (kp + 4) 80) (z - 2 ^ (kp / 8))))
+        ≤ 2 * z + weight kp + 1
+    by true e i = omega (arith, length-bitsOf (kp / 8) z, weight-moves kp h .0)
+    by false e i = let j : 2 ^ (kp / 8) ≤ z = ltb-false _ _ e in omega (arith, i, weight-moves kp h .1)
 
 -- ════ a stream ════
 
@@ -86,13 +87,13 @@ valuesTake [] (v ∷ vs) = 0
 valuesTake (w ∷ ws) (v ∷ vs) = valueTakes w v + valuesTake ws vs
 
 -- a value's bits, with two for each zero that is pending behind it
-value-length : (w kp z : ℕ) (v : ℤ) → kp ≤ 80 → length (valueBits w kp z v) + 2 * valueZeros z v + spare (valueKp kp z v) ≤ 2 * z + valueTakes w v + spare kp
+value-length : (w kp z : ℕ) (v : ℤ) → kp ≤ 80 → length (valueBits w kp z v) + 2 * valueZeros z v + weight (valueKp kp z v) ≤ 2 * z + valueTakes w v + weight kp
 value-length w kp z (pos zero) h = omega arith
 value-length w kp z (pos (suc m)) h = omega (arith, length-append (runBits (suc z) kp z) (nonzeroBits w false m), run-length (suc z) kp z h)
 value-length w kp z (negsuc m) h = omega (arith, length-append (runBits (suc z) kp z) (nonzeroBits w true m), run-length (suc z) kp z h)
 
 -- a stream's bits
-stream-length : (kp z : ℕ) (ws : List ℕ) (vs : List ℤ) → kp ≤ 80 → length (streamBits kp z ws vs) ≤ 2 * z + valuesTake ws vs + spare kp + 1
+stream-length : (kp z : ℕ) (ws : List ℕ) (vs : List ℤ) → kp ≤ 80 → length (streamBits kp z ws vs) ≤ 2 * z + valuesTake ws vs + weight kp + 1
 unfolding streamBits valuesTake
 stream-length kp zero ws [] h = omega arith
 stream-length kp (suc z) ws [] h = omega (arith, run-length (suc (suc z)) kp (suc z) h)
@@ -107,7 +108,7 @@ stream-length kp z (w ∷ ws) (v ∷ vs) h =
 
 -- and its bytes
 pub srl-length : (ws : List ℕ) (vs : List ℤ) → length (srlStream ws vs) ≤ (valuesTake ws vs + 9) / 8 + 1
-unfolding spare
+unfolding weight
 srl-length ws [] = omega arith
 srl-length ws (v ∷ vs) = omega (arith, some-length ws (v ∷ vs) (λ e. omega arith), stream-length 8 0 ws (v ∷ vs) (omega arith))
 

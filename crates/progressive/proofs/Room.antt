@@ -3,13 +3,14 @@ use mathlib.Core.Path.{_≡_, refl}
 use mathlib.Core.Logic.{_≢_}
 use mathlib.Core.Bool.{Bool, true, false, cond, _&&_, true≢false}
 use mathlib.Core.List.{List}
-use Prim.Native.Nat.{ℕ, _+_, _*_, _^_, _≤_}
+use Prim.Native.Nat.{ℕ, _*_, _^_, _≤_}
 use native.Mathlib.Nat.{mul-le-mul-right}
 use native.Mathlib.Omega.{arith}
 use borrow.Author.Tests.{le-ltb}
 use lib.Dec.{ltb}
 use lib.IntN.{ℤ}
 use lib.ListN.{length}
+use lib.Pow.{pow-pos}
 use Rattle.fixed.specs.Fixed.{clampI16, isZero}
 use Rattle.bands.specs.Bands.{spread}
 use Rattle.bands.specs.Positions.{rowInDomain}
@@ -23,7 +24,7 @@ use Rattle.answer.specs.Refusals.{sliceTooShort, outOfDomain, magnitudeOutOfRan
 use Rattle.progressive_decoder.proofs.Missing.{low, slim-falls, few-values, raw-near}
 use Rattle.progressive_encoder.specs.Encode.{Rule, srlDifferences, rawDifferences, srlBytes, rawBytes, anyTooLarge, encodePassRefusal}
 use Rattle.progressive.specs.Room.{FallsBy, srlRoom, rawRoom, RoomSuffices}
-use Rattle.progressive.proofs.Lengths.{valuesTake, srl-length, pass-takes, numbers-take}
+use Rattle.progressive.proofs.Lengths.{srl-length, pass-takes, numbers-take}
 use Rattle.progressive.proofs.Missed.{count-sum}
 
 -- without a refusal by 1, 2 or 5 there is room
@@ -44,7 +45,7 @@ module _ (w : ℕ) (r : Rule) (cs ps ss : List ℤ) (prev curr : List ℕ) (e : 
       let ts = steps e prev curr in
       let ws = srlWidths ts ss in
       let vs = srlDifferences r ts cs ps ss in
-      omega (arith, srl-length ws vs, pass-takes r (slim-falls e prev curr h) cs ps ss f, mul-le-mul-right (2 ^ w) (few-values e prev curr ss))
+      omega (arith, srl-length ws vs, pass-takes r (slim-falls e prev curr h) cs ps ss f, mul-le-mul-right (2 ^ w) (few-values e prev curr ss), pow-pos w)
 
   -- the raw stream
   raw-fits : FallsBy w prev curr → length (rawBytes r (steps e prev curr) cs ps ss) ≤ rawRoom w

@@ -15,7 +15,7 @@ use Rattle.progressive_encoder.specs.Encode.{Rule, floorRule, srlBytes, rawByte
 abbrev pub FallsBy : ℕ → List ℕ → List ℕ → Type 0
 FallsBy w prev curr = (b : ℕ) → positionOf prev b ≤ positionOf curr b + w
 
--- bytes for the SRL stream of such a pass: 2^w bits for each of "at most 4,032 SRL values", and 2 bytes for what the stream begins and ends with
+-- bytes for the SRL stream of such a pass: 2^w bits for each of "at most 4,032 SRL values", and 2 bytes: a bit of the first run, the padding, and "one byte 0"
 abbrev pub srlRoom : ℕ → ℕ
 srlRoom w = 504 * 2 ^ w + 2
 
@@ -44,6 +44,6 @@ pub record RoomSuffices : Type 0 where
   -- the room for any pass, in bytes
   pub srl-most : srlRoom 15 ≡ 16515074
   pub raw-most : rawRoom 15 ≡ 7680
-  -- nor can they be smaller: as much is written of 1 over 0 at each place, where all signs are zero and where none is
+  -- from positions 1 to 0 no smaller ones suffice: as much is written of 1 over 0 at each place, where all signs are zero and where none is
   pub srl-reached : length (srlBytes floorRule oneLower (allPlaces (pos 1)) (allPlaces (pos 0)) (allPlaces (pos 0))) ≡ srlRoom 1
   pub raw-reached : length (rawBytes floorRule oneLower (allPlaces (pos 1)) (allPlaces (pos 0)) (allPlaces (pos 1))) ≡ rawRoom 1

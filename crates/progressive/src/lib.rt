@@ -46,8 +46,8 @@ pub fn missing_bits()
     ensures { λ _. ⌜ PassMissingBits ⌝ }
 {}
 
-// With outputs of 504 * 2^w + 2 bytes for the SRL stream and 512 * w for the raw stream no pass that lowers no position by more than w is refused by 7, by
-// either rule; with those of w = 15, which are 16,515,074 and 7,680 bytes, no pass at all.
+// A pass that lowers each position by at most w is never refused by 7, by either rule, where its outputs have 504 * 2^w + 2 bytes for the SRL stream and
+// 512 * w for the raw stream. At w = 15 these are 16,515,074 and 7,680 bytes, which suffice for every pass.
 pub fn room_suffices()
     ensures { λ _. ⌜ RoomSuffices ⌝ }
 {}
