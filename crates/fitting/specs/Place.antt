@@ -41,7 +41,7 @@ pub record Fits (bottom : Bool) (p : ℕ) (x : Place) : Type 0 where
 
 -- ════ levels ════
 
--- the level of a coefficient, which passes only raise: "in magnitude, and in the bottom in value", there how far it lies above -32768
+-- "the level of a coefficient is its magnitude, and in the bottom its value plus 32768"; passes only raise it
 abbrev pub levelOf : Bool → ℤ → ℕ
 levelOf true (pos n) = n + 32768
 levelOf true (negsuc n) = 32767 - n

@@ -1,4 +1,4 @@
--- A tile sharpened by any list of passes towards a target: the statement (docs/SCOPE.md, "Ladders"; docs/LADDER.md explains it line by line).
+-- A tile sharpened towards a target by any list of passes: the statement (docs/SCOPE.md, "Ladders"; docs/LADDER.md explains it line by line).
 -- A pass is written by the definitions that the contract of `encode_upgrade_pass_symmetric` cites, and read by the one of `decode_upgrade`.
 use mathlib.Core.Path.{_≡_}
 use mathlib.Core.Bool.{Bool, true}
@@ -28,7 +28,7 @@ pub record IsTarget (target : List ℤ) : Type 0 where
   -- `mag` is n both for n and for -(n + 1)
   pub sixteen-bits : (i : ℕ) → mag (getD target i (pos 0)) < 32768
 
--- a coefficient of band b, cut at a row, and its sign: of the cut, and in the bottom the sign s
+-- a place of band b of the target cut at a row: "its coefficient and sign are those of the cut, in the bottom .. its sign is anything", s
 abbrev pub cutPlace : ℕ → List ℕ → ℤ → ℤ → Place
 cutPlace b row c s = place (cutAt (isBottom b) (positionOf row b) c) (cutSignAt (isBottom b) (positionOf row b) c s)
 
@@ -42,7 +42,8 @@ cutIn target t positions k i =
     cutPlace (getD (bandsOf (t .«use_reduce_extrapolate»)) i 0) (rowOf k positions)
     (getD (component k target) i (pos 0)) (placeIn t k i .sign)
 
--- "a tile is its target cut at its positions if" each place is, "no position or quantizer is above 15, and its numbers of zero signs are right"
+-- "a tile is its target cut at its positions if each place of each component is .. and if no position or quantizer of the tile is above 15, and its
+-- numbers of zero signs are right"
 pub record IsCut (target : List ℤ) (t : TileState) : Type 0 where
   pub aim : IsTarget target
   -- the arrays are as long as their types say
@@ -92,19 +93,19 @@ pub record Writes (cs target : List ℤ) (t : TileState) (rows : List (List ℕ)
   pub raw : rawBytes symmetricRule (stepsOf (t .«use_reduce_extrapolate») (t .«prog_quant») rows k) cs
       (component k (t .coefficients)) (component k (t .sign)) ≡ rawFor target t rows k
 
--- "the writer may be given the target, or the target cut at the positions of the pass"
+-- "the writer may be given the target, or the target cut at the positions of the pass: it writes the same bytes"
 pub record WritesBoth (target : List ℤ) (t : TileState) (rows : List (List ℕ)) (k : ℕ) : Type 0 where
   pub from-target : Writes (component k target) target t rows k
   pub from-cut : Writes (cutComponent (t .«use_reduce_extrapolate») (of rows k) (component k target)) target t rows k
 
--- ════ a ladder: a list of passes, each written for the tile that the one before left ════
+-- ════ a ladder: "a list of passes .. each written .. from the target and the tile as it then is .. and read by `decode_upgrade`" ════
 
 -- "none raises a position"
 unfoldable pub Lowering : List ℕ → List Pass → Type 0
 Lowering positions [] = Unit {0}
 Lowering positions (o ∷ os) = Lower positions (joined (of (o .rows))) × Lowering (joined (of (o .rows))) os
 
--- "the last positions": those of the last pass, or the starting ones if there is none
+-- "the last positions are those of the last pass, or the starting ones if there is none"
 unfoldable pub lastPositions : List ℕ → List Pass → List ℕ
 lastPositions positions [] = positions
 lastPositions positions (o ∷ os) = lastPositions (joined (of (o .rows))) os
@@ -128,9 +129,9 @@ EachWrite P target t (o ∷ os) =
 
 -- of one ladder
 pub record Ends (target : List ℤ) (t : TileState) (os : List Pass) : Type 0 where
-  -- "no call is refused, neither a writing one"
+  -- "no call of a ladder is refused, neither a writing one ..
   pub written : EachWrite (WritesBoth target) target t os
-  -- "nor a reading one"
+  -- .. nor a reading one"
   pub read : answersTo t (callsFor target t os) ≡ replicate (length os) (answered 0)
   -- "at the end the coefficients, and the signs outside the bottom, are those of the target cut at the last positions; bottom signs are what they were"
   pub each : (k i : ℕ) → k < 3 → i < 4096
@@ -138,7 +139,7 @@ pub record Ends (target : List ℤ) (t : TileState) (os : List Pass) : Type 0 wh
   -- the tile's positions are the last ones, and its layout stays
   pub positions : sharpened target t os .«prog_quant» ≡ lastPositions (t .«prog_quant») os
   pub layout : sharpened target t os .«use_reduce_extrapolate» ≡ t .«use_reduce_extrapolate»
-  -- so it is its target cut again
+  -- "so the tile is its target cut again"
   pub cut : IsCut target (sharpened target t os)
 
 -- for every target, every tile that is its target cut, and every list of passes of which none raises a position

@@ -9,12 +9,12 @@ use Rattle.fitting.specs.Place.{levelOf}
 
 -- of a coefficient c, in the bottom or not, and positions p and q
 pub record LevelLaw : Type 0 where
-  -- "the level of a cut is the level less its rest below 2^p"
+  -- "the level of a cut at p is the level less its rest below 2^p"
   pub cut : (b : Bool) (p : ℕ) (c : ℤ) → p ≤ 15 → mag c < 32768 → levelOf b (cutAt b p c) ≡ levelOf b c - levelOf b c % 2 ^ p
-  -- "from the cut at p to the cut at q it gains that rest, rounded down to steps of 2^q"
+  -- "from there to the cut at q, not above p, it gains that rest in whole steps of 2^q ..
   pub gain : (b : Bool) (p q : ℕ) (c : ℤ) → q ≤ p → p ≤ 15 → mag c < 32768
       → levelOf b (cutAt b q c) ≡ levelOf b (cutAt b p c) + 2 ^ q * (levelOf b c % 2 ^ p / 2 ^ q)
-  -- "fewer than 2^(p - q) steps"
+  -- .. which are fewer than 2^(p - q)"
   pub steps : (p q n : ℕ) → q ≤ p → n % 2 ^ p / 2 ^ q < 2 ^ (p - q)
   -- "the rest does not fall as the position rises"
   pub rest : (p q n : ℕ) → q ≤ p → n % 2 ^ q ≤ n % 2 ^ p
