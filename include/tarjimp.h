@@ -187,8 +187,11 @@ uint8_t tarjimp_encode_upgrade_pass(const int16_t *coefficients, size_t coeffici
  * are what the reader has: the same cut at prev, outside LL3 with the bits below
  * prev of its magnitude 0, in LL3 by floor, and signs outside LL3 are those of
  * prev_coefficients. Then 5 cannot happen, and the reader comes to the picture
- * cut at curr (proved: cut_round_trip in crates/progressive).
- * Refusals: 1, 2, 5, 7.
+ * cut at curr (proved: cut_round_trip in crates/progressive). So it does not
+ * matter in how many passes a picture is sent: where none raises a position, a
+ * tile ends at the picture cut at the last positions, and no call is refused
+ * (proved: ladder_does_not_matter in crates/ladder).
+ * Refusals: 1, 2, 5, 7 (not with the room above).
  */
 uint8_t tarjimp_encode_upgrade_pass_symmetric(const int16_t *coefficients, size_t coefficients_len,
                                               const int16_t *prev_coefficients, size_t prev_coefficients_len,
