@@ -224,7 +224,8 @@ pub fn encode_upgrade_pass(
 ///
 /// `coefficients` may be the picture itself in every pass. `prev_coefficients` are what the reader has of
 /// it: cut at the previous positions, outside LL3 with its sign kept, in LL3 by floor. Then no magnitude is
-/// too large.
+/// too large, and the reader comes to the picture cut at the current positions: in how many passes it is sent
+/// does not matter.
 ///
 /// # Errors
 ///

@@ -101,9 +101,9 @@ module _ {p q : List ℕ} {tg ss : List ℤ} (a : CutAsked p q tg ss) (e : Bool)
   raw-alike = ap (rawStream (rawWidths (steps e p q) sg)) (alike .numbers)
 
   pub from-cut : (srlOut rawOut : List ℕ)
-      → length (srlBytes symmetricRule (steps e p q) tg ps sg) ≤ length srlOut → length (rawBytes symmetricRule (steps e p q) tg ps sg) ≤ length rawOut
+      → length (srlBytes symmetricRule (steps e p q) (cutComponent e q tg) ps sg) ≤ length srlOut
+      → length (rawBytes symmetricRule (steps e p q) (cutComponent e q tg) ps sg) ≤ length rawOut
       → encodePassRefusal symmetricRule (cutComponent e q tg) ps p q sg e srlOut rawOut ≡ 0
-  from-cut srlOut rawOut h k =
+  from-cut =
       accepts (cutComponent e q tg) (component-long e q tg ss lt ls)
       (ap (valuesFault (srlWidths (steps e p q) sg)) (alike .values) ∙ brings .sent .srl-fits)
-      srlOut rawOut (rw srl-alike h) (rw raw-alike k)

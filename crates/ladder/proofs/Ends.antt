@@ -28,7 +28,7 @@ use Rattle.fitting.specs.Place.{Place, place}
 use Rattle.fitting.specs.Component.{placeAt}
 use Rattle.reach.specs.Reach.{Pass, AllRows, afterCall, pictureOf}
 use Rattle.reach.proofs.Tiles.{by-components, picture-path}
-use Rattle.ladder.specs.Ladder.{IsTarget, IsCut, placeIn, cutIn, cutPlace, srlFor, rawFor, callFor, writeRefusal, WritesBoth, Lowering, lastPositions, sharpened, EachWrite, Ends, LadderDoesNotMatter}
+use Rattle.ladder.specs.Ladder.{IsTarget, IsCut, placeIn, cutIn, cutPlace, srlWritten, rawWritten, callFor, writeRefusal, WritesBoth, Lowering, lastPositions, sharpened, EachWrite, Ends, LadderDoesNotMatter}
 use Rattle.ladder.specs.Corollaries.{SameEnd, NeverRefused, NothingRefused, Whole, WholeAtZero}
 use Rattle.ladder.proofs.CutPlaces.{cut-places, coefficients-are, signs-are}
 use Rattle.ladder.proofs.Ladders.{CutBy, Climbed, climb}
@@ -182,8 +182,8 @@ never-refused target t rows k w srlOut rawOut h j =
     let ss = component k (t .sign) in
     let p = rowOf k (t .«prog_quant») in
     let e = t .«use_reduce_extrapolate» in
-    let a = srlFor target t rows k in
-    let b = rawFor target t rows k in
+    let a = srlWritten tg t rows k in
+    let b = rawWritten tg t rows k in
     let room : writeRefusal tg t rows k srlOut rawOut ≡ noRoomFor a srlOut b rawOut =
     room-counts (unless (longEnough tg && (longEnough cs && longEnough ss)) sliceTooShort) (unless (rowInDomain p && rowInDomain (of rows k)) outOfDomain)
     (passFault symmetricRule (steps e p (of rows k)) tg cs ss) (noRoomFor a a b b) (w .from-target .accepted a b (omega arith) (omega arith)) (noRoomFor a srlOut b rawOut) in

@@ -25,7 +25,7 @@ use Rattle.tile.specs.declared.TileState.{TileState}
 use Rattle.tile.proofs.Accepted.{by-rows}
 use Rattle.reach.specs.Reach.{Pass, Call, afterCall, afterCalls, answersTo, ThreeRows, AllRows, Lower}
 use Rattle.reach.proofs.Tiles.{given-row, rows-in-domain, lower-row}
-use Rattle.ladder.specs.Ladder.{IsTarget, srlFor, rawFor, callFor, callsFor, Lowering, lastPositions, sharpened, Writes, WritesBoth, EachWrite}
+use Rattle.ladder.specs.Ladder.{IsTarget, srlWritten, rawWritten, callFor, callsFor, Lowering, lastPositions, sharpened, Writes, WritesBoth, EachWrite}
 use Rattle.ladder.proofs.CutPlaces.{component-long, signs-long, each-passes, lower-domain, brings, from-target, from-cut, srl-alike, raw-alike}
 
 -- ════ parts of three ════
@@ -144,13 +144,13 @@ module _ {target : List ℤ} (aim : IsTarget target) (sg : ℕ → List ℤ) (lo
     coefficients-are : (k : ℕ) → k < 3 → coefficients k ≡ cutComponent e (of (o .rows) k) (component k target)
     unfolding coefficients c e
     coefficients-are k m =
-        ap₂ (λ (x y : List ℕ). upgradedCoefficients (stepsOf e (t .«prog_quant») (o .rows) k) x y (component k (t .coefficients)) (component k (t .sign))) (three-of (srlFor target t (o .rows)) k m) (three-of (rawFor target t (o .rows)) k m)
+        ap₂ (λ (x y : List ℕ). upgradedCoefficients (stepsOf e (t .«prog_quant») (o .rows) k) x y (component k (t .coefficients)) (component k (t .sign))) (three-of (λ k. srlWritten (component k target) t (o .rows) k) k m) (three-of (λ k. rawWritten (component k target) t (o .rows) k) k m)
         ∙ brought k m .coefficients
 
     signs-are : (k : ℕ) → k < 3 → signs k ≡ cutComponentSigns e (of (o .rows) k) (component k target) (sg k)
     unfolding signs c e
     signs-are k m =
-        ap (λ (x : List ℕ). upgradedSigns (stepsOf e (t .«prog_quant») (o .rows) k) x (component k (t .sign))) (three-of (srlFor target t (o .rows)) k m)
+        ap (λ (x : List ℕ). upgradedSigns (stepsOf e (t .«prog_quant») (o .rows) k) x (component k (t .sign))) (three-of (λ k. srlWritten (component k target) t (o .rows) k) k m)
         ∙ brought k m .signs
 
     long-coefficients : Long 4096 coefficients

@@ -57,17 +57,23 @@ pub record IsCut (target : List ℤ) (t : TileState) : Type 0 where
 
 -- ════ a pass, written for the tile as it is ════
 
--- the SRL stream of component k: from the tile's positions to the rows given, towards the target
-abbrev pub srlFor : List ℤ → TileState → List (List ℕ) → ℕ → List ℕ
-srlFor target t rows k =
+-- what the writer makes for component k, from the tile's positions to the rows given, with cs for a target: the SRL stream
+abbrev pub srlWritten : List ℤ → TileState → List (List ℕ) → ℕ → List ℕ
+srlWritten cs t rows k =
     srlBytes symmetricRule (stepsOf (t .«use_reduce_extrapolate») (t .«prog_quant») rows k)
-    (component k target) (component k (t .coefficients)) (component k (t .sign))
+    cs (component k (t .coefficients)) (component k (t .sign))
 
--- and the raw stream
-abbrev pub rawFor : List ℤ → TileState → List (List ℕ) → ℕ → List ℕ
-rawFor target t rows k =
+-- the raw stream
+abbrev pub rawWritten : List ℤ → TileState → List (List ℕ) → ℕ → List ℕ
+rawWritten cs t rows k =
     rawBytes symmetricRule (stepsOf (t .«use_reduce_extrapolate») (t .«prog_quant») rows k)
-    (component k target) (component k (t .coefficients)) (component k (t .sign))
+    cs (component k (t .coefficients)) (component k (t .sign))
+
+-- and why it refuses
+abbrev pub writeRefusal : List ℤ → TileState → List (List ℕ) → ℕ → List ℕ → List ℕ → ℕ
+writeRefusal cs t rows k srlOut rawOut =
+    encodePassRefusal symmetricRule cs (component k (t .coefficients)) (rowOf k (t .«prog_quant»)) (of rows k)
+    (component k (t .sign)) (t .«use_reduce_extrapolate») srlOut rawOut
 
 -- one thing for each component
 abbrev pub threeOf : {A : Type 0} → (ℕ → A) → List A
@@ -75,23 +81,20 @@ threeOf f = three (f 0) (f 1) (f 2)
 
 -- the pass with its six streams
 abbrev pub callFor : List ℤ → TileState → Pass → Call
-callFor target t o = record { pass = o; srlData = threeOf (srlFor target t (o .rows)); rawData = threeOf (rawFor target t (o .rows)) }
+callFor target t o =
+    record {
+      pass = o;
+      srlData = threeOf (λ k. srlWritten (component k target) t (o .rows) k);
+      rawData = threeOf (λ k. rawWritten (component k target) t (o .rows) k);
+    }
 
--- why the writer of component k refuses, given cs for a target
-abbrev pub writeRefusal : List ℤ → TileState → List (List ℕ) → ℕ → List ℕ → List ℕ → ℕ
-writeRefusal cs t rows k srlOut rawOut =
-    encodePassRefusal symmetricRule cs (component k (t .coefficients)) (rowOf k (t .«prog_quant»)) (of rows k)
-    (component k (t .sign)) (t .«use_reduce_extrapolate») srlOut rawOut
-
--- given cs, the writer is not refused and writes the streams of the pass
+-- given cs, the writer is not refused, and writes the streams of the pass
 pub record Writes (cs target : List ℤ) (t : TileState) (rows : List (List ℕ)) (k : ℕ) : Type 0 where
   -- "with outputs long enough"
-  pub accepted : (srlOut rawOut : List ℕ) → length (srlFor target t rows k) ≤ length srlOut
-      → length (rawFor target t rows k) ≤ length rawOut → writeRefusal cs t rows k srlOut rawOut ≡ 0
-  pub srl : srlBytes symmetricRule (stepsOf (t .«use_reduce_extrapolate») (t .«prog_quant») rows k) cs
-      (component k (t .coefficients)) (component k (t .sign)) ≡ srlFor target t rows k
-  pub raw : rawBytes symmetricRule (stepsOf (t .«use_reduce_extrapolate») (t .«prog_quant») rows k) cs
-      (component k (t .coefficients)) (component k (t .sign)) ≡ rawFor target t rows k
+  pub accepted : (srlOut rawOut : List ℕ) → length (srlWritten cs t rows k) ≤ length srlOut
+      → length (rawWritten cs t rows k) ≤ length rawOut → writeRefusal cs t rows k srlOut rawOut ≡ 0
+  pub srl : srlWritten cs t rows k ≡ srlWritten (component k target) t rows k
+  pub raw : rawWritten cs t rows k ≡ rawWritten (component k target) t rows k
 
 -- "the writer may be given the target, or the target cut at the positions of the pass: it writes the same bytes"
 pub record WritesBoth (target : List ℤ) (t : TileState) (rows : List (List ℕ)) (k : ℕ) : Type 0 where
