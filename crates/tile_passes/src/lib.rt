@@ -7,10 +7,10 @@ ghost use lib.ListN.{length};
 pub mod compare;
 
 // The room for the SRL stream of a component. A stream that does not fit is refused.
-pub const SRL: usize = 131072;
+const SRL: usize = 131072;
 
 // The room for the raw stream of a component, which has at most 7,680 bytes.
-pub const RAW: usize = 8192;
+const RAW: usize = 8192;
 
 // ---- written
 
@@ -22,9 +22,9 @@ struct Written {
 }
 
 // The streams of a pass: a refusal or 0, and six lengths, of Y SRL, Y raw, Cb SRL, and so on.
-pub struct Streams {
-    pub refusal: u8,
-    pub lengths: [usize; 6],
+struct Streams {
+    refusal: u8,
+    lengths: [usize; 6],
 }
 
 // Writes the streams of a component by the symmetric rule, or by the source's.
@@ -117,12 +117,12 @@ fn first_refusal(a: u8, b: u8, c: u8) -> u8 {
     c
 }
 
-// Writes the streams of all three components, from positions to positions, in a layout.
+// Writes the streams of all three components with coefficients `cs` and signs `ss`, from positions to positions, in the layout `e`.
 fn write_all(
     symmetric: bool,
     target: &[i16],
-    coefficients: &[i16],
-    signs: &[i8],
+    cs: &[i16],
+    ss: &[i8],
     prev: [u8; 30],
     curr: [u8; 30],
     e: bool,
@@ -130,45 +130,12 @@ fn write_all(
     raw: &mut [u8],
 ) -> Streams
     requires { ⌜
-        (length (now target) ≡ 12288) × (length (now coefficients) ≡ 12288) × (length (now signs) ≡ 12288)
-        × (length (now srl) ≡ 393216) × (length (now raw) ≡ 24576) ⌝ }
+        (length (now target) ≡ 12288) × (length (now cs) ≡ 12288) × (length (now ss) ≡ 12288) × (length (now srl) ≡ 393216)
+        × (length (now raw) ≡ 24576) ⌝ }
 {
-    let y = write_at(
-        0,
-        symmetric,
-        target,
-        coefficients,
-        signs,
-        prev,
-        curr,
-        e,
-        srl,
-        raw,
-    );
-    let cb = write_at(
-        1,
-        symmetric,
-        target,
-        coefficients,
-        signs,
-        prev,
-        curr,
-        e,
-        srl,
-        raw,
-    );
-    let cr = write_at(
-        2,
-        symmetric,
-        target,
-        coefficients,
-        signs,
-        prev,
-        curr,
-        e,
-        srl,
-        raw,
-    );
+    let y = write_at(0, symmetric, target, cs, ss, prev, curr, e, srl, raw);
+    let cb = write_at(1, symmetric, target, cs, ss, prev, curr, e, srl, raw);
+    let cr = write_at(2, symmetric, target, cs, ss, prev, curr, e, srl, raw);
     Streams {
         refusal: first_refusal(y.refusal, cb.refusal, cr.refusal),
         lengths: [y.srl, y.raw, cb.srl, cb.raw, cr.srl, cr.raw],
@@ -186,21 +153,11 @@ fn write(
 ) -> Streams
     requires { ⌜ (length (now target) ≡ 12288) × (length (now srl) ≡ 393216) × (length (now raw) ≡ 24576) ⌝ }
 {
-    let coefficients = t.coefficients;
-    let signs = t.sign;
+    let cs = t.coefficients;
+    let ss = t.sign;
     let prev = t.prog_quant;
     let e = t.use_reduce_extrapolate;
-    write_all(
-        symmetric,
-        target,
-        &coefficients,
-        &signs,
-        prev,
-        rows,
-        e,
-        srl,
-        raw,
-    )
+    write_all(symmetric, target, &cs, &ss, prev, rows, e, srl, raw)
 }
 
 // ---- what arrives of them
