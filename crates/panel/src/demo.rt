@@ -1,4 +1,5 @@
 // The demo: a whole stream and a cut one, stage by stage.
+use crate::ladders;
 use crate::passes;
 use panel_output::files;
 use panel_output::images;
@@ -144,7 +145,7 @@ fn first(
         (picture < 8) × (length (now full) ≡ 12288) × (length (now file) ≤ 64) × (length (now folder) ≤ 3072)
         × (length (now reference) ≡ 16384) × (length (now pictures) ≡ 131072) ⌝ }
 {
-    let done = passes::loaded(full, panel_streams::positions(0));
+    let done = passes::loaded(full, passes::positions(0));
     let answer = done.answer;
     let t = done.tile;
     let refusal = answer::number_of(answer);
@@ -189,7 +190,7 @@ fn next(
         return before;
     }
     let t = before.tile;
-    let made = passes::pass(full, t, stage, is_cut);
+    let made = passes::pass(full, t, passes::positions(stage), is_cut);
     let tile = made.tile;
     if made.refusal != 0 {
         refusals::say(made.refusal);
@@ -334,14 +335,22 @@ fn uncut(full: &[i16], reference: &mut [u8]) -> bool
     true
 }
 
-// The cut run, the image of both runs, the end of the report, and the bands.
-fn after_whole(
-    whole: report::Figures,
-    full: &[i16],
-    folder: &[u8],
-    reference: &[u8],
-    pictures: &mut [u8],
-)
+// What both runs came to, other ladders beside the whole stream's, and the bands.
+fn closing_report(whole: Run, cut: report::Figures, full: &[i16], folder: &[u8], pictures: &[u8])
+    requires { ⌜ (length (now full) ≡ 12288) × (length (now folder) ≤ 3072) × (length (now pictures) ≡ 131072) ⌝ }
+{
+    report::summary(whole.figures, cut, folder);
+    let t = whole.tile;
+    if !ladders::others(full, t, whole.bits, pictures) {
+        return;
+    }
+    if places::save(folder, b"bands.png") {
+        places::legend(folder);
+    }
+}
+
+// The cut run, the image of both runs, and the end of the report.
+fn after_whole(whole: Run, full: &[i16], folder: &[u8], reference: &[u8], pictures: &mut [u8])
     requires { ⌜
         (length (now full) ≡ 12288) × (length (now folder) ≤ 3072) × (length (now reference) ≡ 16384)
         × (length (now pictures) ≡ 131072) ⌝ }
@@ -353,10 +362,7 @@ fn after_whole(
     if !images::save_grid(folder, b"sharpening.png", pictures) {
         return;
     }
-    report::summary(whole, b.figures, folder);
-    if places::save(folder, b"bands.png") {
-        places::legend(folder);
-    }
+    closing_report(whole, b.figures, full, folder, pictures);
 }
 
 fn both_runs(full: &[i16], folder: &[u8], reference: &[u8], pictures: &mut [u8])
@@ -368,7 +374,7 @@ fn both_runs(full: &[i16], folder: &[u8], reference: &[u8], pictures: &mut [u8])
     if !a.is_good {
         return;
     }
-    after_whole(a.figures, full, folder, reference, pictures);
+    after_whole(a, full, folder, reference, pictures);
 }
 
 // Eight pictures, the last of which is ground only, and both runs.
@@ -389,10 +395,10 @@ fn with_panel(full: &[i16], folder: &[u8])
         return;
     }
     report::introduce([
-        panel_streams::positions(0),
-        panel_streams::positions(1),
-        panel_streams::positions(2),
-        panel_streams::positions(3),
+        passes::positions(0),
+        passes::positions(1),
+        passes::positions(2),
+        passes::positions(3),
     ]);
     with_reference(full, folder, &reference);
 }

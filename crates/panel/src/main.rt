@@ -1,11 +1,12 @@
 // `panel demo [FOLDER]` shows a picture that sharpens: a panel with the lens power -0.75 is drawn, its coefficients are cut to a first picture,
 // and three upgrade passes bring the rest, once whole and once cut half-way in the second pass. Each stage is written as a PNG image, with a
-// line of figures; the last image has the places of a component, coloured by band. FOLDER is where the images go, the folder `pictures` if none is
-// named; it is made where it is not there.
+// line of figures; the last image has the places of a component, coloured by band. Two other ladders, of one pass and of six, are compared with the
+// whole stream. FOLDER is where the images go, the folder `pictures` if none is named; it is made where it is not there.
 use check::same;
 use panel_output::report;
 
 mod demo;
+mod ladders;
 mod passes;
 
 // Whether the first argument is the word `demo`.

@@ -1,6 +1,28 @@
-// A tile: its first cut, and the passes that the port's writer and reader make of it.
+// The tile of the demo: its positions stage by stage, its first cut, and its passes.
+use panel_picture::cut;
 ghost use mathlib.Core.Path.{_≡_};
+ghost use Prim.Native.Nat.{_≤_};
 ghost use lib.ListN.{length};
+
+// The positions after a stage, in band order. No magnitude outside the bottom reaches 2 to the 7, so that the first cut is the bottom alone, in steps
+// of 16.
+pub fn positions(stage: usize) -> [u8; 10] {
+    match stage {
+        0 => [7, 7, 7, 7, 7, 7, 7, 7, 7, 4],
+        1 => [6, 6, 6, 6, 6, 6, 5, 5, 5, 2],
+        2 => [4, 4, 4, 4, 4, 4, 3, 3, 3, 1],
+        _ => [0; 10],
+    }
+}
+
+// Cuts the component with a number at positions, of the coefficients of all three.
+fn cut_at(full: &[i16], k: usize, row: [u8; 10], out: &mut [i16], signs: &mut [i8])
+    requires { ⌜ (k ≤ 2) × (length (now full) ≡ 12288) × (4096 ≤ length (now out)) × (4096 ≤ length (now signs)) ⌝ }
+{
+    let from = bands::COEFFICIENTS_PER_COMPONENT * k;
+    let to = from + bands::COEFFICIENTS_PER_COMPONENT;
+    cut::cut_component(&full[from..to], row, out, signs);
+}
 
 // The tile with the coefficients cut at positions, in the reduce-extrapolate layout, with quantizers that leave a value.
 pub fn loaded(full: &[i16], row: [u8; 10]) -> tile::Loaded
@@ -12,9 +34,9 @@ pub fn loaded(full: &[i16], row: [u8; 10]) -> tile::Loaded
     let mut cb_sign = [0i8; bands::COEFFICIENTS_PER_COMPONENT];
     let mut cr = [0i16; bands::COEFFICIENTS_PER_COMPONENT];
     let mut cr_sign = [0i8; bands::COEFFICIENTS_PER_COMPONENT];
-    panel_streams::cut_at(full, 0, row, &mut y, &mut y_sign);
-    panel_streams::cut_at(full, 1, row, &mut cb, &mut cb_sign);
-    panel_streams::cut_at(full, 2, row, &mut cr, &mut cr_sign);
+    cut_at(full, 0, row, &mut y, &mut y_sign);
+    cut_at(full, 1, row, &mut cb, &mut cb_sign);
+    cut_at(full, 2, row, &mut cr, &mut cr_sign);
     tile::TileState::load(
         &y,
         &y_sign,
@@ -28,74 +50,9 @@ pub fn loaded(full: &[i16], row: [u8; 10]) -> tile::Loaded
     )
 }
 
-// Reads a pass from streams of six lengths, which begin at every 16,384th byte.
-fn decoded(
-    t: tile::TileState,
-    srl: &[u8],
-    raw: &[u8],
-    lengths: [usize; 6],
-    row: [u8; 10],
-) -> tile::Upgraded
-    requires { ⌜ (length (now srl) ≡ 49152) × (length (now raw) ≡ 49152) ⌝ }
-{
-    let y_srl = panel_streams::at_most(lengths[0], panel_streams::STREAM);
-    let y_raw = panel_streams::at_most(lengths[1], panel_streams::STREAM);
-    let cb_srl = panel_streams::STREAM + panel_streams::at_most(lengths[2], panel_streams::STREAM);
-    let cb_raw = panel_streams::STREAM + panel_streams::at_most(lengths[3], panel_streams::STREAM);
-    let cr_srl = 32768 + panel_streams::at_most(lengths[4], panel_streams::STREAM);
-    let cr_raw = 32768 + panel_streams::at_most(lengths[5], panel_streams::STREAM);
-    t.decode_upgrade(
-        &srl[..y_srl],
-        &raw[..y_raw],
-        &srl[16384..cb_srl],
-        &raw[16384..cb_raw],
-        &srl[32768..cr_srl],
-        &raw[32768..cr_raw],
-        [row; 3],
-        0,
-    )
-}
-
-// ---- a pass
-
-// What became of a pass: a refusal or 0, the bits that arrived and those that were missing, and the tile then.
-pub struct Made {
-    pub refusal: u8,
-    pub bits: u64,
-    pub missing: u64,
-    pub tile: tile::TileState,
-}
-
-// Makes a pass of the tile to the positions of a stage; where it is cut, only the first half of its bytes arrives.
-pub fn pass(full: &[i16], t: tile::TileState, stage: usize, is_cut: bool) -> Made
+// Makes a pass of the tile to the same positions in each component, by the symmetric rule; where it is cut, only the first half of its bytes arrives.
+pub fn pass(full: &[i16], t: tile::TileState, row: [u8; 10], is_cut: bool) -> tile_passes::Passed
     requires { ⌜ length (now full) ≡ 12288 ⌝ }
 {
-    let mut srl = [0u8; 49152];
-    let mut raw = [0u8; 49152];
-    let cs = t.coefficients;
-    let ss = t.sign;
-    let rows = t.prog_quant;
-    let prev = planes::row_at(rows, 0);
-    let row = panel_streams::positions(stage);
-    let written = panel_streams::write_all(full, &cs, &ss, prev, row, &mut srl, &mut raw);
-    if written.refusal != 0 {
-        return Made {
-            refusal: written.refusal,
-            bits: 0,
-            missing: 0,
-            tile: t,
-        };
-    }
-    let all = written.lengths;
-    let lengths = panel_streams::half_if(all, is_cut);
-    let done = decoded(t, &srl, &raw, lengths, row);
-    let answer = done.answer;
-    let missing = done.missing;
-    let tile = done.tile;
-    Made {
-        refusal: answer::number_of(answer),
-        bits: panel_streams::total(lengths) as u64 * 8,
-        missing: missing.srl as u64 + missing.raw as u64,
-        tile,
-    }
+    tile_passes::pass(true, full, t, planes::flat_rows([row; 3]), is_cut)
 }

@@ -2,6 +2,7 @@
 // safe and to end.
 pub mod files;
 pub mod images;
+pub mod ladder;
 pub mod places;
 pub mod refusals;
 pub mod report;

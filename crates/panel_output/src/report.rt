@@ -8,7 +8,7 @@ pub fn error(line: &[u8]) {
 
 pub fn usage() {
     error(
-        b"usage: panel demo [FOLDER]\nwrites nine PNG images to FOLDER, or to the folder pictures, which is made where it is not there,\nand a line for each stage to standard output\n",
+        b"usage: panel demo [FOLDER]\nwrites nine PNG images to FOLDER, or to the folder pictures, which is made where it is not there,\nand a line for each stage and for each of two other ladders to standard output\n",
     );
 }
 
@@ -32,7 +32,7 @@ fn word(bytes: &[u8], width: usize) {
 }
 
 // A number, with spaces in front of it.
-fn number(n: u64, width: usize) {
+pub fn number(n: u64, width: usize) {
     let mut digits = [0u8; 20];
     let k = io::decimal(n, &mut digits);
     pad(k, width);

@@ -1,8 +1,8 @@
--- `panel_streams::arrived` is safe and ends. Assumes nothing.
+-- `tile_passes::arrived` is safe and ends. Assumes nothing.
 use Prim.Native.Nat.{_-_, _≤_}
 use borrow.Author.Needs.{needs}
-use Rattle.panel_streams.proofs.arrived.Statement.{statement}
-use Rattle.panel_streams.proofs.arrived.Tie as tie
+use Rattle.tile_passes.proofs.arrived.Statement.{statement}
+use Rattle.tile_passes.proofs.arrived.Tie as tie
 
 abbrev Inv-loop : tie.InvT-loop
 Inv-loop bytes lengths out₀ left₀ i₀ out left i = i ≤ 6

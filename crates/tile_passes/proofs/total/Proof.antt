@@ -1,11 +1,11 @@
--- `panel_streams::total` meets its contract. Assumes nothing.
+-- `tile_passes::total` meets its contract. Assumes nothing.
 use Prim.Native.Nat.{_-_, _*_, _≤_}
 use borrow.Author.Needs.{needs}
-use Rattle.panel_streams.proofs.total.Statement.{statement}
-use Rattle.panel_streams.proofs.total.Tie as tie
+use Rattle.tile_passes.proofs.total.Statement.{statement}
+use Rattle.tile_passes.proofs.total.Tie as tie
 
 abbrev Inv-loop : tie.InvT-loop
-Inv-loop lengths sum₀ i₀ sum i = (i ≤ 6) × (sum ≤ 16384 * i)
+Inv-loop lengths sum₀ i₀ sum i = (i ≤ 6) × (sum ≤ 131072 * i)
 
 abbrev μ-loop : tie.MeasureT-loop
 μ-loop lengths sum₀ i₀ sum i = 6 - i
