@@ -9,12 +9,16 @@ ghost use lib.ListN.{length};
 fn coefficients(w: report::Which, expected: &[i16], found: &[i16]) -> u64
     requires { ⌜ (length (now expected) ≡ 12288) × (length (now found) ≡ 12288) ⌝ }
 {
-    let at = compare::first_coefficient(expected, found);
+    let unlike = compare::coefficients(expected, found);
+    if unlike.count == 0 {
+        return 0;
+    }
+    let at = unlike.first;
     if at >= 12288 {
         return 0;
     }
     report::difference(w, b"coefficient", at, expected[at], found[at]);
-    compare::unlike_coefficients(expected, found) as u64
+    unlike.count
 }
 
 fn show_sign(w: report::Which, at: usize, expected: i8, found: i8) {
@@ -24,12 +28,16 @@ fn show_sign(w: report::Which, at: usize, expected: i8, found: i8) {
 fn signs(w: report::Which, expected: &[i8], found: &[i8]) -> u64
     requires { ⌜ (length (now expected) ≡ 12288) × (length (now found) ≡ 12288) ⌝ }
 {
-    let at = compare::first_sign(expected, found);
+    let unlike = compare::signs(expected, found);
+    if unlike.count == 0 {
+        return 0;
+    }
+    let at = unlike.first;
     if at >= 12288 {
         return 0;
     }
     show_sign(w, at, expected[at], found[at]);
-    compare::unlike_signs(expected, found) as u64
+    unlike.count
 }
 
 // 1 where something else differs.

@@ -68,9 +68,9 @@ fn compare_tiles(
     let other_coefficients = t.coefficients;
     let other_signs = t.sign;
     ladder::Unlike {
-        coefficients: compare::unlike_coefficients(&coefficients, &other_coefficients) as u64,
-        signs: compare::unlike_signs(&signs, &other_signs) as u64,
-        bytes: compare::unlike_bytes(picture, pixels) as u64,
+        coefficients: compare::coefficients(&coefficients, &other_coefficients).count,
+        signs: compare::signs(&signs, &other_signs).count,
+        bytes: compare::bytes(picture, pixels).count,
     }
 }
 

@@ -115,7 +115,8 @@ fn written(
     let to = from + 4096;
     let mut targets = [0i16; 4352];
     fill_target(c, k, extrapolate, prev, curr, &mut targets);
-    match progressive_encoder::encode_upgrade_pass(
+    let counts = pass_by_rule::write(
+        false,
         &targets,
         &coefficients[from..to],
         prev,
@@ -124,9 +125,10 @@ fn written(
         extrapolate,
         srl_out,
         raw_out,
-    ) {
-        progressive_encoder::Written::Bytes(srl, raw) => Lengths { srl, raw },
-        progressive_encoder::Written::Refused(_) => Lengths { srl: 0, raw: 0 },
+    );
+    Lengths {
+        srl: counts.srl,
+        raw: counts.raw,
     }
 }
 

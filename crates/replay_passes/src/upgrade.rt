@@ -6,13 +6,6 @@ use replay_input::number;
 use replay_input::outputs;
 ghost use Prim.Native.Nat.{_≤_};
 
-// What a writer answers: the refusal or 0, and the counts of bytes.
-struct Counts {
-    refusal: u8,
-    srl: usize,
-    raw: usize,
-}
-
 // The number of an answer, 0 where there is no refusal.
 pub fn refusal(answer: answer::Answer) -> u8 {
     match answer {
@@ -96,49 +89,6 @@ pub fn decode_agrees(c: &[u8]) -> bool {
     digest(&befores, &signs) == number::u64_at(c, 44)
 }
 
-// What a writer answers, in numbers.
-fn in_numbers(answer: progressive_encoder::Written) -> Counts {
-    match answer {
-        progressive_encoder::Written::Bytes(srl, raw) => Counts {
-            refusal: 0,
-            srl,
-            raw,
-        },
-        progressive_encoder::Written::Refused(refusal) => Counts {
-            refusal,
-            srl: 0,
-            raw: 0,
-        },
-    }
-}
-
-// Writes a pass by the symmetric rule or by the source's.
-fn write_by(
-    symmetric: bool,
-    target: &[i16],
-    before: &[i16],
-    prev: [u8; 10],
-    curr: [u8; 10],
-    sign: &[i8],
-    e: bool,
-    srl: &mut [u8],
-    raw: &mut [u8],
-) -> progressive_encoder::Written {
-    if symmetric {
-        return progressive_encoder::encode_upgrade_pass_symmetric(
-            target,
-            before,
-            prev,
-            curr,
-            sign,
-            e,
-            srl,
-            raw,
-        );
-    }
-    progressive_encoder::encode_upgrade_pass(target, before, prev, curr, sign, e, srl, raw)
-}
-
 // Writes a pass from the elements that the case lends into the bytes that it lends.
 fn write(
     symmetric: bool,
@@ -148,13 +98,13 @@ fn write(
     signs: &[i8],
     srl_out: &mut [u8],
     raw_out: &mut [u8],
-) -> Counts {
+) -> pass_by_rule::Counts {
     let l = lent(c, 33, targets.len());
     let n = lent(c, 35, befores.len());
     let m = lent(c, 37, signs.len());
     let srl_room = lent(c, 39, srl_out.len());
     let raw_room = lent(c, 41, raw_out.len());
-    in_numbers(write_by(
+    pass_by_rule::write(
         symmetric,
         &targets[..l],
         &befores[..n],
@@ -164,7 +114,7 @@ fn write(
         number::flag_at(c, 12),
         &mut srl_out[..srl_room],
         &mut raw_out[..raw_room],
-    ))
+    )
 }
 
 // Whether the coefficients and signs, and the bits that were missing, are the recorded ones after what was written is read back.
@@ -206,7 +156,7 @@ fn read_back_agrees(
 }
 
 // Whether an answer and both outputs are the recorded ones.
-fn same_written(c: &[u8], counts: Counts, srl_out: &[u8], raw_out: &[u8]) -> bool {
+fn same_written(c: &[u8], counts: pass_by_rule::Counts, srl_out: &[u8], raw_out: &[u8]) -> bool {
     if counts.refusal != number::u8_at(c, 43) {
         return false;
     }

@@ -3,99 +3,65 @@ ghost use mathlib.Core.Path.{_≡_};
 ghost use Prim.Native.Nat.{_≤_};
 ghost use lib.ListN.{length};
 
-// ---- coefficients
-
-fn one_if_unlike(a: i16, b: i16) -> usize
-    ensures { λ r. ⌜ r ≤ 1 ⌝ }
-{
-    if a == b {
-        return 0;
-    }
-    1
+// How many elements differ, and the first of them; where none does the count is 0.
+pub struct Unlike {
+    pub count: u64,
+    pub first: usize,
 }
 
-pub fn unlike_coefficients(a: &[i16], b: &[i16]) -> usize
+fn none() -> Unlike {
+    Unlike { count: 0, first: 0 }
+}
+
+// With one more element looked at.
+fn seen(before: Unlike, is_same: bool, at: usize) -> Unlike {
+    if is_same {
+        return before;
+    }
+    if before.count == 0 {
+        return Unlike {
+            count: 1,
+            first: at,
+        };
+    }
+    Unlike {
+        count: std::num::wrapping_add_u64(before.count, 1),
+        first: before.first,
+    }
+}
+
+pub fn coefficients(a: &[i16], b: &[i16]) -> Unlike
     requires { ⌜ (length (now a) ≡ 12288) × (length (now b) ≡ 12288) ⌝ }
 {
-    let mut n: usize = 0;
+    let mut found = none();
     let mut i: usize = 0;
     while i < bands::COEFFICIENTS_PER_TILE {
-        n += one_if_unlike(a[i], b[i]);
+        found = seen(found, a[i] == b[i], i);
         i += 1;
     }
-    n
+    found
 }
 
-// The first place at which they differ, 12,288 where they do not.
-pub fn first_coefficient(a: &[i16], b: &[i16]) -> usize
+pub fn signs(a: &[i8], b: &[i8]) -> Unlike
     requires { ⌜ (length (now a) ≡ 12288) × (length (now b) ≡ 12288) ⌝ }
 {
+    let mut found = none();
     let mut i: usize = 0;
     while i < bands::COEFFICIENTS_PER_TILE {
-        if one_if_unlike(a[i], b[i]) != 0 {
-            return i;
-        }
+        found = seen(found, a[i] == b[i], i);
         i += 1;
     }
-    i
+    found
 }
 
-// ---- signs
-
-fn one_if_unlike_sign(a: i8, b: i8) -> usize
-    ensures { λ r. ⌜ r ≤ 1 ⌝ }
-{
-    if a == b {
-        return 0;
-    }
-    1
-}
-
-pub fn unlike_signs(a: &[i8], b: &[i8]) -> usize
-    requires { ⌜ (length (now a) ≡ 12288) × (length (now b) ≡ 12288) ⌝ }
-{
-    let mut n: usize = 0;
-    let mut i: usize = 0;
-    while i < bands::COEFFICIENTS_PER_TILE {
-        n += one_if_unlike_sign(a[i], b[i]);
-        i += 1;
-    }
-    n
-}
-
-// The first place at which they differ, 12,288 where they do not.
-pub fn first_sign(a: &[i8], b: &[i8]) -> usize
-    requires { ⌜ (length (now a) ≡ 12288) × (length (now b) ≡ 12288) ⌝ }
-{
-    let mut i: usize = 0;
-    while i < bands::COEFFICIENTS_PER_TILE {
-        if one_if_unlike_sign(a[i], b[i]) != 0 {
-            return i;
-        }
-        i += 1;
-    }
-    i
-}
-
-// ---- bytes
-
-fn one_if_unlike_byte(a: u8, b: u8) -> usize
-    ensures { λ r. ⌜ r ≤ 1 ⌝ }
-{
-    if a == b {
-        return 0;
-    }
-    1
-}
-
-pub fn unlike_bytes(a: &[u8], b: &[u8]) -> usize
+pub fn bytes(a: &[u8], b: &[u8]) -> Unlike
     requires { ⌜ length (now a) ≡ length (now b) ⌝ }
 {
-    let mut n: usize = 0;
+    let mut found = none();
     let mut i: usize = 0;
     while i < a.len() {
-        n += one_if_unlike_byte(a[i], b[i]);
+        found = seen(found, a[i] == b[i], i);
         i += 1;
     }
-    n
+    found
 }

@@ -14,60 +14,10 @@ const RAW: usize = 8192;
 
 // ---- written
 
-// What the writer answers: its refusal or 0, and how many bytes the two streams have.
-struct Written {
-    refusal: u8,
-    srl: usize,
-    raw: usize,
-}
-
 // The streams of a pass: a refusal or 0, and six lengths, of Y SRL, Y raw, Cb SRL, and so on.
 struct Streams {
     refusal: u8,
     lengths: [usize; 6],
-}
-
-// Writes the streams of a component by the symmetric rule, or by the source's.
-fn by_rule(
-    symmetric: bool,
-    target: &[i16],
-    coefficients: &[i16],
-    prev: [u8; 10],
-    curr: [u8; 10],
-    signs: &[i8],
-    e: bool,
-    srl: &mut [u8],
-    raw: &mut [u8],
-) -> progressive_encoder::Written {
-    if symmetric {
-        return progressive_encoder::encode_upgrade_pass_symmetric(
-            target,
-            coefficients,
-            prev,
-            curr,
-            signs,
-            e,
-            srl,
-            raw,
-        );
-    }
-    progressive_encoder::encode_upgrade_pass(target, coefficients, prev, curr, signs, e, srl, raw)
-}
-
-// The answer of the writer as numbers.
-fn numbers(written: progressive_encoder::Written) -> Written {
-    match written {
-        progressive_encoder::Written::Bytes(srl, raw) => Written {
-            refusal: 0,
-            srl,
-            raw,
-        },
-        progressive_encoder::Written::Refused(refusal) => Written {
-            refusal,
-            srl: 0,
-            raw: 0,
-        },
-    }
 }
 
 // Writes the streams of the component with a number. Its target is its uncut coefficients in every pass: the writer cuts them.
@@ -82,7 +32,7 @@ fn write_at(
     e: bool,
     srl: &mut [u8],
     raw: &mut [u8],
-) -> Written
+) -> pass_by_rule::Counts
     requires { ⌜
         (k ≤ 2) × (length (now target) ≡ 12288) × (length (now coefficients) ≡ 12288) × (length (now signs) ≡ 12288)
         × (length (now srl) ≡ 393216) × (length (now raw) ≡ 24576) ⌝ }
@@ -93,7 +43,7 @@ fn write_at(
     let srl_end = srl_at + SRL;
     let raw_at = RAW * k;
     let raw_end = raw_at + RAW;
-    numbers(by_rule(
+    pass_by_rule::write(
         symmetric,
         &target[from..to],
         &coefficients[from..to],
@@ -103,7 +53,7 @@ fn write_at(
         e,
         &mut srl[srl_at..srl_end],
         &mut raw[raw_at..raw_end],
-    ))
+    )
 }
 
 // The first refusal of three, 0 where there is none.
