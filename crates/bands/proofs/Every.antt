@@ -37,6 +37,11 @@ at f [] i d e h = absurd (omega arith)
 at f (x ∷ xs) zero d e h = both-true (f x) (every f xs) e .0
 at f (x ∷ xs) (suc i) d e h = at f xs i d (both-true (f x) (every f xs) e .1) (omega arith)
 
+-- and where each does, every one does
+pub each-passes : {A : Type 0} (f : A → Bool) (l : List A) (d : A) → ((i : ℕ) → i < length l → f (getD l i d) ≡ true) → every f l ≡ true
+each-passes f [] d h = refl
+each-passes f (x ∷ xs) d h = both-pass (f x) (every f xs) (h zero (omega arith)) (each-passes f xs d (λ i k. h (suc i) (omega arith)))
+
 -- so do those of a part, and those of two lists one after another
 module _ {A : Type 0} (f : A → Bool) where
   take-passes : (n : ℕ) (l : List A) → every f l ≡ true → every f (take n l) ≡ true

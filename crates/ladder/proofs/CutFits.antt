@@ -26,7 +26,7 @@ use Rattle.fitting.specs.Place.{Place, place, Multiple, Fits, levelOf}
 use Rattle.fitting.proofs.Level.{cut-multiple}
 use Rattle.fitting.proofs.Families.{place-path, floor-is, level-multiple}
 use Rattle.reach.specs.Reach.{TileFits}
-use Rattle.ladder.specs.Ladder.{IsTarget, IsCut, placeIn, cutPlace}
+use Rattle.ladder.specs.Ladder.{IsCut, placeIn}
 use Rattle.ladder.specs.Corollaries.{CutsFit}
 use Rattle.ladder.proofs.Levels.{abs-times, cut-to, level-cut}
 use Rattle.ladder.proofs.Ladders.{Narrow, narrow-within, part-range}

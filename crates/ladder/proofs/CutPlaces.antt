@@ -1,17 +1,16 @@
 -- A component that is its target cut: place by place, and as lists; then one pass of it, written and read.
-use mathlib.Core.Path.{_≡_, refl, sym, ap, ap₂, _∙_, subst, subst₂}
-use mathlib.Core.Bool.{Bool, true, _&&_}
-use mathlib.Core.List.{List, [], _∷_}
-use Prim.Native.Nat.{ℕ, zero, suc, _≤_, _<_}
+use mathlib.Core.Path.{_≡_, sym, ap, _∙_, subst₂}
+use mathlib.Core.Bool.{Bool, true}
+use mathlib.Core.List.{List}
+use Prim.Native.Nat.{ℕ, _≤_, _<_}
 use native.Mathlib.Omega.{arith}
 use borrow.Author.Tests.{le-leb, le-ltb}
-use lib.Dec.{ltb}
 use lib.IntN.{ℤ, pos}
 use lib.ListN.{length, getD}
 use lib.Seq.{ext-getD}
 use Rattle.bands.specs.Bands.{isBottom, positionOf, bandsOf}
-use Rattle.bands.specs.Positions.{every, inDomain, rowInDomain}
-use Rattle.bands.proofs.Every.{both-pass}
+use Rattle.bands.specs.Positions.{inDomain, rowInDomain}
+use Rattle.bands.proofs.Every.{both-pass, each-passes}
 use Rattle.bands.proofs.Spread.{bands-whole}
 use Rattle.answer.specs.Refusals.{longEnough}
 use Rattle.upgrade_steps.specs.Steps.{steps, srlWidths, rawWidths}
@@ -53,12 +52,6 @@ module _ (e : Bool) (row : List ℕ) (tg ss : List ℤ) (lt : length tg ≡ 4096
     signs-are = ext-getD (pos 0) sg (cutComponentSigns e row tg ss) (lg ∙ sym signs-long) (λ i h. ap (λ x. x .sign) (each i (omega (arith, lg)) ∙ sym (cut-places i (omega (arith, lg)))))
 
 -- ════ rows that fall stay in the domain ════
-
-pub each-passes : {A : Type 0} (f : A → Bool) (l : List A) (d : A) → ((i : ℕ) → i < length l → f (getD l i d) ≡ true) → every f l ≡ true
-each-passes f [] d h = refl
-each-passes f (x ∷ xs) d h =
-    let first : f x ≡ true = h zero (omega arith) in
-    rw first (each-passes f xs d (λ i k. h (suc i) (omega arith)))
 
 pub lower-domain : (p q : List ℕ) → rowInDomain p ≡ true → ((b : ℕ) → positionOf q b ≤ positionOf p b) → rowInDomain q ≡ true
 lower-domain p q d n = each-passes inDomain q 0 (λ i h. le-leb (positionOf q i) 15 (omega (arith, n i, row-low p d i)))

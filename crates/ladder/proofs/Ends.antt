@@ -1,9 +1,9 @@
 -- The theorem, and its corollaries.
-use mathlib.Core.Path.{_≡_, refl, sym, ap, _∙_, subst}
+use mathlib.Core.Path.{_≡_, refl, sym, ap, _∙_}
 use mathlib.Core.Logic.{_≢_}
 use mathlib.Core.Bool.{Bool, true, false, cond, _&&_}
 use mathlib.Core.List.{List, [], _∷_}
-use Prim.Native.Nat.{ℕ, zero, suc, _≤_, _<_}
+use Prim.Native.Nat.{ℕ, zero, suc, _<_}
 use native.Mathlib.Omega.{arith}
 use lib.Dec.{ltb}
 use lib.IntN.{ℤ, pos, negsuc, negℤ, _+ℤ_, +ℤ-idr}
@@ -28,7 +28,7 @@ use Rattle.fitting.specs.Place.{Place, place}
 use Rattle.fitting.specs.Component.{placeAt}
 use Rattle.reach.specs.Reach.{Pass, AllRows, afterCall, pictureOf}
 use Rattle.reach.proofs.Tiles.{by-components, picture-path}
-use Rattle.ladder.specs.Ladder.{IsTarget, IsCut, placeIn, cutIn, cutPlace, srlWritten, rawWritten, callFor, writeRefusal, WritesBoth, Lowering, lastPositions, sharpened, EachWrite, Ends, LadderDoesNotMatter}
+use Rattle.ladder.specs.Ladder.{IsTarget, IsCut, placeIn, cutPlace, srlWritten, rawWritten, callFor, writeRefusal, WritesBoth, Lowering, lastPositions, sharpened, EachWrite, Ends, LadderDoesNotMatter}
 use Rattle.ladder.specs.Corollaries.{SameEnd, NeverRefused, NothingRefused, Whole, WholeAtZero}
 use Rattle.ladder.proofs.CutPlaces.{cut-places, coefficients-are, signs-are}
 use Rattle.ladder.proofs.Ladders.{CutBy, Climbed, climb}

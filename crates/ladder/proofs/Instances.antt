@@ -1,5 +1,5 @@
 -- The hypotheses are met: by every target, cut and loaded, and by one with -32768 and a negative bottom.
-use mathlib.Core.Path.{_≡_, refl, sym, ap, ap₂, _∙_, subst}
+use mathlib.Core.Path.{_≡_, refl, sym, ap, _∙_, subst}
 use mathlib.Core.Bool.{Bool, true, false, cond}
 use mathlib.Core.List.{List, [], _∷_, _++_, map}
 use Prim.Native.Nat.{ℕ, zero, suc, _<_}
@@ -10,21 +10,20 @@ use lib.ListN.{length, getD, take, replicate}
 use lib.Seq.{take-all}
 use lib.Signed.{mag}
 use Rattle.fixed.specs.Fixed.{signOf}
-use Rattle.bands.specs.Bands.{perPlace, isBottom, positionOf, bandsOf}
+use Rattle.bands.specs.Bands.{perPlace, isBottom, bandsOf}
 use Rattle.bands.specs.Positions.{rowsInDomain}
 use Rattle.bands.proofs.Spread.{place-whole, place-map, bands-whole}
 use Rattle.upgrade_steps.specs.Cut.{cutAt, cutSignAt, cutComponent, cutComponentSigns}
-use Rattle.planes.specs.Planes.{component, rowOf, joined, of, taken}
+use Rattle.planes.specs.Planes.{component, joined, of, taken}
 use Rattle.planes.proofs.Joined.{Long, joined-long, parts-long, component-joined}
 use Rattle.tile.specs.Tile.{loaded}
-use Rattle.tile.specs.declared.TileState.{TileState}
-use Rattle.fitting.specs.Place.{Place, place}
+use Rattle.fitting.specs.Place.{place}
 use Rattle.fitting.specs.Component.{placeAt}
 use Rattle.reach.specs.Reach.{ThreeRows, AllRows}
 use Rattle.reach.specs.Corollaries.{rowsAt}
 use Rattle.reach.proofs.Tiles.{given-row, rows-in-domain}
 use Rattle.reach.proofs.Instances.{three-at, row-of, lower-at, same-position, place-at}
-use Rattle.ladder.specs.Ladder.{IsTarget, IsCut, placeIn, cutPlace, threeOf, Lowering, lastPositions}
+use Rattle.ladder.specs.Ladder.{IsTarget, IsCut, cutPlace, threeOf, Lowering, lastPositions}
 use Rattle.ladder.specs.Corollaries.{cutTile, stroke, strokeTile, threePasses, HypothesesMet}
 use Rattle.ladder.proofs.CutFits.{narrow-append}
 use Rattle.ladder.proofs.CutPlaces.{component-long, signs-long, cut-places}

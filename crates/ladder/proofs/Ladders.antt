@@ -10,8 +10,8 @@ use lib.Seq.{getD-take, getD-drop}
 use lib.Signed.{mag}
 use Rattle.bands.specs.Bands.{positionOf}
 use Rattle.bands.specs.Positions.{rowInDomain, rowsInDomain, inDomain}
-use Rattle.bands.proofs.Every.{part-passes, both-pass}
-use Rattle.answer.specs.Refusals.{outOfDomain, unless, answered, unlessRefused}
+use Rattle.bands.proofs.Every.{each-passes, part-passes}
+use Rattle.answer.specs.Refusals.{answered, unlessRefused}
 use Rattle.answer.specs.declared.Answer.{Answer}
 use Rattle.upgrade_steps.specs.Cut.{cutComponent, cutComponentSigns}
 use Rattle.progressive_decoder.specs.Upgrade.{upgradedCoefficients, upgradedSigns}
@@ -25,8 +25,8 @@ use Rattle.tile.specs.declared.TileState.{TileState}
 use Rattle.tile.proofs.Accepted.{by-rows}
 use Rattle.reach.specs.Reach.{Pass, Call, afterCall, afterCalls, answersTo, ThreeRows, AllRows, Lower}
 use Rattle.reach.proofs.Tiles.{given-row, rows-in-domain, lower-row}
-use Rattle.ladder.specs.Ladder.{IsTarget, srlWritten, rawWritten, callFor, callsFor, Lowering, lastPositions, sharpened, Writes, WritesBoth, EachWrite}
-use Rattle.ladder.proofs.CutPlaces.{component-long, signs-long, each-passes, lower-domain, brings, from-target, from-cut, srl-alike, raw-alike}
+use Rattle.ladder.specs.Ladder.{IsTarget, srlWritten, rawWritten, callFor, callsFor, Lowering, lastPositions, sharpened, WritesBoth, EachWrite}
+use Rattle.ladder.proofs.CutPlaces.{component-long, signs-long, lower-domain, brings, from-target, from-cut, srl-alike, raw-alike}
 
 -- ════ parts of three ════
 

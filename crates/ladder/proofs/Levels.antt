@@ -1,7 +1,7 @@
 -- The level of a cut coefficient, and what it gains from a position to a lower one. `fixed` has both laws of a whole number, `fitting` those of levels.
-use mathlib.Core.Path.{_≡_, sym, ap, ap₂, _∙_}
+use mathlib.Core.Path.{_≡_, sym, ap, _∙_}
 use mathlib.Core.Bool.{Bool, true, false}
-use Prim.Native.Nat.{ℕ, zero, suc, _+_, _-_, _*_, _/_, _%_, _^_, _≤_, _<_}
+use Prim.Native.Nat.{ℕ, suc, _+_, _-_, _*_, _/_, _%_, _^_, _≤_, _<_}
 use native.Mathlib.Nat.{mul-comm, add-sub-of-le}
 use native.Mathlib.Omega.{arith}
 use lib.Arith.{digits-div}

@@ -1,7 +1,7 @@
 -- A tile sharpened towards a target by any list of passes: the statement (docs/SCOPE.md, "Ladders"; docs/LADDER.md explains it line by line).
 -- A pass is written by the definitions that the contract of `encode_upgrade_pass_symmetric` cites, and read by the one of `decode_upgrade`.
 use mathlib.Core.Path.{_≡_}
-use mathlib.Core.Bool.{Bool, true}
+use mathlib.Core.Bool.{true}
 use mathlib.Core.List.{List, [], _∷_}
 use Prim.Native.Nat.{ℕ, _≤_, _<_}
 use lib.IntN.{ℤ, pos}
@@ -18,7 +18,7 @@ use Rattle.zero_signs.specs.ZeroSigns.{zeroSigns}
 use Rattle.tile.specs.declared.TileState.{TileState}
 use Rattle.fitting.specs.Place.{Place, place}
 use Rattle.fitting.specs.Component.{placeAt}
-use Rattle.reach.specs.Reach.{Pass, Call, afterCall, afterCalls, answersTo, AllRows, Lower, pictureOf}
+use Rattle.reach.specs.Reach.{Pass, Call, afterCall, afterCalls, answersTo, AllRows, Lower}
 
 -- ════ a tile that is its target cut at its positions ════
 
