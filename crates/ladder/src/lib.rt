@@ -35,7 +35,7 @@ pub fn hypotheses_met()
     ensures { λ _. ⌜ HypothesesMet ⌝ }
 {}
 
-// What a cut takes off a level, and what a lower position brings back: the one law that all of this needs.
+// What a cut takes off a level, and what a lower position brings back: one law for both cuts.
 pub fn level_law()
     ensures { λ _. ⌜ LevelLaw ⌝ }
 {}

@@ -12,7 +12,7 @@ use lib.ListN.{length}
 use lib.Pow.{pow-pos}
 use Rattle.fixed.specs.Fixed.{clampI16, floorShift, isZero, signOf}
 use Rattle.fixed.specs.Cut.{cutLevel, towardZero}
-use Rattle.fixed.proofs.Cuts.{cut-rest, rest-small, cut-steps, abs-toward}
+use Rattle.fixed.proofs.Cuts.{cut-steps, steps-rest, gain-small, abs-toward}
 use Rattle.fixed.proofs.Sign.{zero-is}
 use Rattle.bands.specs.Positions.{rowInDomain}
 use Rattle.upgrade_steps.specs.Steps.{Step, source, sourceOf, steps}
@@ -25,7 +25,7 @@ use Rattle.progressive.proofs.AnyRule.{Fitting, Fittings, fitting, all-
 
 -- what a cut takes away is less than 2^w steps of 2^q
 taken-small : (q w n : ℕ) → n / 2 ^ q - cutLevel (q + w) n / 2 ^ q < 2 ^ w
-taken-small q w n = omega (arith, cut-steps q w n, cut-rest w (n / 2 ^ q), rest-small w (n / 2 ^ q))
+taken-small q w n = omega (arith, cut-steps q w n, steps-rest q w n, gain-small q w n)
 
 -- ════ one place ════
 
