@@ -5,10 +5,12 @@ use mathlib.Core.List.{List, [], _∷_, _++_}
 use mathlib.Core.Path.{_≡_, refl, sym}
 use Prim.Native.Nat.{ℕ, zero, suc, _+_, _<_, _≤_}
 use native.Mathlib.Numerals.{add-one}
+use native.Mathlib.Decide.{decLt}
 use native.Mathlib.Omega.{arith}
 use borrow.Author.Tests.{leb-true}
-use lib.ListN.{length, getD, take, drop, drop-of-length-le}
+use lib.ListN.{length, getD, take, drop, drop-of-length-le, List·getD-eq-default}
 use lib.Seq.{drop-cons}
+use Rattle.bands.specs.Bands.{positionOf}
 use Rattle.bands.specs.Positions.{every, inDomain, rowInDomain}
 
 module _ {A : Type 0} (f : A → Bool) (l : List A) (j : ℕ) (d : A) where
@@ -65,6 +67,10 @@ module _ {A : Type 0} (f : A → Bool) where
       let p = both-true (f x) (every f a) h in
       both-pass (f x) (every f (a ++ b)) (p .0) (append-passes a b (p .1) k)
 
--- a position of a row that is in the domain
-pub low-position : (row : List ℕ) (b : ℕ) → rowInDomain row ≡ true → b < length row → getD row b 0 ≤ 15
-low-position row b e h = leb-true (getD row b 0) 15 (at inDomain row b 0 e h)
+-- a row in the domain has no position above 15; past its end they are 0
+pub row-low : (row : List ℕ) (b : ℕ) → rowInDomain row ≡ true → positionOf row b ≤ 15
+row-low row b e = by (decLt b (length row))
+  where
+    by : Dec (b < length row) → positionOf row b ≤ 15
+    by (yes h) = leb-true (positionOf row b) 15 (at inDomain row b 0 e h)
+    by (no h) = omega (arith, List·getD-eq-default row 0 {n = b} (omega arith))

@@ -14,11 +14,10 @@ use Rattle.fixed.specs.Cut.{cutLevel, towardZero, downward}
 use Rattle.fixed.proofs.Cuts.{abs-toward, toward-pos, toward-range}
 use Rattle.bands.specs.Bands.{isBottom, positionOf, bandsOf}
 use Rattle.bands.specs.Positions.{inDomain}
-use Rattle.bands.proofs.Every.{part-passes}
+use Rattle.bands.proofs.Every.{part-passes, row-low}
 use Rattle.bands.proofs.Spread.{bands-whole}
 use Rattle.upgrade_steps.specs.Cut.{cutAt, cutSignAt}
 use Rattle.progressive.proofs.Regained.{down-range}
-use Rattle.progressive.proofs.CutTrip.{row-low}
 use Rattle.planes.specs.Planes.{component, rowOf}
 use Rattle.planes.proofs.Joined.{parts-long, joined-components}
 use Rattle.tile.specs.declared.TileState.{TileState}
@@ -111,7 +110,7 @@ module _ {target : List ℤ} {t : TileState} (h : IsCut target t) where
       let row = rowOf k (t .«prog_quant») in
       let c = getD (component k target) i (pos 0) in
       subst (λ (x : Place). Fits (isBottom b) (positionOf row b) x) (sym (h .each k i m n))
-      (cut-fits (isBottom b) (positionOf row b) c (placeIn t k i .sign) (row-low row (part-passes inDomain 10 (k * 10) (t .«prog_quant») (h .positions)) b) (part-range k target (h .aim .sixteen-bits) i))
+      (cut-fits (isBottom b) (positionOf row b) c (placeIn t k i .sign) (row-low row b (part-passes inDomain 10 (k * 10) (t .«prog_quant») (h .positions))) (part-range k target (h .aim .sixteen-bits) i))
 
   fits : TileFits t
   fits =

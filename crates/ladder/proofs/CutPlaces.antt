@@ -10,7 +10,7 @@ use lib.ListN.{length, getD}
 use lib.Seq.{ext-getD}
 use Rattle.bands.specs.Bands.{isBottom, positionOf, bandsOf}
 use Rattle.bands.specs.Positions.{inDomain, rowInDomain}
-use Rattle.bands.proofs.Every.{both-pass, each-passes}
+use Rattle.bands.proofs.Every.{both-pass, each-passes, row-low}
 use Rattle.bands.proofs.Spread.{bands-whole}
 use Rattle.answer.specs.Refusals.{longEnough}
 use Rattle.upgrade_steps.specs.Steps.{steps, srlWidths, rawWidths}
@@ -19,7 +19,7 @@ use Rattle.upgrade_steps.proofs.CutLists.{cut-length, cut-signs-length, cut-at,
 use Rattle.progressive_encoder.specs.Encode.{symmetricRule, srlStream, rawStream, srlBytes, rawBytes, valuesFault, passFault, noRoomFor, encodePassRefusal}
 use Rattle.progressive.specs.CutTrip.{Brings, Alike, CutAsked}
 use Rattle.progressive.proofs.AnyRule.{room-decides}
-use Rattle.progressive.proofs.CutTrip.{row-low, component-brings, component-alike}
+use Rattle.progressive.proofs.CutTrip.{component-brings, component-alike}
 use Rattle.fitting.specs.Component.{placeAt}
 use Rattle.fitting.proofs.Families.{place-path}
 use Rattle.ladder.specs.Ladder.{cutPlace}
@@ -54,7 +54,7 @@ module _ (e : Bool) (row : List ℕ) (tg ss : List ℤ) (lt : length tg ≡ 4096
 -- ════ rows that fall stay in the domain ════
 
 pub lower-domain : (p q : List ℕ) → rowInDomain p ≡ true → ((b : ℕ) → positionOf q b ≤ positionOf p b) → rowInDomain q ≡ true
-lower-domain p q d n = each-passes inDomain q 0 (λ i h. le-leb (positionOf q i) 15 (omega (arith, n i, row-low p d i)))
+lower-domain p q d n = each-passes inDomain q 0 (λ i h. le-leb (positionOf q i) 15 (omega (arith, n i, row-low p i d)))
 
 -- ════ one pass ════
 

@@ -5,11 +5,10 @@ use mathlib.Core.List.{List, [], _∷_, _++_, map, append-nil}
 use Prim.Native.Nat.{ℕ, zero, suc, _+_, _-_, _*_, _/_, _^_, _≤_, _<_}
 use native.Mathlib.Nat.{zero-div, zero-mul, suc-mul, add-zero, mul-assoc, mul-comm, mul-pos, mul-le-mul-right}
 use native.Mathlib.Omega.{arith}
-use native.Mathlib.Decide.{decLt}
 use borrow.Author.Tests.{le-ltb, le-leb}
 use lib.Arith.{digits-div}
 use lib.IntN.{ℤ, pos, negsuc, negℤ, natAbs, _+ℤ_, _-ℤ_, _*ℤ_, +ℤ-assoc, +ℤ-comm, +ℤ-idr, +ℤ-sucℤ, sucℤ-*ℤ, +ℤ-negℤ-cancel, zero-*ℤ}
-use lib.ListN.{length, getD, replicate, length-append, length-replicate, List·getD-eq-default}
+use lib.ListN.{length, getD, replicate, length-append, length-replicate}
 use lib.Pow.{pow-pos, pow-add, shr-shr, shl-shr, shr-mono}
 use lib.Signed.{mag}
 use Rattle.fixed.specs.Fixed.{clampI16, floorShift, isZero, isOne, isNegative, signOf, withSign, addScaled}
@@ -19,7 +18,7 @@ use Rattle.fixed.proofs.Cuts.{cut-below, cut-clean, down-rest, abs-toward, towa
 use Rattle.fixed.proofs.Sign.{zero-is, abs-minus}
 use Rattle.bands.specs.Bands.{positionOf, bandsOf}
 use Rattle.bands.specs.Positions.{rowInDomain}
-use Rattle.bands.proofs.Every.{both-pass, low-position}
+use Rattle.bands.proofs.Every.{both-pass, row-low}
 use Rattle.bands.proofs.Spread.{place-map, place-whole, bands-whole}
 use Rattle.answer.specs.Refusals.{longEnough}
 use Rattle.upgrade_steps.specs.Steps.{Step, Source, srl, raw, source, sourceOf, steps, stepOf}
@@ -304,14 +303,6 @@ module _ (xs ys : List ℤ) where
 nils : (P : List ℤ → List ℤ → Type 0) (p s : List ℤ) → P (p ++ []) (s ++ []) → P p s
 nils P p s x = subst₂ P (append-nil p) (append-nil s) x
 
--- a row in the domain has no position above 15, also past its end
-pub row-low : (row : List ℕ) → rowInDomain row ≡ true → (b : ℕ) → positionOf row b ≤ 15
-row-low row h b = by (decLt b (length row))
-  where
-    by : Dec (b < length row) → getD row b 0 ≤ 15
-    by (yes l) = low-position row b h l
-    by (no l) = omega (arith, List·getD-eq-default row 0 {n = b} (omega arith))
-
 module _ {prev curr : List ℕ} {cs ss : List ℤ} (a : CutAsked prev curr cs ss) (e : Bool) where
   before-is : (b : ℕ) → before (stepOf prev curr b) ≡ positionOf prev b
   before-is b = omega (arith, a .no-raise b)
@@ -337,7 +328,7 @@ module _ {prev curr : List ℕ} {cs ss : List ℤ} (a : CutAsked prev curr cs ss
   aimed-bands (b ∷ bs) [] ss h k r = absurd (omega arith)
   aimed-bands (b ∷ bs) (c ∷ cs) [] h k r = absurd (omega arith)
   aimed-bands (b ∷ bs) (c ∷ cs) (s ∷ ss) h k r =
-      aimed {t = stepOf prev curr b} (omega (arith, before-is b, row-low prev (a .previous) b)) (r zero) (aimed-bands bs cs ss (omega arith) (omega arith) (λ i. r (suc i)))
+      aimed {t = stepOf prev curr b} (omega (arith, before-is b, row-low prev b (a .previous))) (r zero) (aimed-bands bs cs ss (omega arith) (omega arith) (λ i. r (suc i)))
 
   aimed-steps : Aimed (steps e prev curr) cs ss
   aimed-steps =

@@ -14,14 +14,14 @@ use lib.Pow.{pow-pos}
 use Rattle.fixed.specs.Fixed.{clampI16, isZero}
 use Rattle.bands.specs.Bands.{spread}
 use Rattle.bands.specs.Positions.{rowInDomain}
-use Rattle.bands.proofs.Every.{both-true}
+use Rattle.bands.proofs.Every.{both-true, row-low}
 use Rattle.bands.proofs.Spread.{place-whole}
 use Rattle.bits.specs.Written.{bitsOfAll}
 use Rattle.bits.proofs.Packed.{length-pack}
 use Rattle.srl_encoder.specs.Finish.{streamBits}
 use Rattle.upgrade_steps.specs.Steps.{stepOf, steps, srlWidths, rawWidths}
 use Rattle.answer.specs.Refusals.{sliceTooShort, outOfDomain, magnitudeOutOfRange, outputTooShort, unless, firstOf, longEnough}
-use Rattle.progressive_decoder.proofs.Missing.{low, slim-falls, few-values, raw-near}
+use Rattle.progressive_decoder.proofs.Missing.{slim-falls, few-values, raw-near}
 use Rattle.progressive_encoder.specs.Encode.{Rule, srlDifferences, rawDifferences, srlBytes, rawBytes, anyTooLarge, encodePassRefusal}
 use Rattle.progressive.specs.Room.{FallsBy, srlRoom, rawRoom, RoomSuffices}
 use Rattle.progressive.proofs.Lengths.{srl-length, pass-takes, numbers-take}
@@ -75,7 +75,7 @@ pub room-suffices : RoomSuffices
 unfolding spread clampI16 isZero srlWidths rawWidths srlDifferences rawDifferences streamBits bitsOfAll
 room-suffices = record {
   lowered = λ w r cs ps ss prev curr e srlOut rawOut h. never-7 w r cs ps ss prev curr e srlOut rawOut (λ d. h);
-  any-pass = λ r cs ps ss prev curr e srlOut rawOut. never-7 15 r cs ps ss prev curr e srlOut rawOut (λ d b. omega (arith, low prev b d));
+  any-pass = λ r cs ps ss prev curr e srlOut rawOut. never-7 15 r cs ps ss prev curr e srlOut rawOut (λ d b. omega (arith, row-low prev b d));
   srl-most = refl;
   raw-most = refl;
   srl-reached = refl;

@@ -2,15 +2,14 @@
 use mathlib.Core.Path.{_≡_, ap, ap₂, _∙_}
 use mathlib.Core.Bool.{Bool, true}
 use mathlib.Core.List.{List, [], _∷_, _++_}
-use Prim.Native.Nat.{ℕ, zero, suc, _+_, _-_, _*_, _≤_, _<_}
-use native.Mathlib.Decide.{decLt}
+use Prim.Native.Nat.{ℕ, zero, suc, _+_, _-_, _*_, _≤_}
 use native.Mathlib.Omega.{arith}
 use lib.IntN.{ℤ}
-use lib.ListN.{length, getD, replicate, List·getD-eq-default}
+use lib.ListN.{length, replicate}
 use Rattle.bands.specs.Bands.{layout, countOf, spread, positionOf}
 use Rattle.bands.specs.Positions.{rowInDomain}
 use Rattle.bands.specs.declared.BandInfo.{BandInfo}
-use Rattle.bands.proofs.Every.{low-position}
+use Rattle.bands.proofs.Every.{row-low}
 use Rattle.bands.proofs.Spread.{place-whole}
 use Rattle.bits.specs.Missing.{BitRead, readNum, readNumbers, missingIn}
 use Rattle.bits.proofs.Missing.{missing-num, num-join}
@@ -71,16 +70,8 @@ slim-bands f h b (i ∷ is) = slim-band (countOf i) (f b) (spread f (suc b) is) 
 pub slim-falls : {m : ℕ} (e : Bool) (prev curr : List ℕ) → ((b : ℕ) → positionOf prev b ≤ positionOf curr b + m) → Slim m (steps e prev curr)
 slim-falls e prev curr h = slim-bands (stepOf prev curr) (λ b. omega (arith, h b)) 0 (layout e)
 
--- a position of a row in the domain; past the row there is 0
-pub low : (row : List ℕ) (b : ℕ) → rowInDomain row ≡ true → positionOf row b ≤ 15
-low row b h = by (decLt b (length row))
-  where
-    by : Dec (b < length row) → getD row b 0 ≤ 15
-    by (yes l) = low-position row b h l
-    by (no l) = omega (arith, List·getD-eq-default row 0 {n = b} (omega arith))
-
 pub slim-steps : (e : Bool) (prev curr : List ℕ) → rowInDomain prev ≡ true → Slim 15 (steps e prev curr)
-slim-steps e prev curr h = slim-falls e prev curr (λ b. omega (arith, low prev b h))
+slim-steps e prev curr h = slim-falls e prev curr (λ b. omega (arith, row-low prev b h))
 
 narrow-more : (o : Source) (w : ℕ) {ws : List ℕ} → w ≤ 15 → Narrow ws → Narrow (srlWidth o w ws)
 narrow-more skipped w h l = l

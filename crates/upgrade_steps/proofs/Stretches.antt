@@ -1,27 +1,16 @@
 -- The places of a pass, from band to band. Assumes nothing.
-use mathlib.Core.Path.{_≡_, refl, ap}
-use mathlib.Core.Bool.{Bool, true, false}
+use mathlib.Core.Path.{_≡_, ap}
+use mathlib.Core.Bool.{Bool}
 use mathlib.Core.List.{List}
-use Prim.Native.Nat.{ℕ, _-_, _≤_, _<_}
+use Prim.Native.Nat.{ℕ, _-_, _<_}
 use native.Mathlib.Omega.{arith}
-use borrow.Author.Tests.{ltb-true, ltb-false}
-use lib.Dec.{ltb}
-use lib.ListN.{length, getD, take, List·getD-eq-default}
+use lib.ListN.{length, take}
 use lib.Seq.{length-take-le}
-use Rattle.bands.specs.Positions.{rowInDomain}
-use Rattle.bands.proofs.Every.{low-position}
+use Rattle.bands.proofs.Every.{row-low}
 use Rattle.bands.proofs.Spread.{place-whole}
 use Rattle.bands.proofs.Places.{bandBy, endBy, stretch, stretch-more}
 use Rattle.upgrade_steps.specs.Steps.{Step, stepOf, steps}
 use Rattle.upgrade_steps.specs.Inner.{SameStep}
-
--- a row in the domain has low positions, and past its end they are 0
-low : (row : List ℕ) (b : ℕ) → rowInDomain row ≡ true → getD row b 0 ≤ 15
-low row b e = by (ltb b (length row)) refl
-  where
-    by : (q : Bool) → ltb b (length row) ≡ q → getD row b 0 ≤ 15
-    by true q = low-position row b e (ltb-true b (length row) q)
-    by false q = rw (List·getD-eq-default row 0 (ltb-false b (length row) q)) (omega arith)
 
 -- from a place on to the end of its band
 pub same-step : (e : Bool) (prev curr : List ℕ) (p to : ℕ) (t : Step) → p < 4096 → to ≡ endBy e p → t ≡ stepOf prev curr (bandBy e p) → SameStep e prev curr p to t
@@ -32,8 +21,8 @@ same-step e prev curr p to t h n u =
       ends = omega (arith, n, s .ends);
       few = omega (arith, n, s .few);
       more = rw (n, u) (stretch-more e (stepOf prev curr) p h);
-      narrow = λ q. omega (arith, ap (λ (x : Step). x .width) u, low prev (bandBy e p) q);
-      low = λ q. omega (arith, ap (λ (x : Step). x .position) u, low curr (bandBy e p) q);
+      narrow = λ q. omega (arith, ap (λ (x : Step). x .width) u, row-low prev (bandBy e p) q);
+      low = λ q. omega (arith, ap (λ (x : Step). x .position) u, row-low curr (bandBy e p) q);
     }
 
 -- as many places come before it as its number says
