@@ -56,7 +56,7 @@ natAbs-neg (pos zero) = refl
 natAbs-neg (pos (suc n)) = refl
 natAbs-neg (negsuc n) = refl
 
-natAbs-times : (x : ℤ) (k : ℕ) → natAbs (x *ℤ pos k) ≡ natAbs x * k
+pub natAbs-times : (x : ℤ) (k : ℕ) → natAbs (x *ℤ pos k) ≡ natAbs x * k
 natAbs-times (pos a) k = refl
 natAbs-times (negsuc a) k = natAbs-neg (pos (suc a * k))
 

@@ -12,6 +12,7 @@ use lib.Signed.{mag}
 use Rattle.fixed.specs.Fixed.{floorShift, signOf}
 use Rattle.fixed.specs.Cut.{cutLevel, towardZero, downward}
 use Rattle.fixed.proofs.Cuts.{abs-toward, toward-pos, toward-range}
+use Rattle.fixed.proofs.Sizes.{natAbs-times}
 use Rattle.bands.specs.Bands.{isBottom, positionOf, bandsOf}
 use Rattle.bands.specs.Positions.{inDomain}
 use Rattle.bands.proofs.Every.{part-passes, row-low}
@@ -27,7 +28,7 @@ use Rattle.fitting.proofs.Families.{place-path, floor-is, level-multiple}
 use Rattle.reach.specs.Reach.{TileFits}
 use Rattle.ladder.specs.Ladder.{IsCut, placeIn}
 use Rattle.ladder.specs.Corollaries.{CutsFit}
-use Rattle.ladder.proofs.Levels.{abs-times, cut-to, level-cut}
+use Rattle.ladder.proofs.Levels.{cut-to, level-cut}
 use Rattle.ladder.proofs.Ladders.{Narrow, narrow-within, part-range}
 
 -- ════ one place ════
@@ -39,7 +40,7 @@ cut-range false p c h l = toward-range p c l
 
 -- and is a multiple
 cut-times : (b : Bool) (p : ℕ) (c : ℤ) → Multiple (2 ^ p) (natAbs (cutAt b p c))
-cut-times true p c = record { times = natAbs (floorShift c p); is = abs-times (floorShift c p) (2 ^ p) }
+cut-times true p c = record { times = natAbs (floorShift c p); is = natAbs-times (floorShift c p) (2 ^ p) }
 cut-times false p c = rw (abs-toward p c) (cut-multiple p (natAbs c))
 
 -- so it fits, with its sign

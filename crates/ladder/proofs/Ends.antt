@@ -19,15 +19,16 @@ use Rattle.answer.proofs.Numbers.{first-none}
 use Rattle.upgrade_steps.specs.Steps.{steps}
 use Rattle.upgrade_steps.specs.Cut.{cutAt, cutSignAt, cutComponent, cutComponentSigns}
 use Rattle.progressive_encoder.specs.Encode.{symmetricRule, passFault, noRoomFor}
+use Rattle.progressive.proofs.CutTrip.{replicate-has}
 use Rattle.progressive.proofs.Room.{room-suffices}
 use Rattle.planes.specs.Planes.{component, rowOf, of}
-use Rattle.planes.proofs.Joined.{Long, parts-long, joined-components}
+use Rattle.planes.proofs.Joined.{Long, parts-long}
 use Rattle.zero_signs.specs.ZeroSigns.{zeroSigns}
 use Rattle.tile.specs.declared.TileState.{TileState}
 use Rattle.fitting.specs.Place.{Place, place}
 use Rattle.fitting.specs.Component.{placeAt}
 use Rattle.reach.specs.Reach.{Pass, AllRows, afterCall, pictureOf}
-use Rattle.reach.proofs.Tiles.{by-components, picture-path}
+use Rattle.reach.proofs.Tiles.{same-list, picture-path}
 use Rattle.ladder.specs.Ladder.{IsTarget, IsCut, placeIn, cutPlace, srlWritten, rawWritten, callFor, writeRefusal, WritesBoth, Lowering, lastPositions, sharpened, EachWrite, Ends, LadderDoesNotMatter}
 use Rattle.ladder.specs.Corollaries.{SameEnd, NeverRefused, NothingRefused, Whole, WholeAtZero}
 use Rattle.ladder.proofs.CutPlaces.{cut-places, coefficients-are, signs-are}
@@ -139,10 +140,6 @@ module _ {target : List ℤ} {t : TileState} (h : IsCut target t) (os : List Pas
       let r = arrived h os w l in
       r .state .numbers ∙ ap (λ (e : Bool). zeroSigns e (sharpened target t os .sign)) (r .layout)
 
--- three components that are the same make the same list
-same-list : (a b : List ℤ) → length a ≡ 12288 → length b ≡ 12288 → ((k : ℕ) → k < 3 → component k a ≡ component k b) → a ≡ b
-same-list a b h j e = sym (joined-components a h) ∙ by-components (λ k. component k a) b j e
-
 pub same-end : SameEnd
 same-end = record { same = λ target t h os os′ w w′ l l′ z. by target t h os os′ w w′ l l′ z }
   where
@@ -224,9 +221,7 @@ cut-none false c = toward-none c
 
 -- every position of a row of zeros is 0
 zero-row : (n b : ℕ) → _≡_ {A = ℕ} (getD (replicate n 0) b 0) 0
-zero-row zero b = refl
-zero-row (suc n) zero = refl
-zero-row (suc n) (suc b) = zero-row n b
+zero-row n b = replicate-has (λ (k : ℕ). k ≡ 0) n b 0 0 refl refl
 
 zero-position : (k b : ℕ) → k < 3 → positionOf (rowOf k (replicate 30 0)) b ≡ 0
 zero-position zero b h = zero-row 10 b

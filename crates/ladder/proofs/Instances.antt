@@ -15,7 +15,7 @@ use Rattle.bands.specs.Positions.{rowsInDomain}
 use Rattle.bands.proofs.Spread.{place-whole, place-map, bands-whole}
 use Rattle.upgrade_steps.specs.Cut.{cutAt, cutSignAt, cutComponent, cutComponentSigns}
 use Rattle.planes.specs.Planes.{component, joined, of, taken}
-use Rattle.planes.proofs.Joined.{Long, joined-long, parts-long, component-joined}
+use Rattle.planes.proofs.Joined.{three-of, Long, joined-long, parts-long, component-joined}
 use Rattle.tile.specs.Tile.{loaded}
 use Rattle.fitting.specs.Place.{place}
 use Rattle.fitting.specs.Component.{placeAt}
@@ -27,7 +27,7 @@ use Rattle.ladder.specs.Ladder.{IsTarget, IsCut, cutPlace, threeOf, Lowe
 use Rattle.ladder.specs.Corollaries.{cutTile, stroke, strokeTile, threePasses, HypothesesMet}
 use Rattle.ladder.proofs.CutFits.{narrow-append}
 use Rattle.ladder.proofs.CutPlaces.{component-long, signs-long, cut-places}
-use Rattle.ladder.proofs.Ladders.{Narrow, three-of}
+use Rattle.ladder.proofs.Ladders.{Narrow}
 use Rattle.ladder.proofs.Ends.{own-sign, whole-at-zero}
 
 -- ════ a loaded tile ════

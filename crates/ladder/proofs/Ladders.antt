@@ -18,7 +18,7 @@ use Rattle.progressive_decoder.specs.Upgrade.{upgradedCoefficients, upgradedSig
 use Rattle.progressive.specs.CutTrip.{Brings, CutAsked}
 use Rattle.components.specs.Components.{stepsOf, passCoefficients, passSigns}
 use Rattle.planes.specs.Planes.{component, rowOf, joined, three, of}
-use Rattle.planes.proofs.Joined.{Long, joined-long, parts-long, component-joined}
+use Rattle.planes.proofs.Joined.{three-of, Long, joined-long, parts-long, component-joined}
 use Rattle.zero_signs.specs.ZeroSigns.{zeroSigns}
 use Rattle.tile.specs.Tile.{upgraded, rowsRefusal, upgradeRefusal}
 use Rattle.tile.specs.declared.TileState.{TileState}
@@ -28,14 +28,7 @@ use Rattle.reach.proofs.Tiles.{given-row, rows-in-domain, lower-row}
 use Rattle.ladder.specs.Ladder.{IsTarget, srlWritten, rawWritten, callFor, callsFor, Lowering, lastPositions, sharpened, WritesBoth, EachWrite}
 use Rattle.ladder.proofs.CutPlaces.{component-long, signs-long, lower-domain, brings, from-target, from-cut, srl-alike, raw-alike}
 
--- ════ parts of three ════
-
--- the one with a number
-pub three-of : {A : Type 0} (f : ℕ → List A) (k : ℕ) → k < 3 → of (three (f 0) (f 1) (f 2)) k ≡ f k
-three-of f zero h = refl
-three-of f (suc zero) h = refl
-three-of f (suc (suc zero)) h = refl
-three-of f (suc (suc (suc k))) h = absurd (omega arith)
+-- ════ sixteen-bit numbers ════
 
 -- a list of sixteen-bit numbers
 abbrev pub Narrow : List ℤ → Type 0

@@ -1,16 +1,16 @@
 -- The level of a cut coefficient, and what it gains from a position to a lower one. `fixed` has both laws of a whole number, `fitting` those of levels.
 use mathlib.Core.Path.{_≡_, sym, ap, _∙_}
 use mathlib.Core.Bool.{Bool, true, false}
-use Prim.Native.Nat.{ℕ, suc, _+_, _-_, _*_, _/_, _%_, _^_, _≤_, _<_}
+use Prim.Native.Nat.{ℕ, _+_, _-_, _*_, _/_, _%_, _^_, _≤_, _<_}
 use native.Mathlib.Nat.{mul-comm, add-sub-of-le}
 use native.Mathlib.Omega.{arith}
 use lib.Arith.{digits-div}
-use lib.IntN.{ℤ, pos, negsuc, natAbs, _+ℤ_, _*ℤ_}
+use lib.IntN.{ℤ, pos, natAbs, _+ℤ_}
 use lib.Signed.{mag}
 use Rattle.fixed.specs.Fixed.{floorShift}
 use Rattle.fixed.specs.Cut.{cutLevel, downward}
 use Rattle.fixed.proofs.Cuts.{cut-less, cut-gain, gain-small, rest-falls, abs-toward, down-rest}
-use Rattle.fixed.proofs.Sign.{abs-minus}
+use Rattle.fixed.proofs.Sizes.{natAbs-times}
 use Rattle.upgrade_steps.specs.Cut.{cutAt}
 use Rattle.progressive.proofs.Regained.{down-range}
 use Rattle.fitting.specs.Place.{Multiple, levelOf}
@@ -26,11 +26,6 @@ level-more x r h =
     ∙ ap (levelOf true) (sym (more-floor (levelOf true x) r))
     ∙ floor-level (levelOf true x + r)
 
--- the magnitude of a product
-pub abs-times : (z : ℤ) (k : ℕ) → natAbs (z *ℤ pos k) ≡ natAbs z * k
-abs-times (pos n) k = omega arith
-abs-times (negsuc n) k = abs-minus (suc n * k)
-
 -- a number that lies less than 2^p above a multiple of it is cut to that multiple
 pub cut-to : (p n r : ℕ) → Multiple (2 ^ p) n → r < 2 ^ p → cutLevel p (n + r) ≡ n
 cut-to p n r m h =
@@ -42,7 +37,7 @@ floor-cut p c h l =
     let d = downward p c in
     let near : mag d < 32768 = down-range p c h l in
     let level : levelOf true c ≡ levelOf true d + a .rest = ap (levelOf true) (a .is) ∙ level-more d (a .rest) near in
-    let clean : Multiple (2 ^ p) (levelOf true d) = level-multiple true p d h near (record { times = natAbs (floorShift c p); is = abs-times (floorShift c p) (2 ^ p) }) in
+    let clean : Multiple (2 ^ p) (levelOf true d) = level-multiple true p d h near (record { times = natAbs (floorShift c p); is = natAbs-times (floorShift c p) (2 ^ p) }) in
     sym (ap (cutLevel p) level ∙ cut-to p (levelOf true d) (a .rest) clean (a .less))
 
 -- ════ any place ════

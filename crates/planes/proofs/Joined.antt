@@ -1,6 +1,6 @@
 -- Three parts of one length in one list: a part of what is joined, a list by its parts, and the parts replaced one after another.
 -- The length n is any: `component` is at 4096, `rowOf` at 10.
-use mathlib.Core.Path.{_≡_, sym, ap, ap₂, _∙_}
+use mathlib.Core.Path.{_≡_, refl, sym, ap, ap₂, _∙_}
 use mathlib.Core.Bool.{Bool, true, false, cond}
 use mathlib.Core.List.{List, [], _++_, append-assoc, append-nil}
 use Prim.Native.Nat.{ℕ, zero, suc, _+_, _*_, _<_, _≤_}
@@ -10,7 +10,14 @@ use borrow.Rule.Slice.PartMut.{putMid}
 use lib.Dec.{ltb}
 use lib.ListN.{length, take, drop, length-append, length-drop, take-append-drop, drop-of-length-le}
 use lib.Seq.{take-at, drop-at, drop-drop, take-all, take-add, length-take-le}
-use Rattle.planes.specs.Planes.{component, rowOf, joined}
+use Rattle.planes.specs.Planes.{component, rowOf, joined, three, of}
+
+-- the one with a number
+pub three-of : {A : Type 0} (f : ℕ → List A) (k : ℕ) → k < 3 → of (three (f 0) (f 1) (f 2)) k ≡ f k
+three-of f zero h = refl
+three-of f (suc zero) h = refl
+three-of f (suc (suc zero)) h = refl
+three-of f (suc (suc (suc k))) h = absurd (omega arith)
 
 -- each of the three has n elements
 abbrev pub Long : {A : Type 0} → ℕ → (ℕ → List A) → Type 0

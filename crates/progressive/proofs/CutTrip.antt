@@ -401,7 +401,7 @@ module _ {prev curr : List ℕ} {cs ss : List ℤ} (a : CutAsked prev curr cs ss
 -- ════ the law ════
 
 -- what holds of the one element of a list and of 0 holds wherever it is read
-replicate-has : {A : Type 0} (P : A → Type 0) (n i : ℕ) (a d : A) → P a → P d → P (getD (replicate n a) i d)
+pub replicate-has : {A : Type 0} (P : A → Type 0) (n i : ℕ) (a d : A) → P a → P d → P (getD (replicate n a) i d)
 replicate-has P zero i a d x y = y
 replicate-has P (suc n) zero a d x y = x
 replicate-has P (suc n) (suc i) a d x y = replicate-has P n i a d x y

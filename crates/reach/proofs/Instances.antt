@@ -17,7 +17,7 @@ use Rattle.bands.proofs.Spread.{place-whole, bands-whole, place-map, one-of-ten
 use Rattle.answer.specs.Refusals.{sliceTooShort, outOfDomain, unless, firstOf, longEnough}
 use Rattle.planes.specs.Planes.{component, joined, three, of, taken}
 use Rattle.tile.specs.Tile.{fresh, loaded, loadRefusal}
-use Rattle.planes.proofs.Joined.{Long, joined-long, component-joined, row-joined}
+use Rattle.planes.proofs.Joined.{three-of, Long, joined-long, component-joined, row-joined}
 use Rattle.fitting.specs.Place.{Multiple, Fits}
 use Rattle.reach.specs.Place.{Gains}
 use Rattle.fitting.specs.Component.{ComponentFits}
@@ -109,20 +109,11 @@ fresh-fits = record {
 
 -- ════ a tile of -8 at position 3, and passes to 2 and to 1 ════
 
-pub three-at : (p : ℕ) → ThreeRows (rowsAt p)
-three-at p = record { three = refl; ten = ten }
-  where
-    ten : (k : ℕ) → k < 3 → length (of (rowsAt p) k) ≡ 10
-    ten zero h = refl
-    ten (suc zero) h = refl
-    ten (suc (suc zero)) h = refl
-    ten (suc (suc (suc k))) h = absurd (omega arith)
-
 pub row-of : (p k : ℕ) → k < 3 → of (rowsAt p) k ≡ replicate 10 p
-row-of p zero h = refl
-row-of p (suc zero) h = refl
-row-of p (suc (suc zero)) h = refl
-row-of p (suc (suc (suc k))) h = absurd (omega arith)
+row-of p = three-of (λ k. replicate 10 p)
+
+pub three-at : (p : ℕ) → ThreeRows (rowsAt p)
+three-at p = record { three = refl; ten = λ k h. ap length (row-of p k h) }
 
 pub whole-part : (c : ℤ) (k : ℕ) → k < 3 → take 4096 (of (replicate 3 (replicate 4096 c)) k) ≡ replicate 4096 c
 whole-part c k h = ap (take 4096) (getD-replicate 3 k (replicate 4096 c) [] h) ∙ take-all 4096 (replicate 4096 c) (omega (arith, length-replicate 4096 c))

@@ -68,8 +68,12 @@ pub joined-path : {A : Type 0} (f g : ℕ → List A) → ((k : ℕ) → k < 3 �
 joined-path {A} f g e = ap₂ (λ (x y : List A). x ++ y) (e 0 (omega arith)) (ap₂ (λ (x y : List A). x ++ y) (e 1 (omega arith)) (e 2 (omega arith)))
 
 -- a list by its components
-pub by-components : {A : Type 0} (f : ℕ → List A) (l : List A) → length l ≡ 12288 → ((k : ℕ) → k < 3 → f k ≡ component k l) → joined f ≡ l
+by-components : {A : Type 0} (f : ℕ → List A) (l : List A) → length l ≡ 12288 → ((k : ℕ) → k < 3 → f k ≡ component k l) → joined f ≡ l
 by-components f l h e = joined-path f (λ k. component k l) e ∙ joined-components l h
+
+-- two lists with the same components are the same
+pub same-list : {A : Type 0} (a b : List A) → length a ≡ 12288 → length b ≡ 12288 → ((k : ℕ) → k < 3 → component k a ≡ component k b) → a ≡ b
+same-list a b h j e = sym (joined-components a h) ∙ by-components (λ k. component k a) b j e
 
 -- a picture by its coefficients and signs, where the numbers are right in both
 pub picture-path : (e : Bool) {x y : Picture} → x .«zero_signs» ≡ zeroSigns e (x .sign) → y .«zero_signs» ≡ zeroSigns e (y .sign) → x .coefficients ≡ y .coefficients → x .sign ≡ y .sign → x ≡ y
@@ -78,8 +82,8 @@ picture-path e n m c s = λ i. record { coefficients = c i; sign = s i; «zero_s
 -- and cannot change
 pub tile-same : {t : TileState} → TileFits t → (x : Picture) → TileGains t (t .«prog_quant») x → pictureOf t ≡ x
 tile-same {t} f x g = picture-path (t .«use_reduce_extrapolate») (f .numbers) (g .numbers)
-    (sym (joined-components (t .coefficients) (f .coefficients)) ∙ by-components (λ k. component k (t .coefficients)) (x .coefficients) (g .coefficients) (λ k h. sym (component-same (f .each k h) (g .each k h) .0)))
-    (sym (joined-components (t .sign) (f .sign)) ∙ by-components (λ k. component k (t .sign)) (x .sign) (g .sign) (λ k h. sym (component-same (f .each k h) (g .each k h) .1)))
+    (same-list (t .coefficients) (x .coefficients) (f .coefficients) (g .coefficients) (λ k h. sym (component-same (f .each k h) (g .each k h) .0)))
+    (same-list (t .sign) (x .sign) (f .sign) (g .sign) (λ k h. sym (component-same (f .each k h) (g .each k h) .1)))
 
 -- one list for each component
 lot : {A : Type 0} → ((k : ℕ) → k < 3 → List A) → List (List A)
