@@ -1,9 +1,11 @@
 // What a call that works in place answers: accepted, or refused with a number (docs/SCOPE.md, "Refusals").
 
+#![tactic(auto)]
+
 ghost use Rattle.std.specs.Prelude.{◌≡◌};
 ghost use Rattle.answer.specs.Refusals.{number_of, AnswerNumbers};
 
-#[derive(Drop)]
+#[derive(Clone, Copy)]
 pub enum Answer {
     Accepted,
     Refused(u8),

@@ -1,5 +1,7 @@
 // The band record: the ten bands of a 64 x 64 component in both layouts, as constant tables, the band of each place, and the check of
 // positions and quantizers.
+#![tactic(auto)]
+
 ghost use Rattle.std.specs.Prelude.{true, false, ◌≡◌, ◌*◌, ◌^◌, ◌<◌};
 ghost use Rattle.bands.specs.Bands.{layout, count_of, band_at, bottom_offset, bands_of};
 ghost use Rattle.bands.specs.Positions.{row_in_domain, rows_in_domain};
@@ -27,7 +29,7 @@ pub const PIXEL_BYTES: usize = 16384;
 pub const MAX_POSITION: u8 = 15;
 
 // A band: its size, and the place of its first coefficient.
-#[derive(Drop)]
+#[derive(Clone, Copy)]
 pub struct BandInfo {
     pub width: usize,
     pub height: usize,

@@ -5,14 +5,14 @@ ghost use Rattle.bits.specs.Bits.{num, zeros, bits_read, place_of, held};
 ghost use Rattle.bits.specs.Inner.{Top, Front, CountsZeros};
 
 // A place in a stream: a byte, and a bit of it, 0 to 7, counted from the highest.
-#[derive(Drop)]
+#[derive(Clone, Copy)]
 pub struct BitReader {
     pub byte_idx: usize,
     pub bit_idx: u8,
 }
 
 // Zeros that were counted, and how often the loop turned for them.
-#[derive(Drop)]
+#[derive(Clone, Copy)]
 pub struct ZerosCounted {
     pub zeros: u32,
     pub turns: u32,

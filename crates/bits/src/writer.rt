@@ -5,7 +5,7 @@ ghost use Rattle.bits.specs.Written.{bits_of, writer};
 ghost use Rattle.bits.specs.Inner.{Sound, Room, write, pad_count, pad_out, counted, settled, settled_out, SoundWord, WroteWords, word_stored};
 
 // Where bits go: `at` whole bytes are written, and `bit_count` bits, the number `current`, wait for the next byte.
-#[derive(Drop)]
+#[derive(Clone, Copy)]
 pub struct BitWriter {
     pub at: usize,
     pub current: u8,
@@ -13,7 +13,7 @@ pub struct BitWriter {
 }
 
 // A writer that stores four bytes at a time: `at` bytes are stored, and `held` bits, the number `word`, wait: at most 31.
-#[derive(Drop)]
+#[derive(Clone, Copy)]
 pub struct WordWriter {
     pub at: usize,
     pub word: u64,
@@ -21,7 +21,7 @@ pub struct WordWriter {
 }
 
 // A writer's place without its bits, for measuring.
-#[derive(Drop)]
+#[derive(Clone, Copy)]
 pub struct BitCount {
     pub at: usize,
     pub bit_count: u8,

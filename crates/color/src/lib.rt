@@ -1,4 +1,6 @@
 // From luma and chroma to red, green and blue: `ycbcr_to_rgb` of progressive.rs.
+#![tactic(auto)]
+
 ghost use Rattle.std.specs.Prelude.{◌≡◌, ◌++◌, ℕ, ◌+◌, ◌*◌, ◌<◌, ◌≤◌, pos, ◌+ℤ◌, length, get_or, drop};
 ghost use Rattle.fixed.specs.Fixed.{clamp_u8};
 ghost use Rattle.color.specs.Color.{rounded, red, green, blue, rgb, picture};

@@ -1,5 +1,7 @@
 // A pass over three components in flat arrays: each is upgraded where it lies.
 
+#![tactic(auto)]
+
 ghost use Rattle.std.specs.Prelude.{◌≡◌, true, ◌+◌, ◌<◌, length};
 ghost use Rattle.bands.specs.Positions.{row_in_domain};
 ghost use Rattle.progressive_decoder.specs.Upgrade.{missing_bits};

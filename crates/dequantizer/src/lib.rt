@@ -1,4 +1,6 @@
 // Dequantizing: each band's coefficients by its quantizer, a part of progressive.rs. `progressive` hands it on under the source's name.
+#![tactic(auto)]
+
 ghost use Rattle.std.specs.Prelude.{◌≡◌, ◌≤◌, length, replicate};
 ghost use Rattle.dequantizer.specs.Dequantize.{dequantized, dequantized_all, quantizers, Dequantizes};
 

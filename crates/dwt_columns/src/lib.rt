@@ -1,5 +1,7 @@
 // The inverse wavelet of all columns of a block, a part of dwt_extrapolate.rs: what `idwt_col` does for each of them, done row by row. A row of
 // the answer is made of rows of the scratch, place by place, in an order that the cache likes.
+#![tactic(auto)]
+
 ghost use Rattle.std.specs.Prelude.{◌≡◌, ◌+◌, ◌*◌, ◌-◌, ◌≤◌, length, take, drop};
 ghost use mathlib.Core.List.{◌++◌, zip_with, flatten};
 ghost use Rattle.dwt_lines.specs.Line.{edge, Halves};

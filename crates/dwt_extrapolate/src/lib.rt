@@ -1,4 +1,6 @@
 // The inverse reduce-extrapolate wavelet of a component, a port of dwt_extrapolate.rs: rows, then columns, in three blocks.
+#![tactic(auto)]
+
 ghost use Rattle.std.specs.Prelude.{◌≡◌, ◌+◌, ◌*◌, ◌≤◌, length, drop};
 ghost use mathlib.Core.List.{◌++◌, flatten};
 ghost use Rattle.dwt_lines.specs.Line.{Halves};

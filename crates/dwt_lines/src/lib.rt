@@ -1,4 +1,6 @@
 // The inverse wavelet of one line, a part of dwt_extrapolate.rs: its samples one by one, and `idwt_row`.
+#![tactic(auto)]
+
 ghost use Rattle.std.specs.Prelude.{◌≡◌, [], ◌+◌, ◌≤◌, pos, length, get_or, drop};
 ghost use Rattle.dwt_lines.specs.Line.{edge, even, odd, half, mean, Halves, from, line};
 

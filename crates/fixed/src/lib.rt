@@ -1,5 +1,7 @@
 // Signed sixteen-bit arithmetic: the signed operations of the port, each in a small function with an exact equation over ℤ.
 // No public function here requires anything: each is exact for every argument of its types.
+#![tactic(auto)]
+
 ghost use Rattle.std.specs.Prelude.{◌≡◌, pos, nat_abs, ◌-ℤ◌};
 ghost use Rattle.fixed.specs.Fixed.{clamp_i16, clamp_u8, wrap_i16, half_toward_zero, half_floor, floor_shift, round_shift, shift_left_clamp, add_scaled, sub_scaled, is_negative, is_positive, is_zero, is_one, sign_of, with_sign};
 ghost use Rattle.fixed.specs.Inner.{step};

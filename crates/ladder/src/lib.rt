@@ -1,6 +1,8 @@
 // A tile that is its target cut at its positions, sharpened by any list of passes of the symmetric writer, ends at the target cut at the last
 // positions: theorems, each the contract of a function that does nothing. docs/LADDER.md says in words what is claimed.
 
+#![tactic(auto)]
+
 ghost use Rattle.ladder.specs.Levels.{LevelLaw};
 ghost use Rattle.ladder.specs.Ladder.{LadderDoesNotMatter};
 ghost use Rattle.ladder.specs.Corollaries.{SameEnd, NothingRefused, WholeAtZero, CutsFit, HypothesesMet};

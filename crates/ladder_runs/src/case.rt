@@ -4,7 +4,7 @@ ghost use Rattle.std.specs.Prelude.{◌≡◌, ◌≤◌, length};
 use crate::{climb, counts, cut, judge, report, rows, targets, words};
 
 // What a case came to, by the symmetric rule and by the source's.
-#[derive(Drop)]
+#[derive(Clone, Copy)]
 pub struct Both {
     pub symmetric: counts::Counts,
     pub source: counts::Counts,
@@ -20,7 +20,7 @@ fn which(symmetric: bool, seed: u64, case: u64, ladder: u64) -> report::Which {
 }
 
 // A ladder's end, and what it counts as.
-#[derive(Drop)]
+#[derive(Clone, Copy)]
 struct Ended {
     end: climb::Climbed,
     counts: counts::Counts,

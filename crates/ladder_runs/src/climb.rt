@@ -38,7 +38,7 @@ pub fn start(seed: u64, case: u64, full: &[i16]) -> tile::Loaded
 }
 
 // Where a ladder ends: a refusal or 0, how many passes were accepted, and the tile.
-#[derive(Drop)]
+#[derive(Clone, Copy)]
 pub struct Climbed {
     pub refusal: u8,
     pub passes: u16,

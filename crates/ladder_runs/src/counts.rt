@@ -1,6 +1,6 @@
 // What ladders came to, counted.
 
-#[derive(Drop)]
+#[derive(Clone, Copy)]
 pub struct Counts {
     // Ladders, and those of their passes that were accepted.
     pub ladders: u64,

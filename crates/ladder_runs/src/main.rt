@@ -1,6 +1,8 @@
 // `ladder_runs [SEED [CASES]]` runs ladders: passes that bring a tile nearer to a target, each written from the target and the tile as it then is.
 // For each random target two ladders of 1 to 8 passes go from the same tile, the target cut at some rows of positions, to the same last rows. Both
 // are to end at the target cut at the last rows, with no pass refused. What differs is shown and counted.
+#![tactic(auto)]
+
 mod arguments;
 mod case;
 mod climb;

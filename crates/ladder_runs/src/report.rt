@@ -21,7 +21,7 @@ pub fn usage() {
 }
 
 // Which ladder a line speaks of: 1 or 2 of a case, or 3 for both. A line is written of the symmetric rule only, by which none is expected.
-#[derive(Drop)]
+#[derive(Clone, Copy)]
 pub struct Which {
     pub symmetric: bool,
     pub seed: u64,

@@ -6,7 +6,7 @@ use panel_output::{files, images, places, refusals, report};
 use panel_picture::{drawing, measure};
 
 // Where a run stands: whether it goes on, its tile, the bits so far, and the figures of its last stage.
-#[derive(Drop)]
+#[derive(Clone, Copy)]
 struct Run {
     is_good: bool,
     tile: tile::TileState,

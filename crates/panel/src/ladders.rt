@@ -6,7 +6,7 @@ use panel_output::{ladder, refusals};
 use tile_passes::compare;
 
 // Where a ladder ends: a refusal or 0, the bits of its passes, and its tile.
-#[derive(Drop)]
+#[derive(Clone, Copy)]
 struct Climbed {
     refusal: u8,
     bits: u64,

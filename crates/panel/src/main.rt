@@ -2,6 +2,8 @@
 // and three upgrade passes bring the rest, once whole and once cut half-way in the second pass. Each stage is written as a PNG image, with a
 // line of figures; the last image has the places of a component, coloured by band. Two other ladders, of one pass and of six, are compared with the
 // whole stream. FOLDER is where the images go, the folder `pictures` if none is named; it is made where it is not there.
+#![tactic(auto)]
+
 use check::same;
 use panel_output::report;
 

@@ -2,7 +2,7 @@
 use crate::report;
 
 // How many elements of two tiles and of their pixels differ.
-#[derive(Drop)]
+#[derive(Clone, Copy)]
 pub struct Unlike {
     pub coefficients: u64,
     pub signs: u64,

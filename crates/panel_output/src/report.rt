@@ -50,7 +50,7 @@ fn positions(name: &[u8], row: [u8; 10]) {
 }
 
 // The figures of a stage.
-#[derive(Drop)]
+#[derive(Clone, Copy)]
 pub struct Figures {
     // Bits that arrived in this stage, and in all.
     pub bits: u64,

@@ -1,7 +1,9 @@
 // For programs: a pass over one component, written by either rule, with the writer's answer in numbers. Each function is proved safe and to end.
 
+#![tactic(auto)]
+
 // What a writer answers: its refusal or 0, and how many bytes the two streams have.
-#[derive(Drop)]
+#[derive(Clone, Copy)]
 pub struct Counts {
     pub refusal: u8,
     pub srl: usize,

@@ -1,5 +1,7 @@
 // From the coefficients of a tile's three components to pixels, on flat arrays: the work of `TileState::reconstruct_to_rgba`.
 
+#![tactic(auto)]
+
 ghost use Rattle.std.specs.Prelude.{◌≡◌, ◌++◌, ◌<◌, ◌≤◌, length, drop};
 ghost use Rattle.planes.specs.Planes.{component, joined};
 ghost use Rattle.planes.specs.Inner.{with_component};

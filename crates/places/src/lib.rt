@@ -1,4 +1,6 @@
 // Lists of places, eight at a time: the places of the ones of a byte, from a table.
+#![tactic(auto)]
+
 ghost use Rattle.std.specs.Prelude.{◌≡◌, map, ◌+◌, ◌*◌, ◌≤◌, ◌<◌, length, drop};
 ghost use Rattle.std.proofs.Math.Seq.{paste};
 ghost use Rattle.places.specs.Inner.{place_rows, Listed};

@@ -1,5 +1,7 @@
 // Three components in flat arrays, and three rows of ten: rows taken out and put together, components copied in.
 
+#![tactic(auto)]
+
 ghost use Rattle.std.specs.Prelude.{◌≡◌, ◌≤◌, length, take, drop};
 ghost use Rattle.planes.specs.Planes.{three, joined, of, taken};
 

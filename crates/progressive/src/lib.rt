@@ -3,6 +3,8 @@
 // Positions and quantizers go in by value, a row of ten in band order; coefficients, signs and streams are slices that the caller lends.
 // A refusal has a number (docs/SCOPE.md, "Refusals") and alters nothing.
 
+#![tactic(auto)]
+
 ghost use Rattle.progressive.specs.Laws.{PassRoundTrip};
 ghost use Rattle.progressive.specs.Refused.{PassRefusals};
 ghost use Rattle.progressive.specs.OwnCuts.{OwnCutsSent};

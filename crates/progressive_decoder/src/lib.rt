@@ -2,6 +2,8 @@
 // Positions go in by value, a row of ten in band order; coefficients, signs and streams are slices that the caller lends.
 // A refusal has a number (docs/SCOPE.md, "Refusals") and alters nothing.
 
+#![tactic(auto)]
+
 ghost use Rattle.std.specs.Prelude.{◌≡◌, ◌<◌};
 ghost use Rattle.answer.specs.Refusals.{answered};
 ghost use Rattle.progressive_decoder.specs.Upgrade.{missing_bits, DecodesPass};
@@ -12,14 +14,14 @@ pub mod upgrade;
 pub use answer::Answer;
 
 // How many of the bits that a pass reads came from past the end of each stream.
-#[derive(Drop)]
+#[derive(Clone, Copy)]
 pub struct MissingBits {
     pub srl: u32,
     pub raw: u32,
 }
 
 // What `decode_upgrade_pass` answers, and the bits that were missing: none where it refuses.
-#[derive(Drop)]
+#[derive(Clone, Copy)]
 pub struct PassDecoded {
     pub answer: Answer,
     pub missing: MissingBits,

@@ -15,7 +15,7 @@ ghost use Rattle.progressive_decoder.specs.Inner.{walked, over, sign_by, PlacesW
 use crate::MissingBits;
 
 // A reader for each stream: the SRL decoder's state, and the count of raw bits read.
-#[derive(Drop)]
+#[derive(Clone, Copy)]
 pub struct Readers {
     pub srl: srl_decoder::SrlState,
     pub raw: usize,
@@ -58,7 +58,7 @@ fn sign_by(negative: bool) -> i8
 // ---- the lists, read
 
 // The next bits of a stream at the top of a word, and how many they are.
-#[derive(Drop)]
+#[derive(Clone, Copy)]
 pub struct Word {
     pub bits: u64,
     pub count: usize,

@@ -7,7 +7,7 @@ ghost use Rattle.progressive_encoder.specs.Inner.{rule_of, place_lists, GoesOver
 use crate::{classes, rule};
 
 // How many events are in the list, and how many zeros are pending behind them.
-#[derive(Drop)]
+#[derive(Clone, Copy)]
 pub struct Events {
     pub count: usize,
     pub zeros: usize,

@@ -2,6 +2,8 @@
 // Positions go in by value, a row of ten in band order; coefficients, signs and streams are slices that the caller lends.
 // A refusal has a number (docs/SCOPE.md, "Refusals") and alters nothing.
 
+#![tactic(auto)]
+
 ghost use Rattle.progressive_encoder.specs.Encode.{floor_rule, symmetric_rule, EncodesPass};
 ghost use Rattle.progressive_encoder.specs.Pending.{FewPendingZeros};
 ghost use Rattle.progressive_encoder.specs.Inner.{rule_of};
@@ -16,7 +18,7 @@ mod store;
 pub mod writer;
 
 // What a writer of a pass answers: how many bytes of the SRL stream and of the raw stream it wrote, or a refusal.
-#[derive(Drop)]
+#[derive(Clone, Copy)]
 pub enum Written {
     Bytes(usize, usize),
     Refused(u8),

@@ -10,7 +10,7 @@ ghost use Rattle.progressive_encoder.specs.Inner.{rule_of, pass_lists, Slices, P
 use crate::{classes, events, numbers};
 
 // What a look has found: how many numbers, how many values that are not 0, and how many zeros behind the last of these.
-#[derive(Drop)]
+#[derive(Clone, Copy)]
 pub struct Found {
     pub numbers: usize,
     pub events: usize,

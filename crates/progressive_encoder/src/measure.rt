@@ -7,7 +7,7 @@ use crate::events;
 use crate::look::Found;
 
 // What some events take: how many bits, kp behind them, and whether a value is too large for its width.
-#[derive(Drop)]
+#[derive(Clone, Copy)]
 pub struct EventsMeasured {
     pub bits: usize,
     pub kp: u8,
@@ -15,7 +15,7 @@ pub struct EventsMeasured {
 }
 
 // Whether a value is too large for its width, and how many bytes each stream has.
-#[derive(Drop)]
+#[derive(Clone, Copy)]
 pub struct Lengths {
     pub too_large: bool,
     pub srl: usize,

@@ -1,6 +1,8 @@
 // What any list of upgrade passes can make of a tile, exactly: theorems, each the contract of a function that does nothing.
 // docs/REACH.md says in words what is claimed and where it stands.
 
+#![tactic(auto)]
+
 ghost use Rattle.reach.specs.Reach.{ReachablePictures};
 ghost use Rattle.reach.specs.Corollaries.{FittingPreserved, NonzeroSignsKept, OwnSignInWords, HypothesesMet};
 ghost use Rattle.reach.specs.Undecided.{UndecidedFalls};

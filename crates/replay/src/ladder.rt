@@ -6,7 +6,7 @@ use replay_input::number;
 use replay_passes::steps;
 
 // What became of an upgrade: whether the port agrees, and the tile then.
-#[derive(Drop)]
+#[derive(Clone, Copy)]
 struct Stepped {
     same: bool,
     tile: tile::TileState,

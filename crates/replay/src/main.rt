@@ -1,5 +1,7 @@
 // Replays recorded answers of the Rust. Reads recorded cases from standard input (oracle/README.md has the format), calls the port on each and
 // compares; writes a line for each kind with the number of cases and of differences, and shows the first case of each kind that differs.
+#![tactic(auto)]
+
 use libc::STDIN_FILENO;
 use replay_input::{number, report, sizes};
 
@@ -9,7 +11,7 @@ mod ladder;
 mod tiles;
 
 // What the input has at the start of a record.
-#[derive(Drop)]
+#[derive(Clone, Copy)]
 enum Found {
     // A record that was replayed.
     Record,

@@ -1,5 +1,7 @@
 // What replaying takes beside the port: numbers in recorded bytes, components made of a seed, digests, outputs, the sizes of
 // cases, and what is written. Each function is proved safe and to end.
+#![tactic(auto)]
+
 pub mod component;
 pub mod digests;
 pub mod number;

@@ -4,7 +4,7 @@ ghost use Rattle.std.specs.Prelude.{◌≤◌};
 use replay_input::{number, outputs};
 
 // What became of a call: whether the port agrees, and the state that it handed back.
-#[derive(Drop)]
+#[derive(Clone, Copy)]
 struct Called {
     same: bool,
     state: srl_encoder::SrlWriter,

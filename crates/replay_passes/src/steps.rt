@@ -4,7 +4,7 @@ ghost use Rattle.std.specs.Prelude.{◌≡◌, ◌≤◌, length};
 use replay_input::{component, number};
 
 // How long the two streams of a component are.
-#[derive(Drop)]
+#[derive(Clone, Copy)]
 struct Lengths {
     srl: usize,
     raw: usize,

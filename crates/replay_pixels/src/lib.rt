@@ -1,4 +1,6 @@
 // Kinds 41 to 44: the inverse wavelet, and the colours of a pixel. Each function is proved safe and to end.
+#![tactic(auto)]
+
 pub mod colours;
 pub mod wavelet;
 

@@ -1,5 +1,7 @@
 // The bench samples: a line for each with what was asked and what came out. The tables that `bench_samples` proves come first; the other lines
 // are tried by this run alone.
+#![tactic(auto)]
+
 ghost use Rattle.std.specs.Prelude.{◌<◌, length};
 ghost use Rattle.samples.specs.Samples.{BenchSamples};
 

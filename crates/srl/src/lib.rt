@@ -1,6 +1,8 @@
 // Simplified Run-Length (SRL) coding, both ways: a port of srl.rs. The decoder and the encoder are crates of their own, so that each is
 // proved by itself, and so is the decoder that holds its stream; here they are handed on, and here are the laws of both coders.
 
+#![tactic(auto)]
+
 ghost use Rattle.srl.specs.Laws.{Refusals, HeldRefusals, DecodedMagnitudes, RoundTrip, DecoderResumes, EncoderResumes};
 ghost use Rattle.srl.specs.Missing.{SrlMissingBits};
 ghost use Rattle.srl.specs.Turns.{SrlBoundedTurns};

@@ -11,7 +11,7 @@ ghost use Rattle.srl_decoder.specs.Inner.{SoundState, shut, state_by, held_reade
 use crate::{Decoded, SrlState};
 
 // A nonzero value: its magnitude, its sign, and how many bits it takes.
-#[derive(Drop)]
+#[derive(Clone, Copy)]
 pub struct NonzeroRead {
     pub magnitude: u16,
     pub negative: bool,
@@ -19,7 +19,7 @@ pub struct NonzeroRead {
 }
 
 // Code words: how many bits they take, kp after them, the zeros that they bring, and whether a nonzero value follows these.
-#[derive(Drop)]
+#[derive(Clone, Copy)]
 pub struct CodesRead {
     pub taken: usize,
     pub kp: u8,
@@ -28,7 +28,7 @@ pub struct CodesRead {
 }
 
 // What storing values leaves: the state, how many of the bits read were missing, and how often the loop turned.
-#[derive(Drop)]
+#[derive(Clone, Copy)]
 pub struct Stored {
     pub state: SrlState,
     pub missing: u64,
@@ -36,7 +36,7 @@ pub struct Stored {
 }
 
 // What a dry run finds: whether a nonzero value is due, and how often the loop turned.
-#[derive(Drop)]
+#[derive(Clone, Copy)]
 pub struct DryRun {
     pub due: bool,
     pub turns: usize,

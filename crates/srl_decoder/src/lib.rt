@@ -2,13 +2,15 @@
 // A coder's state goes in and comes back by value; streams and values are slices that the caller lends. A refusal has a number
 // (docs/SCOPE.md, "Refusals"), hands back the state and alters nothing.
 
+#![tactic(auto)]
+
 ghost use Rattle.std.specs.Prelude.{◌≡◌};
 ghost use Rattle.srl_decoder.specs.Decode.{start_state, DecodesSrl};
 
 pub mod decoder;
 
 // The decoder between two calls.
-#[derive(Drop)]
+#[derive(Clone, Copy)]
 pub struct SrlState {
     pub reader: bits::reader::BitReader,
     pub kp: u8,
@@ -18,7 +20,7 @@ pub struct SrlState {
 
 // What `decode` answers: how many values it stored, the state after them and how many of the bits read came from past the stream's end; or a
 // refusal and the state that was handed in.
-#[derive(Drop)]
+#[derive(Clone, Copy)]
 pub enum Decoded {
     Values(usize, SrlState, u64),
     Refused(u8, SrlState),

@@ -11,7 +11,7 @@ ghost use Rattle.srl_encoder.specs.Inner.{largest, plan_bits, GoodPlan, Planned,
 use crate::{MAX_ZERO_RUN, SrlWriter};
 
 // How a run of zeros is written: `steps` bits 0, a bit 1, and `rest` in kp / 8 bits.
-#[derive(Drop)]
+#[derive(Clone, Copy)]
 pub struct RunPlan {
     pub steps: usize,
     pub kp: u8,
@@ -19,7 +19,7 @@ pub struct RunPlan {
 }
 
 // The encoder in a call: where its bits go, kp, and the pending zeros.
-#[derive(Drop)]
+#[derive(Clone, Copy)]
 pub struct CallState {
     pub sink: bits::writer::WordWriter,
     pub kp: u8,
@@ -27,14 +27,14 @@ pub struct CallState {
 }
 
 // What a call has written: so many whole bytes, and the state after it.
-#[derive(Drop)]
+#[derive(Clone, Copy)]
 pub struct CallDone {
     pub count: usize,
     pub state: SrlWriter,
 }
 
 // The same with no bits: `at` whole bytes and `bit_count` bits are counted.
-#[derive(Drop)]
+#[derive(Clone, Copy)]
 pub struct Measured {
     pub at: usize,
     pub bit_count: u8,

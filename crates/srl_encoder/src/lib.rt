@@ -2,6 +2,8 @@
 // A coder's state goes in and comes back by value; streams and values are slices that the caller lends. A refusal has a number
 // (docs/SCOPE.md, "Refusals"), hands back the state and alters nothing.
 
+#![tactic(auto)]
+
 ghost use Rattle.std.specs.Prelude.{◌≡◌};
 ghost use Rattle.srl_encoder.specs.Encode.{fresh_writer, EncodesSrl};
 ghost use Rattle.srl_encoder.specs.Finish.{FinishesSrl};
@@ -12,7 +14,7 @@ pub mod encoder;
 pub const MAX_ZERO_RUN: usize = 4096;
 
 // The encoder between two calls: `bit_count` bits, the number `current`, wait for the next byte.
-#[derive(Drop)]
+#[derive(Clone, Copy)]
 pub struct SrlWriter {
     pub kp: u8,
     pub pending_zeros: usize,
@@ -21,14 +23,14 @@ pub struct SrlWriter {
 }
 
 // What `encode` answers: how many whole bytes the call completed and the state after it, or a refusal and the state that was handed in.
-#[derive(Drop)]
+#[derive(Clone, Copy)]
 pub enum Encoded {
     Bytes(usize, SrlWriter),
     Refused(u8, SrlWriter),
 }
 
 // What `finish` answers: how many bytes the end of the stream took, or a refusal and the state that was handed in.
-#[derive(Drop)]
+#[derive(Clone, Copy)]
 pub enum Finished {
     Stream(usize),
     Refused(u8, SrlWriter),

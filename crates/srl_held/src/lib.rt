@@ -1,6 +1,8 @@
 // SRL streams as srl.rs holds them: a decoder that keeps its lent stream beside its places, and a whole stream in one call.
 // The decoder's functions are thin: the work is done on the slice and the plain state (`srl_decoder`). `srl` hands them on.
 
+#![tactic(auto)]
+
 ghost use Rattle.std.specs.Prelude.{◌≡◌, ◌^◌, ◌<◌, ltb, length};
 ghost use Rattle.std.proofs.lemmas.List.Edits.{sets};
 ghost use Rattle.srl_rules.specs.Inner.{Width};
@@ -11,28 +13,28 @@ ghost use Rattle.srl_held.specs.Inner.{parts};
 ghost use Rattle.srl_held.specs.Stream.{stream_bytes, EncodesStream};
 
 // The decoder of a stream: the stream, and where it stands.
-#[derive(Drop)]
+#[derive(Clone, Copy)]
 pub struct SrlDecoder<'a> {
     pub src: &'a [u8],
     pub state: srl_decoder::SrlState,
 }
 
 // What a call of a decoder answers: how many values it stored and how many of the bits read were missing, or the number of its refusal.
-#[derive(Drop)]
+#[derive(Clone, Copy)]
 pub enum Outcome {
     Values(usize, u64),
     Refused(u8),
 }
 
 // That, and the state after the call.
-#[derive(Drop)]
+#[derive(Clone, Copy)]
 struct Parts {
     pub outcome: Outcome,
     pub state: srl_decoder::SrlState,
 }
 
 // That, and the decoder at its new places.
-#[derive(Drop)]
+#[derive(Clone, Copy)]
 pub struct DecodedBy<'a> {
     pub outcome: Outcome,
     pub decoder: SrlDecoder<'a>,

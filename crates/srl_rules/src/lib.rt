@@ -1,5 +1,7 @@
 // What both SRL coders go by: how kp moves, how long a run is, and what a width admits.
 // These are parts of the coders, not of the port's interface.
+#![tactic(auto)]
+
 ghost use Rattle.std.specs.Prelude.{◌≡◌, ◌+◌, ◌-◌, ◌/◌, ◌^◌, min};
 ghost use Rattle.srl_rules.specs.Rules.{width_ok};
 ghost use Rattle.srl_rules.specs.Inner.{Width};

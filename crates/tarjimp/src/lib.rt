@@ -2,6 +2,8 @@
 // contract is that of the call beneath it, `answered r` is the answer that the number stands for. A slice is a pointer and then its length in
 // elements, an array of a fixed size a pointer. What is lent to one call must not overlap.
 
+#![tactic(auto)]
+
 ghost use Rattle.std.specs.Prelude.{◌≡◌};
 ghost use Rattle.answer.specs.Refusals.{answered};
 ghost use Rattle.bands.specs.Bands.{layout, bands_of};

@@ -1,6 +1,8 @@
 // A tile of three components, by value: made fresh, loaded, upgraded pass by pass, and its pixels. A port of progressive.rs's `TileState`.
 // A refusal has a number (docs/SCOPE.md, "Refusals") and gives back the tile handed in.
 
+#![tactic(auto)]
+
 ghost use Rattle.std.specs.Prelude.{◌≡◌, true, ◌&&◌, ◌≤◌, ◌<◌, leb, length};
 ghost use Rattle.bands.specs.Positions.{every, row_in_domain, rows_in_domain};
 ghost use Rattle.planes.specs.Planes.{three};
@@ -13,7 +15,7 @@ use progressive_decoder::MissingBits;
 
 // A tile: 64 x 64 pixels, with what has arrived of them. Arrays are flat: three components (Y, Cb, Cr) of 4,096, three rows of ten.
 #[repr(C)]
-#[derive(Drop)]
+#[derive(Clone, Copy)]
 pub struct TileState {
     pub coefficients: [i16; bands::COEFFICIENTS_PER_TILE],
     pub sign: [i8; bands::COEFFICIENTS_PER_TILE],
@@ -29,14 +31,14 @@ pub struct TileState {
 }
 
 // What `load` answers, and the tile: a fresh one where it refuses.
-#[derive(Drop)]
+#[derive(Clone, Copy)]
 pub struct Loaded {
     pub answer: answer::Answer,
     pub tile: TileState,
 }
 
 // What `decode_upgrade` answers, the tile then, and the bits that were missing in all three components: none where it refuses.
-#[derive(Drop)]
+#[derive(Clone, Copy)]
 pub struct Upgraded {
     pub answer: answer::Answer,
     pub tile: TileState,
@@ -44,7 +46,7 @@ pub struct Upgraded {
 }
 
 // The tile after a pass, and the bits that were missing.
-#[derive(Drop)]
+#[derive(Clone, Copy)]
 struct Passed {
     pub tile: TileState,
     pub missing: MissingBits,

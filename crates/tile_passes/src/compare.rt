@@ -2,7 +2,7 @@
 ghost use Rattle.std.specs.Prelude.{◌≡◌, ◌≤◌, length};
 
 // How many elements differ, and the first of them; where none does the count is 0.
-#[derive(Drop)]
+#[derive(Clone, Copy)]
 pub struct Unlike {
     pub count: u64,
     pub first: usize,

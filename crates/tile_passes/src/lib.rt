@@ -1,5 +1,7 @@
 // Passes over a tile towards a target, by the port: its writer writes the streams of three components, and its reader reads what arrives of them.
 // `compare` says where two tiles differ. Each function is proved safe and to end.
+#![tactic(auto)]
+
 ghost use Rattle.std.specs.Prelude.{◌≡◌, ◌≤◌, length};
 
 pub mod compare;
@@ -13,7 +15,7 @@ const RAW: usize = 8192;
 // ---- written
 
 // The streams of a pass: a refusal or 0, and six lengths, of Y SRL, Y raw, Cb SRL, and so on.
-#[derive(Drop)]
+#[derive(Clone, Copy)]
 struct Streams {
     refusal: u8,
     lengths: [usize; 6],
@@ -191,7 +193,7 @@ fn read(
 // ---- a pass
 
 // What became of a pass: a refusal or 0, the bits that arrived and those that were missing, and the tile then.
-#[derive(Drop)]
+#[derive(Clone, Copy)]
 pub struct Passed {
     pub refusal: u8,
     pub bits: u64,

@@ -1,6 +1,8 @@
 // The steps of an upgrade pass: what it does in each band, and from which stream a place has its value. The reader and the writer of a pass
 // share it.
 
+#![tactic(auto)]
+
 ghost use Rattle.std.specs.Prelude.{Bool, ◌≡◌, ◌-◌, ◌<◌, get_or};
 ghost use Rattle.bands.specs.Bands.{bands_of};
 ghost use Rattle.bands.specs.Tables.{band_ends};
@@ -11,7 +13,7 @@ ghost use Rattle.upgrade_steps.specs.Inner.{band_step, from_srl, SameStep};
 pub mod positions;
 
 // What a pass does in a band.
-#[derive(Drop)]
+#[derive(Clone, Copy)]
 pub struct BandStep {
     pub bottom: bool,
     pub width: u8,
@@ -40,7 +42,7 @@ pub fn band_step(b: usize, prev: u8, curr: u8) -> BandStep
 }
 
 // Places in a row that have the same step: the step, and where they end.
-#[derive(Drop)]
+#[derive(Clone, Copy)]
 pub struct Stretch {
     pub step: BandStep,
     pub to: usize,

@@ -1,4 +1,6 @@
 // How many signs of each band of a tile are 0: how much of it is still undecided.
+#![tactic(auto)]
+
 ghost use Rattle.std.specs.Prelude.{◌≡◌, true, ◌+◌, ◌≤◌, length};
 ghost use Rattle.std.proofs.Math.Seq.{slice};
 ghost use Rattle.bands.specs.Tables.{are_same};
