@@ -125,15 +125,15 @@ read_alike s {m} {n} (past g h) =
 -- a number's bits
 pub num_read_alike : (s : List ℕ) {m n : ℕ} (w : ℕ) → Alike s m n → read_num s m w ≡ read_num s n w
 unfolding read_num
-num_read_alike s zero a = refl
-num_read_alike s {m} {n} (suc w) a =
+num_read_alike s {m = m} {n = n} zero a = refl
+num_read_alike s {m = m} {n = n} (suc w) a =
     ap₂ (λ (b : BitRead) (l : List BitRead). b ∷ l) (read_alike s a)
-    (ap (λ (i : ℕ). read_num s i w) (sym (add-one m)) ∙ num_read_alike s w (alike_on s 1 a) ∙ ap (λ (i : ℕ). read_num s i w) (add-one n))
+    (ap (λ (i : ℕ). read_num s i w) (sym (add-one m)) ∙ num_read_alike s {m = m + 1} {n = n + 1} w (alike_on s 1 a) ∙ ap (λ (i : ℕ). read_num s i w) (add-one n))
 
 -- the bits of zeros before a 1
 pub zeros_read_alike : (s : List ℕ) {m n : ℕ} (l : ℕ) → Alike s m n → read_zeros s m l ≡ read_zeros s n l
 unfolding read_zeros
-zeros_read_alike s zero a = refl
-zeros_read_alike s {m} {n} (suc l) a =
+zeros_read_alike s {m = m} {n = n} zero a = refl
+zeros_read_alike s {m = m} {n = n} (suc l) a =
     ap₂ (λ (b : BitRead) (r : List BitRead). b ∷ cond b.bit [] r) (read_alike s a)
-    (ap (λ (i : ℕ). read_zeros s i l) (sym (add-one m)) ∙ zeros_read_alike s l (alike_on s 1 a) ∙ ap (λ (i : ℕ). read_zeros s i l) (add-one n))
+    (ap (λ (i : ℕ). read_zeros s i l) (sym (add-one m)) ∙ zeros_read_alike s {m = m + 1} {n = n + 1} l (alike_on s 1 a) ∙ ap (λ (i : ℕ). read_zeros s i l) (add-one n))

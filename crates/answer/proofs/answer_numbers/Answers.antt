@@ -1,0 +1,6 @@
+-- `answer::answer_numbers` meets its contract. Assumes nothing.
+use Rattle.answer.proofs.Numbers.{number_answered}
+use Rattle.answer.proofs.answer_numbers.Goals as goal
+
+pub returns : goal.returns
+returns c = record { number = number_answered }

@@ -1,0 +1,20 @@
+-- `bits::reader::count_zeros` meets its contract: after each turn z bits are known to be zeros, and every turn but one that gives up began in the stream. Assumes nothing.
+use mathlib.Core.Path.{◌≡◌, refl, sym, ap, ◌∙◌}
+use Prim.Native.Nat.{ℕ, ◌+◌, ◌-◌, ◌*◌, ◌≤◌, ◌<◌, min}
+use native.Mathlib.Omega.{arith}
+use borrow.Author.Rules.{rules}
+use lib.ListN.{length}
+use Rattle.bits.specs.Bits.{zeros, bits_read}
+use Rattle.bits.specs.Turns.{still_held, words_of}
+use Rattle.bits.specs.declared.reader.BitReader.{BitReader}
+use Rattle.bits.proofs.Ones.{zeros_end, zeros_stop, zeros_go, length_all, length_some}
+use Rattle.bits.proofs.Turns.{counts}
+use Rattle.bits.proofs.Places.{read_place}
+use Rattle.bits.proofs.reader.count_zeros.Given as goal
+
+abbrev pub invariant-loop-z : goal.invariant-loop-z
+invariant-loop-z l =
+    (zeros l.src (bits_read l.r) l.z ≡ l.z) × (l.z ≡ min l.limit (56 * l.turns)) × (l.turns ≡ words_of l.z) × (l.turns ≤ words_of (still_held l.src (bits_read l.r)))
+
+abbrev pub decreases-loop-z : goal.decreases-loop-z
+decreases-loop-z l = l.limit - l.z

@@ -1,0 +1,10 @@
+-- `color::red_green` meets its contract. Assumes nothing.
+use mathlib.Core.Path.{◌∙◌}
+use mir.Facts.{to_z-of_z}
+use borrow.Author.Rules.{rules}
+use Rattle.color.proofs.red_green.Goals as goal
+
+pub returns : goal.returns
+returns c =
+    let f = c.ranges in
+    c.two.ensures ∙ rw (c.lane_red.ensures, c.lane_green.ensures, to_z-of_z f.y, to_z-of_z f.cb, to_z-of_z f.cr)

@@ -1,0 +1,14 @@
+-- `color::write_64` meets its contract: those before i are stored. Assumes nothing.
+use mathlib.Core.Path.{◌≡◌, refl, ap, ◌∙◌}
+use Prim.Native.Nat.{◌+◌, ◌-◌, ◌<◌, ◌≤◌}
+use native.Mathlib.Omega.{arith}
+use borrow.Author.Rules.{rules}
+use Rattle.color.specs.Inner.{answer, PixelsWritten}
+use Rattle.color.proofs.Picture.{pixel_turn, written_on}
+use Rattle.color.proofs.write_64.Given as goal
+
+abbrev pub invariant-loop-i : goal.invariant-loop-i
+invariant-loop-i l = (l.i ≤ 64) × PixelsWritten l.y l.cb l.cr l.initial.pixels l.at l.pixels (l.at + l.i)
+
+abbrev pub decreases-loop-i : goal.decreases-loop-i
+decreases-loop-i l = 64 - l.i

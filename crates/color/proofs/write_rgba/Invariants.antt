@@ -1,0 +1,21 @@
+-- `color::write_rgba` meets its contract: those before `at` are stored. Assumes nothing.
+use mathlib.Core.Path.{refl, sym, ◌∙◌}
+use Prim.Native.Nat.{◌+◌, ◌-◌, ◌≤◌}
+use native.Mathlib.Omega.{arith}
+use lib.ListN.{length}
+use borrow.Author.Rules.{rules}
+use Rattle.color.specs.Inner.{PixelsWritten}
+use Rattle.color.proofs.Picture.{written_on, pixels_left, pixels_done}
+use Rattle.color.proofs.write_rgba.Given as goal
+
+abbrev pub invariant-loop-at : goal.invariant-loop-at
+invariant-loop-at l = (l.at ≤ length l.y) × PixelsWritten l.y l.cb l.cr l.initial.pixels l.initial.at l.pixels l.at
+
+abbrev pub decreases-loop-at : goal.decreases-loop-at
+decreases-loop-at l = length l.y - l.at
+
+abbrev pub invariant-loop-at-2 : goal.invariant-loop-at-2
+invariant-loop-at-2 l = invariant-loop
+
+abbrev pub decreases-loop-at-2 : goal.decreases-loop-at-2
+decreases-loop-at-2 l = decreases-loop

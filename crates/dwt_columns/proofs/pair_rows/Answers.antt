@@ -1,0 +1,40 @@
+-- `dwt_columns::pair_rows` meets its contract. Assumes nothing.
+use mathlib.Core.Path.{◌≡◌, refl, ◌∙◌}
+use Prim.Native.Nat.{◌-◌, ◌≤◌}
+use native.Mathlib.Omega.{arith}
+use lib.IntN.{pos}
+use lib.ListN.{length, get_or, length-set}
+use mir.Syntax.{w16}
+use mir.Val.{to_z, of_z}
+use borrow.Author.Rules.{rules}
+use Rattle.dwt_columns.proofs.Fronts.{PairDone, pair_start, pair_turn, pair_done}
+use Rattle.dwt_columns.proofs.pair_rows.Goals as goal
+
+pub loop-i-init : goal.loop-i-init
+loop-i-init c = (omega arith, refl, pair_start c.args.l.now c.args.h.now c.args.k.now c.args.d.now)
+
+pub loop-i-preserved : goal.loop-i-preserved
+loop-i-preserved c =
+    let a = c.args in
+    let at = c.loop-i in
+    let even = c.even_sample-y in
+    let l : to_z w16 (of_z w16 (get_or a.l.now at.i (pos 0))) ≡ get_or a.l.now at.i (pos 0) = search rules in
+    let h : to_z w16 (of_z w16 (get_or a.h.now at.i (pos 0))) ≡ get_or a.h.now at.i (pos 0) = search rules in
+    let k : to_z w16 (of_z w16 (get_or a.k.now at.i (pos 0))) ≡ get_or a.k.now at.i (pos 0) = search rules in
+    let x : to_z w16 (of_z w16 (get_or at.d at.i (pos 0))) ≡ get_or at.d at.i (pos 0) = search rules in
+    let y : to_z w16 (of_z w16 even.result) ≡ even.result = search rules in
+    let o : to_z w16 (of_z w16 c.odd_sample.result) ≡ c.odd_sample.result = search rules in (
+      omega arith,
+      simp length-set (omega arith),
+      pair_turn a.l.now a.h.now a.k.now a.d.now (omega arith) (omega arith) (omega arith) at.d at.i _ _ (omega arith) at.invariant.2
+          (y ∙ (rw (l, h, k) at even.ensures)) (o ∙ (rw (x, h) at c.odd_sample.ensures)),
+    )
+
+pub returns : goal.returns
+returns c =
+    let a = c.args in
+    let at = c.loop-i in
+    pair_done a.l.now a.h.now a.k.now a.d.now (omega arith) (omega arith) (omega arith) at.d at.i (omega arith) at.invariant.2
+
+pub bounds-d-w-in-loop-i : goal.bounds-d-w-in-loop-i
+bounds-d-w-in-loop-i c = simp length-set (omega arith)

@@ -1,0 +1,42 @@
+-- `dwt_lines::even_sample` meets its contract. Assumes nothing.
+use mathlib.Core.Path.{◌≡◌, ◌∙◌, ap}
+use lib.IntN.{◌+ℤ◌, ◌-ℤ◌}
+use mir.Facts.{to_z-of_z}
+use mir.Syntax.{w16, w32}
+use mir.Val.{SFits, to_z, of_z}
+use borrow.Author.Rules.{rules}
+use Rattle.fixed.specs.Fixed.{wrap_i16, half_toward_zero}
+use Rattle.fixed.proofs.Machine.{signed, exact, got}
+use Rattle.dwt_lines.specs.Line.{even}
+use Rattle.dwt_lines.proofs.even_sample.Goals as goal
+
+pub returns : goal.returns
+unfolding even
+returns c =
+    let a = c.args in
+    let f = c.ranges in
+    let l : SFits w32 a.l = search signed depth 20 in
+    let h : SFits w32 a.h = search signed depth 20 in
+    let k : SFits w32 a.k = search signed depth 20 in
+    let sum : SFits w32 (a.h +ℤ a.k) = search signed depth 20 in
+    let computed : c.t.result ≡ wrap_i16 (to_z w32 (of_z w32 (a.l -ℤ to_z w32 (of_z w32 (half_toward_zero (a.h +ℤ a.k))))))
+    = simp (to_z-of_z, f.l, f.h, f.k, l, h, k, sum) at c.t.ensures in
+    got w16 c.t.type_inv (computed ∙ ap wrap_i16 (search exact depth 20))
+
+pub overflow_cast-l : goal.overflow_cast-l
+overflow_cast-l c = search signed depth 20
+
+pub overflow_cast-h : goal.overflow_cast-h
+overflow_cast-h c = search signed depth 20
+
+pub overflow_cast-k : goal.overflow_cast-k
+overflow_cast-k c = search signed depth 20
+
+pub overflow_add-h : goal.overflow_add-h
+overflow_add-h c = search signed depth 20
+
+pub nonzero_div-h : goal.nonzero_div-h
+nonzero_div-h c = search signed depth 20
+
+pub overflow_sub-l : goal.overflow_sub-l
+overflow_sub-l c = search signed depth 20

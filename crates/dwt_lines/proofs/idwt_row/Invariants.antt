@@ -1,0 +1,21 @@
+-- `dwt_lines::idwt_row` meets its contract. Assumes nothing.
+use mathlib.Core.Path.{◌≡◌, ◌∙◌}
+use mathlib.Core.List.{◌++◌}
+use Prim.Native.Nat.{◌+◌, ◌*◌, ◌-◌, ◌≤◌}
+use native.Mathlib.Omega.{arith}
+use lib.IntN.{pos}
+use lib.ListN.{length, get_or, take, drop, length-set}
+use mir.Syntax.{w16}
+use mir.Val.{to_z, of_z}
+use borrow.Author.Rules.{rules}
+use Rattle.dwt_lines.specs.Line.{from, line}
+use Rattle.dwt_lines.proofs.Lines.{line_start, line_turn, line_done}
+use Rattle.dwt_lines.proofs.idwt_row.Given as goal
+
+abbrev pub invariant-loop-j : goal.invariant-loop-j
+invariant-loop-j l =
+    (1 ≤ l.j) × (l.j ≤ length l.high) × (l.i + 2 ≡ 2 * l.j) × (length l.dst ≡ length l.initial.dst)
+    × (line l.low l.high ≡ take l.i l.dst ++ from (to_z w16 l.x) (to_z w16 l.h) (get_or l.low l.j (pos 0)) (drop (l.j + 1) l.low) (drop l.j l.high))
+
+abbrev pub decreases-loop-j : goal.decreases-loop-j
+decreases-loop-j l = length l.high - l.j

@@ -1,0 +1,10 @@
+-- `ladder_runs::judge::show_sign` is safe and ends. Assumes nothing.
+use Rattle.std.proofs.Common.{rules}
+use Rattle.fixed.proofs.Machine.{signed}
+use Rattle.ladder_runs.proofs.judge.show_sign.Goals as goal
+
+pub overflow_cast-found : goal.overflow_cast-found
+overflow_cast-found c = search signed depth 20
+
+pub difference-requires : goal.difference-requires
+difference-requires c = search signed depth 20

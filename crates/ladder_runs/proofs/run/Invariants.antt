@@ -1,0 +1,9 @@
+-- `ladder_runs::run` is safe and ends. Assumes nothing.
+use Rattle.std.proofs.Common.{◌-◌, ◌≤◌, rules}
+use Rattle.ladder_runs.proofs.run.Given as goal
+
+abbrev pub invariant-loop-n : goal.invariant-loop-n
+invariant-loop-n l = l.n ≤ l.cases
+
+abbrev pub decreases-loop-n : goal.decreases-loop-n
+decreases-loop-n l = l.cases - l.n

@@ -1,9 +1,0 @@
--- `panel_output::files::open` is safe and ends. Assumes nothing.
-use native.Mathlib.Omega.{arith}
-use lib.ListN.{length-take}
-use borrow.Author.Rules.{rules}
-use Rattle.panel_output.proofs.files.open.Statement.{statement}
-use Rattle.panel_output.proofs.files.open.Tie as tie
-
-pub open_spec : {M : Type 1} → statement M
-open_spec = tie.close (tie.spec (λ c κs. search rules) (λ c. search rules) (λ c. search rules) (λ c κs. search rules) (λ c. search rules) (λ c. simp length-take (omega arith)) (λ c κs. search rules) (λ c. search rules) (λ c. simp length-take (omega arith)) (λ c κs. search rules) (λ c. search rules) (λ c. search rules))

@@ -1,0 +1,13 @@
+-- `panel_output::images::ground` is safe and ends. Assumes nothing.
+use mathlib.Core.Path.{◌≡◌}
+use Prim.Native.Nat.{◌-◌, ◌≤◌}
+use native.Mathlib.Omega.{arith}
+use lib.ListN.{length, length-set}
+use borrow.Author.Rules.{rules}
+use Rattle.panel_output.proofs.images.ground.Given as goal
+
+abbrev pub invariant-loop-i : goal.invariant-loop-i
+invariant-loop-i l = (l.i ≤ 131072) × (length l.pictures ≡ length l.initial.pictures)
+
+abbrev pub decreases-loop-i : goal.decreases-loop-i
+decreases-loop-i l = 131072 - l.i

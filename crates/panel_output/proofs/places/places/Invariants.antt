@@ -1,0 +1,12 @@
+-- `panel_output::places::places` is safe and ends. Assumes nothing.
+use mathlib.Core.Path.{◌≡◌}
+use Prim.Native.Nat.{◌-◌, ◌≤◌}
+use lib.ListN.{length}
+use borrow.Author.Rules.{rules}
+use Rattle.panel_output.proofs.places.places.Given as goal
+
+abbrev pub invariant-loop-x : goal.invariant-loop-x
+invariant-loop-x l = (l.x ≤ 64) × (length l.out ≡ length l.initial.out)
+
+abbrev pub decreases-loop-x : goal.decreases-loop-x
+decreases-loop-x l = 64 - l.x

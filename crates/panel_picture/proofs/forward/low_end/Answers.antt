@@ -1,0 +1,8 @@
+-- `panel_picture::forward::low_end` is safe and ends. Assumes nothing.
+use native.Mathlib.Omega.{arith}
+use lib.ListN.{length-set}
+use borrow.Author.Rules.{rules}
+use Rattle.panel_picture.proofs.forward.low_end.Goals as goal
+
+pub bounds-out-high-3 : goal.bounds-out-high-3
+bounds-out-high-3 c = simp length-set (omega arith)

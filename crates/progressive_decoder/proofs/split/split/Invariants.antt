@@ -1,0 +1,17 @@
+-- `progressive_decoder::split::split` meets its contract: eight places a turn, and then what is left. Assumes nothing.
+use mathlib.Core.Path.{◌≡◌, refl, ◌∙◌}
+use mathlib.Core.Bool.{Bool, true, false, cond}
+use Prim.Native.Nat.{ℕ, ◌+◌, ◌-◌, ◌≤◌}
+use native.Mathlib.Omega.{arith}
+use lib.ListN.{length}
+use Rattle.upgrade_steps.specs.Inner.{band_step}
+use Rattle.progressive_decoder.specs.Inner.{Split}
+use Rattle.progressive_decoder.proofs.Places.{split_none}
+use borrow.Author.Rules.{rules}
+use Rattle.progressive_decoder.proofs.split.split.Given as goal
+
+abbrev pub invariant-loop-i : goal.invariant-loop-i
+invariant-loop-i l = (l.i ≤ length l.sign) × (length l.zeros ≡ length l.initial.zeros) × (length l.others ≡ length l.initial.others) × Split (band_step l.t) l.sign l.i l.n l.zeros l.others
+
+abbrev pub decreases-loop-i : goal.decreases-loop-i
+decreases-loop-i l = l.end - l.i

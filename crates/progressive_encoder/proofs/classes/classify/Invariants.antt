@@ -1,0 +1,21 @@
+-- `progressive_encoder::classes::classify` meets its contract: after each turn the places so far have their classes. Assumes nothing.
+use mathlib.Core.Path.{◌≡◌, sym, ap, ◌∙◌}
+use Prim.Native.Nat.{ℕ, ◌-◌, ◌≤◌, ◌<◌}
+use native.Mathlib.Omega.{arith}
+use lib.IntN.{pos}
+use lib.ListN.{length, get_or, length-set}
+use mir.Syntax.{w8, w16}
+use mir.ValLaws.{to_z-of_z}
+use borrow.Author.Rules.{rules}
+use Rattle.upgrade_steps.specs.Inner.{band_step}
+use Rattle.progressive_encoder.specs.Inner.{rule_of, class_of}
+use Rattle.progressive_encoder.proofs.Classed.{fills_next}
+use Rattle.progressive_encoder.proofs.classes.classify.Given as goal
+
+abbrev pub invariant-loop-i : goal.invariant-loop-i
+invariant-loop-i l =
+    (l.i ≤ length l.coefficients) × (length l.classes ≡ length l.initial.classes)
+    × ((k : ℕ) → k < l.i → get_or l.classes k 0 ≡ class_of (rule_of l.symmetric) (band_step l.t) (get_or l.coefficients k (pos 0)) (get_or l.prev_coefficients k (pos 0)) (get_or l.sign k (pos 0)))
+
+abbrev pub decreases-loop-i : goal.decreases-loop-i
+decreases-loop-i l = length l.coefficients - l.i

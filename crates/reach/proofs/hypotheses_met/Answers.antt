@@ -1,0 +1,6 @@
+-- `reach::hypotheses_met` meets its contract: the law is proved in `Instances`. Assumes nothing.
+use Rattle.reach.proofs.Instances.{hypotheses_met_lem}
+use Rattle.reach.proofs.hypotheses_met.Goals as goal
+
+pub returns : goal.returns
+returns c = hypotheses_met_lem

@@ -1,0 +1,14 @@
+-- `replay_kinds::srl_encode::call_at` is safe and ends. Assumes nothing.
+use native.Mathlib.Omega.{arith}
+use lib.ListN.{length-take}
+use borrow.Author.Rules.{rules}
+use Rattle.replay_kinds.proofs.srl_encode.call_at.Goals as goal
+
+pub slice_bounds-load-end-2 : goal.slice_bounds-load-end-2
+slice_bounds-load-end-2 c = simp length-take (omega arith)
+
+pub slice_bounds-call_with-end-2 : goal.slice_bounds-call_with-end-2
+slice_bounds-call_with-end-2 c = simp length-take (omega arith)
+
+pub slice_bounds-call_with-end-4 : goal.slice_bounds-call_with-end-4
+slice_bounds-call_with-end-4 c = simp length-take (omega arith)

@@ -1,0 +1,11 @@
+-- `replay_pixels::wavelet::decode` is safe and ends. Assumes nothing.
+use native.Mathlib.Omega.{arith}
+use lib.ListN.{length-take}
+use borrow.Author.Rules.{rules}
+use Rattle.replay_pixels.proofs.wavelet.decode.Goals as goal
+
+pub slice_bounds-decode-end-2 : goal.slice_bounds-decode-end-2
+slice_bounds-decode-end-2 c = simp length-take (omega arith)
+
+pub slice_bounds-decode-end-4 : goal.slice_bounds-decode-end-4
+slice_bounds-decode-end-4 c = simp length-take (omega arith)

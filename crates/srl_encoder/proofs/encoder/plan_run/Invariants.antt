@@ -1,0 +1,19 @@
+-- `srl_encoder::encoder::plan_run` meets its contract. The invariant: the run is `steps` zeros and then what is left of it. Assumes nothing.
+use mathlib.Core.Path.{◌≡◌, refl, sym, ap, ◌∙◌}
+use mathlib.Core.Bool.{Bool, false}
+use mathlib.Core.List.{List, ◌∷◌, ◌++◌}
+use Prim.Native.Nat.{ℕ, suc, ◌+◌, ◌-◌, ◌/◌, ◌^◌, ◌≤◌, ◌<◌, min}
+use native.Mathlib.Omega.{arith}
+use lib.ListN.{replicate}
+use lib.Pow.{pow_pos}
+use borrow.Author.Rules.{rules}
+use Rattle.srl_encoder.specs.Encode.{run_bits, run_kp}
+use Rattle.srl_encoder.proofs.Runs.{run_more, run_last, plan_step}
+use Rattle.srl_encoder.proofs.encoder.plan_run.Given as goal
+
+abbrev pub invariant-loop-size : goal.invariant-loop-size
+invariant-loop-size l =
+    (l.steps + l.z ≤ l.zeros) × (l.p ≤ 80) × (l.size ≡ 2 ^ (l.p / 8)) × (R l.zeros l.kp ≡ replicate l.steps false ++ R l.z l.p) × (K l.zeros l.kp ≡ K l.z l.p)
+
+abbrev pub decreases-loop-size : goal.decreases-loop-size
+decreases-loop-size l = l.z

@@ -1,0 +1,21 @@
+-- `srl_encoder::encoder::stop_count` meets its contract. Assumes nothing.
+use mathlib.Core.Path.{ap, sym}
+use mathlib.Core.Bool.{cond}
+use Prim.Native.Nat.{◌-◌, ◌^◌, ◌≤◌, ◌<◌}
+use native.Mathlib.Omega.{arith}
+use borrow.Author.Rules.{rules}
+use borrow.Author.Tests.{lt-ltb, le-ltb}
+use Rattle.srl_rules.proofs.Widths.{pow_low}
+use Rattle.srl_encoder.proofs.encoder.stop_count.Goals as goal
+
+pub returns-then-m-max_magnitude : goal.returns-then-m-max_magnitude
+returns-then-m-max_magnitude c =
+    let a = c.args in
+    let j : a.m < 2 ^ a.num-bits - 1 = omega (arith, c.if-m-max_magnitude.true, c.max_magnitude.ensures, pow_low a.num-bits c.requires) in
+    sym (ap (λ b. cond b 1 0) (lt-ltb _ _ j))
+
+pub returns : goal.returns
+returns c =
+    let a = c.args in
+    let j : 2 ^ a.num-bits - 1 ≤ a.m = omega (arith, c.if-m-max_magnitude.false, c.max_magnitude.ensures) in
+    sym (ap (λ b. cond b 1 0) (le-ltb _ _ j))

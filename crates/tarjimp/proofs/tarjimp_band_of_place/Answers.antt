@@ -1,0 +1,6 @@
+-- `tarjimp::tarjimp_band_of_place` meets its contract. Assumes nothing.
+use borrow.Author.Rules.{rules}
+use Rattle.tarjimp.proofs.tarjimp_band_of_place.Goals as goal
+
+pub returns : goal.returns
+returns c = c.band_of_place.ensures

@@ -1,0 +1,29 @@
+-- `tarjimp::tarjimp_srl_finish` meets its contract: that of `srl_encoder::finish` where the numbers fit their fields. Assumes nothing.
+use mathlib.Core.Bool.{true, false}
+use mathlib.Core.Path.{◌≡◌, sym, ◌∙◌}
+use borrow.Author.Tests.{not-true, not-false}
+use borrow.Author.Rules.{rules}
+use Rattle.tarjimp.specs.States.{writer_fits}
+use Rattle.tarjimp.proofs.tarjimp_srl_finish.Goals as goal
+
+pub returns-then-not-writer_fits : goal.returns-then-not-writer_fits
+returns-then-not-writer_fits c =
+    let unfit : writer_fits c.args.state.now ≡ false = sym c.writer_fits.ensures ∙ not-true _ c.if-not-writer_fits.true in
+    record { number = simp unfit; out = simp unfit; written = simp unfit }
+
+pub writer_of-requires : goal.writer_of-requires
+writer_of-requires c =
+    let fits : writer_fits c.args.state.now ≡ true = sym c.writer_fits.ensures ∙ not-false _ c.if-not-writer_fits.false in
+    fits
+
+pub returns : goal.returns
+returns c =
+    let fits : writer_fits c.args.state.now ≡ true = sym c.writer_fits.ensures ∙ not-false _ c.if-not-writer_fits.false in
+    let ok = fits in
+    let st = c.writer_of.ensures in
+    let f = c.finish-f.ensures in
+    record {
+      number = simp ok (rw (c.finished_number.ensures, f.answer, st));
+      out = simp ok (rw (f.out, st));
+      written = simp ok (rw (c.finished_count.ensures, f.answer, st));
+    }

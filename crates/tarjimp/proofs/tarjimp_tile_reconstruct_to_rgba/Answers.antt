@@ -1,0 +1,25 @@
+-- `tarjimp::tarjimp_tile_reconstruct_to_rgba` meets its contract: that of `TileState::reconstruct_to_rgba`, with the answer as a number. Assumes nothing.
+use mathlib.Core.Bool.{true, false}
+use mathlib.Core.Path.{◌≡◌, sym, ◌∙◌}
+use borrow.Author.Tests.{not-true, not-false}
+use borrow.Author.Rules.{rules}
+use Rattle.answer.proofs.Numbers.{by_number}
+use Rattle.pixels.specs.Pixels.{pixels_refusal}
+use Rattle.zero_signs.specs.ZeroSigns.{are_right}
+use Rattle.tarjimp.proofs.tarjimp_tile_reconstruct_to_rgba.Goals as goal
+
+pub returns-then-not-are_right : goal.returns-then-not-are_right
+returns-then-not-are_right c =
+    let a = c.args in
+    let wrong : are_right a.use-reduce-extrapolate a.sign.now a.zero-signs.now ≡ false = sym c.are_right.ensures ∙ not-true _ c.if-not-are_right.true in
+    record { answer = simp wrong; pixels = simp wrong }
+
+pub returns : goal.returns
+returns c =
+    let a = c.args in
+    let right : are_right a.use-reduce-extrapolate a.sign.now a.zero-signs.now ≡ true = sym c.are_right.ensures ∙ not-false _ c.if-not-are_right.false in
+    let e = c.reconstruct_to_rgba.ensures in
+    record {
+      answer = simp right (by_number (pixels_refusal a.prog-quant.now a.base-quant.now a.use-reduce-extrapolate a.pixels.now) c.number_of_lem.ensures e.answer);
+      pixels = simp right e.pixels;
+    }

@@ -1,0 +1,8 @@
+-- `tile::TileState::new` meets its contract. Assumes nothing.
+use borrow.Author.Rules.{rules}
+use Rattle.tile.specs.Tile.{fresh}
+use Rattle.tile.proofs.TileState.new.Goals as goal
+
+pub returns : goal.returns
+unfolding fresh
+returns c = rw (c.flat_rows-prog_quant.ensures, c.count-numbers.ensures)

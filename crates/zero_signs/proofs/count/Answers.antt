@@ -1,0 +1,6 @@
+-- `zero_signs::count` meets its contract. Assumes nothing.
+use borrow.Author.Rules.{rules}
+use Rattle.zero_signs.proofs.count.Goals as goal
+
+pub returns : goal.returns
+returns c = c.count_components.ensures

@@ -1,0 +1,38 @@
+-- `zero_signs::few_zeros` meets its contract. Assumes nothing.
+use mathlib.Core.Path.{◌≡◌, sym, ap, ◌∙◌}
+use mathlib.Core.Bool.{true, false}
+use mathlib.Core.Logic.{⊎_elim}
+use Prim.Native.Nat.{ℕ, ◌-◌}
+use native.Mathlib.Omega.{arith}
+use lib.IntN.{pos}
+use lib.ListN.{get_or}
+use lib.Seq.{slice, slice_empty}
+use mir.Syntax.{w8}
+use mir.ValLaws.{to_z-of_z}
+use borrow.Author.Rules.{rules}
+use Rattle.fixed.specs.Fixed.{is_zero}
+use Rattle.zero_signs.specs.ZeroSigns.{zeros_in}
+use Rattle.zero_signs.proofs.Counted.{zeros_next, Counting, count_starts}
+use Rattle.zero_signs.proofs.few_zeros.Goals as goal
+
+pub loop-i-init : goal.loop-i-init
+loop-i-init c = count_starts c.args.signs.now c.args.from c.args.to c.requires.0
+
+pub loop-i-preserved : goal.loop-i-preserved
+loop-i-preserved c =
+    let l = c.args.signs.now in
+    let at = c.loop-i in
+    let next = zeros_next l at.i c.args.to in
+    let is = sym (c.is_zero_sign.ensures ∙ ap is_zero (to_z-of_z w8 (get_or l at.i (pos 0)) (record { sfits = c.is_zero_sign-arg-1.given }))) in
+    ⊎_elim
+    (λ w. (omega arith, omega arith, omega arith, omega (arith, at.invariant.3, next true (is ∙ w.0.taken) c.loop-i-test.true c.requires.2)))
+    (λ w. (omega arith, omega arith, omega arith, omega (arith, at.invariant.3, next false (is ∙ w.0.left) c.loop-i-test.true c.requires.2)))
+    c.if-is_zero_sign.branch
+
+pub returns : goal.returns
+unfolding zeros_in
+returns c =
+    let at = c.loop-i in
+    let all : at.i ≡ c.args.to = omega arith in
+    let none : zeros_in (slice at.i c.args.to c.args.signs.now) ≡ 0 = ap (λ (i : ℕ). zeros_in (slice i c.args.to c.args.signs.now)) all ∙ ap zeros_in (slice_empty c.args.to c.args.signs.now) in
+    (omega (arith, at.invariant.3, none), omega (arith, c.requires.1))

@@ -1,0 +1,12 @@
+-- `zero_signs::zeros_between` meets its contract. Assumes nothing.
+use Prim.Native.Nat.{◌+◌, ◌-◌}
+use native.Mathlib.Omega.{arith}
+use borrow.Author.Rules.{rules}
+use Rattle.zero_signs.proofs.Counted.{zeros_parts, Counting, count_starts}
+use Rattle.zero_signs.proofs.zeros_between.Given as goal
+
+abbrev pub invariant-loop-i : goal.invariant-loop-i
+invariant-loop-i l = Counting l.signs l.from l.to l.n l.i
+
+abbrev pub decreases-loop-i : goal.decreases-loop-i
+decreases-loop-i l = l.to - l.i
