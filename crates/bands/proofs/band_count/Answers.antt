@@ -9,7 +9,7 @@ use Rattle.bands.proofs.band_count.Goals as goal
 pub count-requires : goal.count-requires
 count-requires c =
     let a = c.args in
-    rw c.band.ensures (omega (arith, band_within a.use-reduce-extrapolate a.band-idx))
+    rw c.band.ensures (omega (arith, band_within a.use_reduce_extrapolate a.band_idx))
 
 pub returns : goal.returns
 returns c = c.count.ensures ∙ ap count_of c.band.ensures

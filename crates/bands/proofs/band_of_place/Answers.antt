@@ -15,4 +15,4 @@ returns-then-place-ge-COEFFICIENTS_PER_COMPONENT c = sym (past_all c.args.use_re
 pub returns : goal.returns
 returns c =
     let a = c.args in
-    ap (λ (l : List ℕ). get_or l a.place 0) c.bands_of_places-table.ensures ∙ entry_right a.use-reduce-extrapolate a.place (omega (arith, c.if-place-ge-COEFFICIENTS_PER_COMPONENT.false))
+    ap (λ (l : List ℕ). get_or l a.place 0) c.bands_of_places-table.ensures ∙ entry_right a.use_reduce_extrapolate a.place (omega (arith, c.if-place-ge-COEFFICIENTS_PER_COMPONENT.false))

@@ -26,7 +26,7 @@ returns c =
     let part : SFits w64 (rounded (a.cb *ℤ pos 22554 +ℤ a.cr *ℤ pos 46802)) = search signed depth 20 in
     let computed : c.clamp_u8.result ≡ clamp_u8 (to_z w64 (of_z w64 (a.y +ℤ pos 128 -ℤ rounded (a.cb *ℤ pos 22554 +ℤ a.cr *ℤ pos 46802))))
     = simp (to_z-of_z, f.y, f.cb, f.cr, y, b, r, light, bs, rs, sum, more, part) at c.clamp_u8.ensures in
-    computed ∙ ap clamp_u8 (to_z-of_z (search signed depth 20)) ∙ green_whole a.y a.cb a.cr
+    computed ∙ ap clamp_u8 (to_z-of_z {w = w64} (search signed depth 20)) ∙ green_whole a.y a.cb a.cr
 
 pub overflow_cast-y : goal.overflow_cast-y
 overflow_cast-y c = search signed depth 20

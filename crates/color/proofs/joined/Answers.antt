@@ -10,10 +10,10 @@ pub loop-i-preserved : goal.loop-i-preserved
 loop-i-preserved c =
     let a = c.args in
     let l = c.loop-i in
-    stored (λ k. get_or a.t1 k 0 + 65536 * get_or a.t2 k 0) l.out l.i _ (omega arith) c.four.ensures l.invariant
+    stored (λ k. get_or a.low k 0 + 65536 * get_or a.high k 0) l.out l.i _ (omega arith) c.four.ensures l.invariant
 
 pub returns : goal.returns
-returns c = c.loop-i.invariant.2 k (omega arith)
+returns c = λ k h. c.loop-i.invariant.2 k (omega arith)
 
 pub loop-i-init : goal.loop-i-init
-loop-i-init c = absurd (omega arith))
+loop-i-init c = (omega arith, search rules, λ k h. absurd (omega arith))

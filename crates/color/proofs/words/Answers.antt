@@ -23,10 +23,10 @@ loop-i-preserved c =
     )
 
 pub returns : goal.returns
-returns c =
+returns c = λ k h.
     let l = c.loop-i in
     let below : k < l.i = omega arith in
     c.joined.ensures k h ∙ (λ j. l.invariant.0.2 k below j + 65536 * l.invariant.1.2 k below j)
 
 pub loop-i-init : goal.loop-i-init
-loop-i-init c = absurd (omega arith)))
+loop-i-init c = ((omega arith, search rules, λ k h. absurd (omega arith)), (omega arith, search rules, λ k h. absurd (omega arith)))

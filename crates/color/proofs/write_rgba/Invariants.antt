@@ -15,7 +15,7 @@ abbrev pub decreases-loop-at : goal.decreases-loop-at
 decreases-loop-at l = length l.y - l.at
 
 abbrev pub invariant-loop-at-2 : goal.invariant-loop-at-2
-invariant-loop-at-2 l = invariant-loop
+invariant-loop-at-2 l = (l.at ≤ length l.y) × PixelsWritten l.y l.cb l.cr l.initial.pixels l.initial.at l.pixels l.at
 
 abbrev pub decreases-loop-at-2 : goal.decreases-loop-at-2
-decreases-loop-at-2 l = decreases-loop
+decreases-loop-at-2 l = length l.y - l.at

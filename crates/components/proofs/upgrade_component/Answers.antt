@@ -22,7 +22,7 @@ upgrade_all-requires c =
     let a = c.args in
     let n = a.k * 4096 + 4096 - a.k * 4096 in
     let whole : a.k * 4096 + 4096 - a.k * 4096 ≡ 4096 = omega arith in
-    let long = component_long a.use-reduce-extrapolate a.positions a.t5 a.k n a.coefficients.now a.sign.now whole in
+    let long = component_long a.use_reduce_extrapolate a.positions a.rows a.k n a.coefficients.now a.sign.now whole in
     (right, long a.coefficients.now c.requires.2 c.requires.0, long a.sign.now c.requires.3 c.requires.0)
 
 pub returns : goal.returns
@@ -33,11 +33,11 @@ returns c =
     let n = a.k * 4096 + 4096 - a.k * 4096 in
     let whole : a.k * 4096 + 4096 - a.k * 4096 ≡ 4096 = omega arith in
     let row = c.row_at-prev in
-    let lay = component_put a.use-reduce-extrapolate a.positions a.t5 a.k n a.coefficients.now a.sign.now whole row.result row.ensures in
+    let lay = component_put a.use_reduce_extrapolate a.positions a.rows a.k n a.coefficients.now a.sign.now whole row.result row.ensures in
     let d = c.upgrade_all.ensures in
     record {
-      coefficients = lay (λ (ts : List Step) (x y : List ℤ). upgraded_coefficients ts a.srl-data.now a.raw-data.now x y) a.coefficients.now _ d.coefficients;
-      sign = lay (λ (ts : List Step) (x y : List ℤ). upgraded_signs ts a.srl-data.now y) a.sign.now _ d.sign;
-      missing = d.missing ∙ component_missing a.use-reduce-extrapolate a.positions a.t5 a.k n a.coefficients.now a.sign.now whole row.result row.ensures a.srl-data.now a.raw-data.now;
-      few = few_missing a.use-reduce-extrapolate row.result (of a.t5 a.k) a.srl-data.now a.raw-data.now (mid_of (a.k * 4096) n a.sign.now) d.missing right;
+      coefficients = lay (λ (ts : List Step) (x y : List ℤ). upgraded_coefficients ts a.srl_data.now a.raw_data.now x y) a.coefficients.now _ d.coefficients;
+      sign = lay (λ (ts : List Step) (x y : List ℤ). upgraded_signs ts a.srl_data.now y) a.sign.now _ d.sign;
+      missing = d.missing ∙ component_missing a.use_reduce_extrapolate a.positions a.rows a.k n a.coefficients.now a.sign.now whole row.result row.ensures a.srl_data.now a.raw_data.now;
+      few = few_missing a.use_reduce_extrapolate row.result (of a.rows a.k) a.srl_data.now a.raw_data.now (mid_of (a.k * 4096) n a.sign.now) d.missing right;
     }

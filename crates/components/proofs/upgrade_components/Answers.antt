@@ -21,7 +21,7 @@ sum_of-requires c = (c.upgrade_component-y.ensures.few, c.upgrade_component-cb.e
 pub returns : goal.returns
 returns c =
     let a = c.args in
-    let done = passed a.use-reduce-extrapolate a.positions a.rows (three a.y-srl.now a.cb-srl.now a.cr-srl.now) (three a.y-raw.now a.cb-raw.now a.cr-raw.now)
+    let done = passed a.use_reduce_extrapolate a.positions a.rows (three a.y_srl.now a.cb_srl.now a.cr_srl.now) (three a.y_raw.now a.cb_raw.now a.cr_raw.now)
     a.coefficients.now a.sign.now c.requires.1 c.requires.2
     c.upgrade_component-y.ensures c.upgrade_component-cb.ensures c.upgrade_component-cr.ensures in
     record { coefficients = done.coefficients; sign = done.sign; missing = c.sum_of.ensures ∙ done.missing }

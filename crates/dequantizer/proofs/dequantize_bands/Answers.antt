@@ -20,21 +20,21 @@ loop-b-preserved c =
     let a = c.args in
     let l = c.loop-b in
     let s = c.band_span-span in
-    let e = a.use-reduce-extrapolate in
+    let e = a.use_reduce_extrapolate in
     let from = s.result.from in
     let to = s.result.to in
     let at : Lies e l.b from to = record { number = c.loop-b-test.true; begins = s.ensures.0; ends = s.ensures.1 } in
     let m = part_length e l.b from to l.coefficients at (omega (arith, c.requires, l.invariant.1)) in (
       omega arith,
       c.coefficients-1.given.1 ∙ l.invariant.1,
-      all_band e (λ i. get_or a.t2 i 0) l.b from to a.coefficients.now l.coefficients c.dequantize_band.new.0 at c.requires l.invariant.2
-          (c.dequantize_band.ensures ∙ ap (λ n. dequantized_all (replicate n (get_or a.t2 l.b 0)) (mid_of from (to - from) l.coefficients)) m),
+      all_band e (λ i. get_or a.quant i 0) l.b from to a.coefficients.now l.coefficients c.dequantize_band.new.coefficients at c.requires l.invariant.2
+          (c.dequantize_band.ensures ∙ ap (λ n. dequantized_all (replicate n (get_or a.quant l.b 0)) (mid_of from (to - from) l.coefficients)) m),
     )
 
 pub returns : goal.returns
 returns c =
     let a = c.args in
     let l = c.loop-b in
-    let e = a.use-reduce-extrapolate in
+    let e = a.use_reduce_extrapolate in
     let ten : l.b ≡ 10 = omega arith in
-    sym l.invariant.2 ∙ ap (λ qs. dequantized_all qs a.coefficients.now) (ap (per_place_to e (λ i. get_or a.t2 i 0)) ten ∙ place_all e (λ i. get_or a.t2 i 0))
+    sym l.invariant.2 ∙ ap (λ qs. dequantized_all qs a.coefficients.now) (ap (per_place_to e (λ i. get_or a.quant i 0)) ten ∙ place_all e (λ i. get_or a.quant i 0))

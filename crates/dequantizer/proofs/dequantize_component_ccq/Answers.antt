@@ -17,13 +17,13 @@ returns-then-coefficients-lt-COEFFICIENTS_PER_COMPONENT c =
 pub returns-then-not-row_in_domain : goal.returns-then-not-row_in_domain
 returns-then-not-row_in_domain c =
     let enough : long_enough c.args.coefficients.now ≡ true = le-leb 4096 (length c.args.coefficients.now) (omega (arith, c.if-coefficients-lt-COEFFICIENTS_PER_COMPONENT.false)) in
-    let high : row_in_domain c.args.quant ≡ false = sym c.row_in_domain.ensures ∙ not-true _ c.if-not-row_in_domain.true in
+    let high : row_in_domain c.args.quant ≡ false = sym c.row_in_domain.ensures ∙ c.if-not-row_in_domain.true in
     let long = enough in
     record { answer = simp (long, high); coefficients = simp (long, high) }
 
 pub returns : goal.returns
 returns c =
     let enough : long_enough c.args.coefficients.now ≡ true = le-leb 4096 (length c.args.coefficients.now) (omega (arith, c.if-coefficients-lt-COEFFICIENTS_PER_COMPONENT.false)) in
-    let low : row_in_domain c.args.quant ≡ true = sym c.row_in_domain.ensures ∙ not-false _ c.if-not-row_in_domain.false in
+    let low : row_in_domain c.args.quant ≡ true = sym c.row_in_domain.ensures ∙ c.if-not-row_in_domain.false in
     let long = enough in
     record { answer = simp (long, low); coefficients = simp (long, low) c.dequantize_bands.ensures }

@@ -44,7 +44,7 @@ loop-m-preserved c =
     let a = c.args in
     let at = c.loop-m in
     let t = c.loop-m-test.true in
-    let D = c.pair_at.new.1.1.0 in
+    let D = c.pair_at.new.dst in
     let e = a.p - a.q - 1 in
     let s : (a.p + a.q) * a.w ≤ length at.dst = omega arith in
     let n = room a.w at.m e at.l at.h at.d t at.invariant.0 at.invariant.1 at.invariant.2 s in (
@@ -66,7 +66,7 @@ pub returns-then-p-q : goal.returns-then-p-q
 returns-then-p-q c =
     let a = c.args in
     let at = c.loop-m in
-    cols_one a.low.now a.high.now at.dst a.w at.l at.h at.d _ c.pair_at-then-p-q.new.1.1.0 a.dst.now (drop (at.h + a.w) a.high.now) (at.m + (a.p - a.q - 1)) at.m ((a.p + a.q) * a.w)
+    cols_one a.low.now a.high.now at.dst a.w at.l at.h at.d _ c.pair_at-then-p-q.new.dst a.dst.now (drop (at.h + a.w) a.high.now) (at.m + (a.p - a.q - 1)) at.m ((a.p + a.q) * a.w)
     (omega arith) at.invariant.4 at.invariant.5 (omega arith) (omega (arith, scale (at.m + at.m + (a.p - a.q - 1) + 3) 0 3 a.w (omega arith))) c.pair_at-then-p-q.ensures
 
 pub last_at-requires : goal.last_at-requires
@@ -84,5 +84,5 @@ pub returns : goal.returns
 returns c =
     let a = c.args in
     let at = c.loop-m in
-    cols_two a.low.now a.high.now at.dst a.w at.l at.h at.d _ c.last_at.new.1.1.0 a.dst.now (drop (at.h + a.w) a.high.now) (at.m + (a.p - a.q - 1)) at.m ((a.p + a.q) * a.w)
+    cols_two a.low.now a.high.now at.dst a.w at.l at.h at.d _ c.last_at.new.dst a.dst.now (drop (at.h + a.w) a.high.now) (at.m + (a.p - a.q - 1)) at.m ((a.p + a.q) * a.w)
     (omega arith) at.invariant.4 at.invariant.5 (omega arith) (omega (arith, scale (at.m + at.m + (a.p - a.q - 1) + 3) 0 4 a.w (omega arith))) c.last_at.ensures

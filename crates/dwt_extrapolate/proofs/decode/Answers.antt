@@ -52,7 +52,7 @@ returns c =
     let d₂ = c.decode_block-2 in
     let d₁ = c.decode_block-3 in
     let k₃ = length B - 3807 in
-    let k₂ = length (put_part 3807 k₃ B d₃.new.0) - 3007 in
+    let k₂ = length (put_part 3807 k₃ B d₃.new.buffer) - 3007 in
     let given = c.buffer-1.given.1 in
-    let r = three_blocks B T d₃.new.0 d₃.new.1.0 d₂.new.0 d₂.new.1.0 d₁.new.0 d₁.new.1.0 k₃ k₂ refl refl nb given d₃.ensures.0 d₂.ensures.0 d₁.ensures.0 d₃.ensures.1 d₂.ensures.1 d₁.ensures.1 in
+    let r = three_blocks B T d₃.new.buffer d₃.new.temp d₂.new.buffer d₂.new.temp d₁.new.buffer d₁.new.temp k₃ k₂ refl refl nb given d₃.ensures.0 d₂.ensures.0 d₁.ensures.0 d₃.ensures.1 d₂.ensures.1 d₁.ensures.1 in
     record { answer = simp (long, longt); buffer = simp (long, longt) r.0; scratch = simp (long, longt) r.1 }

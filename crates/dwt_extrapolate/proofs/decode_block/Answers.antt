@@ -14,6 +14,6 @@ returns c =
     let r₁ = c.rows_of_lem in
     let r₂ = c.rows_of2 in
     let k = length r₁.new.1.0 - a.p * (a.p + a.q) in (
-      block_cols a.p a.q v a.buffer.now (omega arith) a.temp.now r₁.new.1.0 r₂.new.1.0 k r₁.ensures refl r₂.ensures c.idwt_cols.new.1.0 c.idwt_cols.ensures,
+      block_cols a.p a.q v a.buffer.now (omega arith) a.temp.now r₁.new.1.0 r₂.new.1.0 k r₁.ensures refl r₂.ensures c.idwt_cols.new.dst c.idwt_cols.ensures,
       block_scratch a.p a.q v a.buffer.now (omega arith) a.temp.now r₁.new.1.0 r₂.new.1.0 k r₁.ensures refl r₂.ensures,
     )

@@ -29,8 +29,8 @@ loop-m-preserved c =
     let row = c.idwt_row in
     let w = a.p + a.q in
     let k = at.d + w - at.d in
-    let u = row.new.1.1.0 in
-    let n : length u ≡ k = row.auto.1.1.0 ∙ mid_len at.d (at.d + w) at.dst (omega (arith, within)) in (
+    let u = row.new.dst in
+    let n : length u ≡ k = row.auto.dst ∙ mid_len at.d (at.d + w) at.dst (omega (arith, within)) in (
       omega (arith, scale at.m (at.m - 1) 1 a.p (omega arith)),
       omega (arith, scale at.m (at.m - 1) 1 a.q (omega arith)),
       omega (arith, scale at.m (at.m - 1) 1 w (omega arith)),

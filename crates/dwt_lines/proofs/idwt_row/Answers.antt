@@ -38,7 +38,7 @@ loop-j-preserved c =
       omega arith,
       omega arith,
       simp length-set (omega arith),
-      line_turn _ a.low.now a.high.now at.dst (to_z w16 at.x) (to_z w16 at.h) _ _ _ at.i at.j (omega arith) (omega arith) (omega arith)
+      line_turn _ a.low.now a.high.now at.dst (to_z w16 at.x-bits) (to_z w16 at.h-bits) _ _ _ at.i at.j (omega arith) (omega arith) (omega arith)
           k (y ∙ (rw l at even.ensures)) (o ∙ c.odd_sample.ensures) at.invariant.4,
     )
 
@@ -47,7 +47,7 @@ returns c =
     let a = c.args in
     let at = c.loop-j in
     let end : at.j ≡ length a.high.now = omega arith in
-    line_done _ a.low.now a.high.now at.dst c.row_end.new.1.1.1.0 (to_z w16 at.x) (to_z w16 at.h) at.i (length a.high.now) (length at.dst - at.i) (length a.low.now - length a.high.now) (omega arith) (omega arith) (omega arith)
+    line_done _ a.low.now a.high.now at.dst c.row_end.new.dst (to_z w16 at.x-bits) (to_z w16 at.h-bits) at.i (length a.high.now) (length at.dst - at.i) (length a.low.now - length a.high.now) (omega arith) (omega arith) (omega arith)
     (rw end at at.invariant.4) c.row_end.ensures
 
 pub bounds-dst-i-in-loop-j : goal.bounds-dst-i-in-loop-j

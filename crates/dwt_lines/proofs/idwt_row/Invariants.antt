@@ -15,7 +15,7 @@ use Rattle.dwt_lines.proofs.idwt_row.Given as goal
 abbrev pub invariant-loop-j : goal.invariant-loop-j
 invariant-loop-j l =
     (1 ≤ l.j) × (l.j ≤ length l.high) × (l.i + 2 ≡ 2 * l.j) × (length l.dst ≡ length l.initial.dst)
-    × (line l.low l.high ≡ take l.i l.dst ++ from (to_z w16 l.x) (to_z w16 l.h) (get_or l.low l.j (pos 0)) (drop (l.j + 1) l.low) (drop l.j l.high))
+    × (line l.low l.high ≡ take l.i l.dst ++ from l.x l.h (get_or l.low l.j (pos 0)) (drop (l.j + 1) l.low) (drop l.j l.high))
 
 abbrev pub decreases-loop-j : goal.decreases-loop-j
 decreases-loop-j l = length l.high - l.j

@@ -9,7 +9,7 @@ use Rattle.planes.proofs.flat_rows.Goals as goal
 
 pub returns : goal.returns
 returns c =
-    let rows = c.args.t1 in
+    let rows = c.args.rows in
     let y : length (get_or rows 0 []) ≡ 10 = search (rules, row_long) in
     let cb : length (get_or rows 1 []) ≡ 10 = search (rules, row_long) in
     let cr : length (get_or rows 2 []) ≡ 10 = search (rules, row_long) in

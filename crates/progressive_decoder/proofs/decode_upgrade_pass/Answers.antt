@@ -31,20 +31,20 @@ returns-then-not-rows_ok c =
     let a = c.args in
     let long = coefficients in
     let long' = signs in
-    let high : (row_in_domain a.prev && row_in_domain a.curr) ≡ false = sym c.rows_ok.ensures ∙ not-true _ c.if-not-rows_ok.true in
+    let high : (row_in_domain a.prev && row_in_domain a.curr) ≡ false = sym c.rows_ok.ensures ∙ c.if-not-rows_ok.true in
     let r = c.not_decoded-then-not-rows_ok.ensures in
     record { answer = simp (long, long', high) r.0; missing = simp (long, long', high) r.1; coefficients = simp (long, long', high); sign = simp (long, long', high) }
 
 pub upgrade_all-missing-requires : goal.upgrade_all-missing-requires
 upgrade_all-missing-requires c =
-    let low : (row_in_domain c.args.prev && row_in_domain c.args.curr) ≡ true = sym c.rows_ok.ensures ∙ not-false _ c.if-not-rows_ok.false in
+    let low : (row_in_domain c.args.prev && row_in_domain c.args.curr) ≡ true = sym c.rows_ok.ensures ∙ c.if-not-rows_ok.false in
     ((both_true _ _ low).0, omega (arith, c.if-coefficients-lt-COEFFICIENTS_PER_COMPONENT.false), omega (arith, c.if-sign-lt-COEFFICIENTS_PER_COMPONENT.false))
 
 pub returns : goal.returns
 returns c =
     let coefficients : long_enough c.args.coefficients.now ≡ true = le-leb 4096 (length c.args.coefficients.now) (omega (arith, c.if-coefficients-lt-COEFFICIENTS_PER_COMPONENT.false)) in
     let signs : long_enough c.args.sign.now ≡ true = le-leb 4096 (length c.args.sign.now) (omega (arith, c.if-sign-lt-COEFFICIENTS_PER_COMPONENT.false)) in
-    let low : (row_in_domain c.args.prev && row_in_domain c.args.curr) ≡ true = sym c.rows_ok.ensures ∙ not-false _ c.if-not-rows_ok.false in
+    let low : (row_in_domain c.args.prev && row_in_domain c.args.curr) ≡ true = sym c.rows_ok.ensures ∙ c.if-not-rows_ok.false in
     let long = coefficients in
     let long' = signs in
     let right = low in

@@ -40,12 +40,12 @@ returns-then-not-rows_ok c =
     let long = coefficients in
     let long' = previous in
     let long'' = signs in
-    let high : (row_in_domain a.prev && row_in_domain a.curr) ≡ false = sym c.rows_ok.ensures ∙ not-true _ c.if-not-rows_ok.true in
+    let high : (row_in_domain a.prev && row_in_domain a.curr) ≡ false = sym c.rows_ok.ensures ∙ c.if-not-rows_ok.true in
     record { answer = simp (long, long', long'', high); srl = simp (long, long', long'', high); raw = simp (long, long', long'', high) }
 
 pub write_pass-requires : goal.write_pass-requires
 write_pass-requires c =
-    let low : (row_in_domain c.args.prev && row_in_domain c.args.curr) ≡ true = sym c.rows_ok.ensures ∙ not-false _ c.if-not-rows_ok.false in
+    let low : (row_in_domain c.args.prev && row_in_domain c.args.curr) ≡ true = sym c.rows_ok.ensures ∙ c.if-not-rows_ok.false in
     let r = both_true _ _ low in (
       r.0,
       r.1,
@@ -61,7 +61,7 @@ returns c =
     let coefficients : long_enough c.args.coefficients.now ≡ true = le-leb 4096 (length c.args.coefficients.now) (omega (arith, c.if-coefficients-lt-COEFFICIENTS_PER_COMPONENT.false)) in
     let previous : long_enough c.args.prev_coefficients.now ≡ true = le-leb 4096 (length c.args.prev_coefficients.now) (omega (arith, c.if-prev_coefficients-lt-COEFFICIENTS_PER_COMPONENT.false)) in
     let signs : long_enough c.args.sign.now ≡ true = le-leb 4096 (length c.args.sign.now) (omega (arith, c.if-sign-lt-COEFFICIENTS_PER_COMPONENT.false)) in
-    let low : (row_in_domain c.args.prev && row_in_domain c.args.curr) ≡ true = sym c.rows_ok.ensures ∙ not-false _ c.if-not-rows_ok.false in
+    let low : (row_in_domain c.args.prev && row_in_domain c.args.curr) ≡ true = sym c.rows_ok.ensures ∙ c.if-not-rows_ok.false in
     let long = coefficients in
     let long' = previous in
     let long'' = signs in

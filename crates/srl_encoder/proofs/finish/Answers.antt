@@ -15,17 +15,17 @@ use Rattle.srl_encoder.proofs.finish.Goals as goal
 
 pub returns-then-not-writer_ok : goal.returns-then-not-writer_ok
 returns-then-not-writer_ok c =
-    let bad : writer_ok c.args.state ≡ false = sym c.writer_ok.ensures ∙ not-true _ c.if-not-writer_ok.true in
+    let bad : writer_ok c.args.state ≡ false = sym c.writer_ok.ensures ∙ c.if-not-writer_ok.true in
     record { answer = simp bad; out = simp bad }
 
 pub end_length-need-requires : goal.end_length-need-requires
 end_length-need-requires c =
-    let good : writer_ok c.args.state ≡ true = sym c.writer_ok.ensures ∙ not-false _ c.if-not-writer_ok.false in
+    let good : writer_ok c.args.state ≡ true = sym c.writer_ok.ensures ∙ c.if-not-writer_ok.false in
     writer_ok_good c.args.state good
 
 pub returns-then-out-need : goal.returns-then-out-need
 returns-then-out-need c =
-    let good : writer_ok c.args.state ≡ true = sym c.writer_ok.ensures ∙ not-false _ c.if-not-writer_ok.false in
+    let good : writer_ok c.args.state ≡ true = sym c.writer_ok.ensures ∙ c.if-not-writer_ok.false in
     let a = c.args in
     let n = c.end_length-need.ensures in
     let r : finish_refusal a.state (length a.out.now) ≡ output_too_short =
@@ -37,12 +37,12 @@ returns-then-out-need c =
 
 pub put_end-requires : goal.put_end-requires
 put_end-requires c =
-    let good : writer_ok c.args.state ≡ true = sym c.writer_ok.ensures ∙ not-false _ c.if-not-writer_ok.false in
+    let good : writer_ok c.args.state ≡ true = sym c.writer_ok.ensures ∙ c.if-not-writer_ok.false in
     writer_ok_good c.args.state good
 
 pub returns : goal.returns
 returns c =
-    let good : writer_ok c.args.state ≡ true = sym c.writer_ok.ensures ∙ not-false _ c.if-not-writer_ok.false in
+    let good : writer_ok c.args.state ≡ true = sym c.writer_ok.ensures ∙ c.if-not-writer_ok.false in
     let a = c.args in
     let n = c.end_length-need.ensures in
     let fits : length (finish_bytes a.state) ≤ length a.out.now = rw n at c.if-out-need.false in

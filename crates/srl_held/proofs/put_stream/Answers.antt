@@ -14,16 +14,16 @@ put_values-done-requires c =
     let started : c.call_start-start.result ≡ call_start fresh_writer = c.call_start-start.ensures ∙ ap call_start c.new.ensures in
     let a = c.args in
     rw started
-    ((word_of_sound (sink fresh_writer) fresh_good.0, fresh_good.1), fresh_good.2, c.requires.0, omega (arith, call_count_lem a.num-bits fresh_writer a.values.now (omega arith), stream_length a.num-bits a.values.now, c.requires.2))
+    ((word_of_sound (sink fresh_writer) fresh_good.0, fresh_good.1), fresh_good.2, c.requires.0, omega (arith, call_count_lem a.num_bits fresh_writer a.values.now (omega arith), stream_length a.num_bits a.values.now, c.requires.2))
 
 pub put_last-requires : goal.put_last-requires
 put_last-requires c =
     let started : c.call_start-start.result ≡ call_start fresh_writer = c.call_start-start.ensures ∙ ap call_start c.new.ensures in
     let a = c.args in
-    last_room a.num-bits a.values.now c.requires.1 c.requires.2 (wrote_from a.num-bits a.out.now a.values.now started c.put_values-done.ensures)
+    last_room a.num_bits a.values.now c.requires.1 c.requires.2 (wrote_from a.num_bits a.out.now a.values.now started c.put_values-done.ensures)
 
 pub returns : goal.returns
 returns c =
     let started : c.call_start-start.result ≡ call_start fresh_writer = c.call_start-start.ensures ∙ ap call_start c.new.ensures in
     let a = c.args in
-    stream_out_lem a.num-bits a.values.now a.out.now (wrote_from a.num-bits a.out.now a.values.now started c.put_values-done.ensures) c.put_last.ensures
+    stream_out_lem a.num_bits a.values.now a.out.now (wrote_from a.num_bits a.out.now a.values.now started c.put_values-done.ensures) c.put_last.ensures

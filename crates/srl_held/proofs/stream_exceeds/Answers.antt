@@ -29,14 +29,14 @@ pub end_length-need-requires : goal.end_length-need-requires
 end_length-need-requires c =
     let wrote : (c.put_call-done.result.count ≡ length (call_bytes c.args.num_bits fresh_writer c.args.values.now)) × (c.put_call-done.result.state ≡ call_after c.args.num_bits fresh_writer c.args.values.now) = let a = c.args in
     let e = c.new-fresh.ensures in
-    (c.put_call-done.ensures.count ∙ ap (λ st. length (call_bytes a.num-bits st a.values.now)) e, c.put_call-done.ensures.state ∙ ap (λ st. call_after a.num-bits st a.values.now) e) in
+    (c.put_call-done.ensures.count ∙ ap (λ st. length (call_bytes a.num_bits st a.values.now)) e, c.put_call-done.ensures.state ∙ ap (λ st. call_after a.num_bits st a.values.now) e) in
     rw wrote.1 (last_good c.args.num_bits c.args.values.now c.requires.1)
 
 pub overflow_sub-result : goal.overflow_sub-result
 overflow_sub-result c =
     let wrote : (c.put_call-done.result.count ≡ length (call_bytes c.args.num_bits fresh_writer c.args.values.now)) × (c.put_call-done.result.state ≡ call_after c.args.num_bits fresh_writer c.args.values.now) = let a = c.args in
     let e = c.new-fresh.ensures in
-    (c.put_call-done.ensures.count ∙ ap (λ st. length (call_bytes a.num-bits st a.values.now)) e, c.put_call-done.ensures.state ∙ ap (λ st. call_after a.num-bits st a.values.now) e) in
+    (c.put_call-done.ensures.count ∙ ap (λ st. length (call_bytes a.num_bits st a.values.now)) e, c.put_call-done.ensures.state ∙ ap (λ st. call_after a.num_bits st a.values.now) e) in
     let measured : c.exceeds.result ≡ ltb c.args.room (length (call_bytes c.args.num_bits fresh_writer c.args.values.now)) = c.exceeds.ensures ∙ ap (λ st. ltb c.args.room (length (call_bytes c.args.num_bits st c.args.values.now))) c.new-fresh.ensures in
     let fits : length (call_bytes c.args.num_bits fresh_writer c.args.values.now) ≤ c.args.room = ltb-false _ _ (sym measured ∙ c.if-exceeds.false) in
     omega (arith, wrote.0, fits)
@@ -45,9 +45,9 @@ pub returns : goal.returns
 returns c =
     let wrote : (c.put_call-done.result.count ≡ length (call_bytes c.args.num_bits fresh_writer c.args.values.now)) × (c.put_call-done.result.state ≡ call_after c.args.num_bits fresh_writer c.args.values.now) = let a = c.args in
     let e = c.new-fresh.ensures in
-    (c.put_call-done.ensures.count ∙ ap (λ st. length (call_bytes a.num-bits st a.values.now)) e, c.put_call-done.ensures.state ∙ ap (λ st. call_after a.num-bits st a.values.now) e) in
+    (c.put_call-done.ensures.count ∙ ap (λ st. length (call_bytes a.num_bits st a.values.now)) e, c.put_call-done.ensures.state ∙ ap (λ st. call_after a.num_bits st a.values.now) e) in
     let measured : c.exceeds.result ≡ ltb c.args.room (length (call_bytes c.args.num_bits fresh_writer c.args.values.now)) = c.exceeds.ensures ∙ ap (λ st. ltb c.args.room (length (call_bytes c.args.num_bits st c.args.values.now))) c.new-fresh.ensures in
     let fits : length (call_bytes c.args.num_bits fresh_writer c.args.values.now) ≤ c.args.room = ltb-false _ _ (sym measured ∙ c.if-exceeds.false) in
     let a = c.args in
-    end_exceeds a.num-bits a.values.now a.room (omega (arith, wrote.0, fits)) wrote.0
+    end_exceeds a.num_bits a.values.now a.room (omega (arith, wrote.0, fits)) wrote.0
     (c.end_length-need.ensures ∙ ap (λ st. length (finish_bytes st)) wrote.1)

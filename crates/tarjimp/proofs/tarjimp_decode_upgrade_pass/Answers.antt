@@ -11,7 +11,7 @@ returns c =
     let a = c.args in
     let e = c.decode_upgrade_pass-d.ensures in
     record {
-      number = by_number (decode_pass_refusal a.prev.now a.curr.now a.coefficients.now a.sign.now) c.number_of_lem.ensures e.answer;
+      number = by_number (decode_pass_refusal a.prev.now a.curr.now a.coefficients.now a.sign.now) c.number_of.ensures e.answer;
       coefficients = e.coefficients;
       sign = e.sign;
       missing = c.missing_numbers.ensures ∙ ap missing_numbers e.missing;

@@ -8,4 +8,4 @@ pub returns : goal.returns
 returns c =
     let a = c.args in
     let e = c.dequantize_component_ccq.ensures in
-    record { answer = by_number (dequantize_refusal a.quant.now a.coefficients.now) c.number_of_lem.ensures e.answer; coefficients = e.coefficients }
+    record { answer = by_number (dequantize_refusal a.quant.now a.coefficients.now) c.number_of.ensures e.answer; coefficients = e.coefficients }

@@ -8,4 +8,4 @@ pub returns : goal.returns
 returns c =
     let a = c.args in
     let e = c.decode.ensures in
-    record { answer = by_number (inverse_refusal a.buffer.now a.temp.now) c.number_of_lem.ensures e.answer; buffer = e.buffer; scratch = e.scratch }
+    record { answer = by_number (inverse_refusal a.buffer.now a.temp.now) c.number_of.ensures e.answer; buffer = e.buffer; scratch = e.scratch }

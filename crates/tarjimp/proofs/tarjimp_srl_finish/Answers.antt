@@ -8,17 +8,17 @@ use Rattle.tarjimp.proofs.tarjimp_srl_finish.Goals as goal
 
 pub returns-then-not-writer_fits : goal.returns-then-not-writer_fits
 returns-then-not-writer_fits c =
-    let unfit : writer_fits c.args.state.now ≡ false = sym c.writer_fits.ensures ∙ not-true _ c.if-not-writer_fits.true in
+    let unfit : writer_fits c.args.state.now ≡ false = sym c.writer_fits.ensures ∙ c.if-not-writer_fits.true in
     record { number = simp unfit; out = simp unfit; written = simp unfit }
 
 pub writer_of-requires : goal.writer_of-requires
 writer_of-requires c =
-    let fits : writer_fits c.args.state.now ≡ true = sym c.writer_fits.ensures ∙ not-false _ c.if-not-writer_fits.false in
+    let fits : writer_fits c.args.state.now ≡ true = sym c.writer_fits.ensures ∙ c.if-not-writer_fits.false in
     fits
 
 pub returns : goal.returns
 returns c =
-    let fits : writer_fits c.args.state.now ≡ true = sym c.writer_fits.ensures ∙ not-false _ c.if-not-writer_fits.false in
+    let fits : writer_fits c.args.state.now ≡ true = sym c.writer_fits.ensures ∙ c.if-not-writer_fits.false in
     let ok = fits in
     let st = c.writer_of.ensures in
     let f = c.finish-f.ensures in

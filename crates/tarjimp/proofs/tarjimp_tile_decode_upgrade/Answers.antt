@@ -16,16 +16,6 @@ use Rattle.tile.proofs.Accepted.{refused, accepted, positions_low}
 use Rattle.tarjimp.specs.Calls.{missing_numbers, tile_of}
 use Rattle.tarjimp.proofs.tarjimp_tile_decode_upgrade.Goals as goal
 
--- the tile handed in, and the streams
-abbrev handed : tie.Start → TileState
-handed s = tile_of s.args.coefficients.now s.args.sign.now s.args.zero-signs.now s.args.prog-quant.now s.args.base-quant.now s.args.use-reduce-extrapolate s.args.pass.now s.args.quality.now
-
-abbrev srlOf : tie.Start → List (List ℕ)
-srlOf s = three s.args.y-srl.now s.args.cb-srl.now s.args.cr-srl.now
-
-abbrev rawOf : tie.Start → List (List ℕ)
-rawOf s = three s.args.y-raw.now s.args.cb-raw.now s.args.cr-raw.now
-
 -- a tile is upgraded if each of its parts is
 upgraded_tile : {cs ss : List ℤ} {ns ps : List ℕ} {n : ℕ} (cs₀ ss₀ : List ℤ) (ns₀ ps₀ quants : List ℕ) (e : Bool) (n₀ q₀ q : ℕ) (srl_data raw_data rows : List (List ℕ)) → cs ≡ pass_coefficients e ps₀ rows srl_data raw_data cs₀ ss₀ → ss ≡ pass_signs e ps₀ rows srl_data ss₀ → ns ≡ zero_signs_of e (pass_signs e ps₀ rows srl_data ss₀) → ps ≡ joined (of rows) → n ≡ next_pass n₀ → tile_of cs ss ns ps quants e n q ≡ upgraded (tile_of cs₀ ss₀ ns₀ ps₀ quants e n₀ q₀) srl_data raw_data rows q
 unfolding upgraded
@@ -33,8 +23,11 @@ upgraded_tile cs₀ ss₀ ns₀ ps₀ quants e n₀ q₀ q srl_data raw_data row
 
 pub returns-then-refusal-ne0 : goal.returns-then-refusal-ne0
 returns-then-refusal-ne0 c =
+    let handed : TileState = tile_of c.args.coefficients.now c.args.sign.now c.args.zero_signs.now c.args.prog_quant.now c.args.base_quant.now c.args.use_reduce_extrapolate c.args.pass.now c.args.quality.now in
+    let srlOf : List (List ℕ) = three c.args.y_srl.now c.args.cb_srl.now c.args.cr_srl.now in
+    let rawOf : List (List ℕ) = three c.args.y_raw.now c.args.cb_raw.now c.args.cr_raw.now in
     let some = c.if-refusal-ne0.true in
-    let e = refused (handed ⟪Start⟫) (srlOf ⟪Start⟫) (rawOf ⟪Start⟫) c.args.prog_quants.now c.args.new_quality some c.upgrade_refusal-refusal.ensures in
+    let e = refused handed srlOf rawOf c.args.prog_quants.now c.args.new_quality some c.upgrade_refusal-refusal.ensures in
     record {
       number = sym (refused_some _ some) ∙ ap (λ (u : Upgraded). u.answer) e;
       tile = ap (λ (u : Upgraded). u.tile) e;
@@ -43,15 +36,19 @@ returns-then-refusal-ne0 c =
 
 pub upgrade_in_place-bits-requires : goal.upgrade_in_place-bits-requires
 upgrade_in_place-bits-requires c =
-    let none : upgrade_refusal (handed ⟪Start⟫) c.args.prog_quants.now ≡ 0 = sym c.upgrade_refusal-refusal.ensures ∙ c.if-refusal-ne0.false in
-    positions_low (handed ⟪Start⟫) c.args.prog_quants.now none
+    let handed : TileState = tile_of c.args.coefficients.now c.args.sign.now c.args.zero_signs.now c.args.prog_quant.now c.args.base_quant.now c.args.use_reduce_extrapolate c.args.pass.now c.args.quality.now in
+    let none : upgrade_refusal (handed) c.args.prog_quants.now ≡ 0 = sym c.upgrade_refusal-refusal.ensures ∙ c.if-refusal-ne0.false in
+    positions_low handed c.args.prog_quants.now none
 
 pub returns : goal.returns
 returns c =
-    let none : upgrade_refusal (handed ⟪Start⟫) c.args.prog_quants.now ≡ 0 = sym c.upgrade_refusal-refusal.ensures ∙ c.if-refusal-ne0.false in
+    let handed : TileState = tile_of c.args.coefficients.now c.args.sign.now c.args.zero_signs.now c.args.prog_quant.now c.args.base_quant.now c.args.use_reduce_extrapolate c.args.pass.now c.args.quality.now in
+    let srlOf : List (List ℕ) = three c.args.y_srl.now c.args.cb_srl.now c.args.cr_srl.now in
+    let rawOf : List (List ℕ) = three c.args.y_raw.now c.args.cb_raw.now c.args.cr_raw.now in
+    let none : upgrade_refusal (handed) c.args.prog_quants.now ≡ 0 = sym c.upgrade_refusal-refusal.ensures ∙ c.if-refusal-ne0.false in
     let done = c.upgrade_in_place-bits.ensures in
     let tile = upgraded_tile _ _ _ _ _ _ _ _ _ _ _ _ done.coefficients done.sign done.numbers done.positions done.pass in
-    let e = accepted (handed ⟪Start⟫) (srlOf ⟪Start⟫) (rawOf ⟪Start⟫) c.args.prog_quants.now c.args.new_quality none (record { tile = tile; missing = done.missing }) in
+    let e = accepted handed srlOf rawOf c.args.prog_quants.now c.args.new_quality none (record { tile = tile; missing = done.missing }) in
     record {
       number = ap (λ (u : Upgraded). u.answer) e;
       tile = ap (λ (u : Upgraded). u.tile) e;

@@ -11,15 +11,15 @@ use Rattle.tarjimp.proofs.tarjimp_tile_reconstruct_to_rgba.Goals as goal
 pub returns-then-not-are_right : goal.returns-then-not-are_right
 returns-then-not-are_right c =
     let a = c.args in
-    let wrong : are_right a.use-reduce-extrapolate a.sign.now a.zero-signs.now ≡ false = sym c.are_right.ensures ∙ not-true _ c.if-not-are_right.true in
+    let wrong : are_right a.use_reduce_extrapolate a.sign.now a.zero_signs.now ≡ false = sym c.are_right.ensures ∙ c.if-not-are_right.true in
     record { answer = simp wrong; pixels = simp wrong }
 
 pub returns : goal.returns
 returns c =
     let a = c.args in
-    let right : are_right a.use-reduce-extrapolate a.sign.now a.zero-signs.now ≡ true = sym c.are_right.ensures ∙ not-false _ c.if-not-are_right.false in
+    let right : are_right a.use_reduce_extrapolate a.sign.now a.zero_signs.now ≡ true = sym c.are_right.ensures ∙ c.if-not-are_right.false in
     let e = c.reconstruct_to_rgba.ensures in
     record {
-      answer = simp right (by_number (pixels_refusal a.prog-quant.now a.base-quant.now a.use-reduce-extrapolate a.pixels.now) c.number_of_lem.ensures e.answer);
+      answer = simp right (by_number (pixels_refusal a.prog_quant.now a.base_quant.now a.use_reduce_extrapolate a.pixels.now) c.number_of.ensures e.answer);
       pixels = simp right e.pixels;
     }

@@ -10,19 +10,19 @@ use Rattle.tile.proofs.upgrade_refusal.Goals as goal
 pub returns-then-not-right : goal.returns-then-not-right
 returns-then-not-right c =
     let a = c.args in
-    let wrong : are_right a.use-reduce-extrapolate a.sign.now a.numbers.now ≡ false = sym c.are_right-right.ensures ∙ not-true c.are_right-right.result c.if-not-right.true in
+    let wrong : are_right a.use_reduce_extrapolate a.sign.now a.numbers.now ≡ false = sym c.are_right-right.ensures ∙ not-true c.are_right-right.result c.if-not-right.true in
     simp wrong
 
 pub returns-then-not-low : goal.returns-then-not-low
 returns-then-not-low c =
-    let right : are_right c.args.use_reduce_extrapolate c.args.sign.now c.args.numbers.now ≡ true = sym c.are_right-right.ensures ∙ not-false _ c.if-not-right.false in
+    let right : are_right c.args.use_reduce_extrapolate c.args.sign.now c.args.numbers.now ≡ true = sym c.are_right-right.ensures ∙ c.if-not-right.false in
     let a = c.args in
-    let high : (rows_in_domain a.rows && (row_in_domain a.positions && row_in_domain a.quants)) ≡ false = sym c.in_domain-low.ensures ∙ not-true _ c.if-not-low.true in
+    let high : (rows_in_domain a.rows && (row_in_domain a.positions && row_in_domain a.quants)) ≡ false = sym c.in_domain-low.ensures ∙ c.if-not-low.true in
     simp (right, high)
 
 pub returns : goal.returns
 returns c =
-    let right : are_right c.args.use_reduce_extrapolate c.args.sign.now c.args.numbers.now ≡ true = sym c.are_right-right.ensures ∙ not-false _ c.if-not-right.false in
+    let right : are_right c.args.use_reduce_extrapolate c.args.sign.now c.args.numbers.now ≡ true = sym c.are_right-right.ensures ∙ c.if-not-right.false in
     let a = c.args in
-    let low : (rows_in_domain a.rows && (row_in_domain a.positions && row_in_domain a.quants)) ≡ true = sym c.in_domain-low.ensures ∙ not-false _ c.if-not-low.false in
+    let low : (rows_in_domain a.rows && (row_in_domain a.positions && row_in_domain a.quants)) ≡ true = sym c.in_domain-low.ensures ∙ c.if-not-low.false in
     simp (right, low)

@@ -9,14 +9,11 @@ use Rattle.upgrade_steps.specs.Inner.{band_step}
 use Rattle.upgrade_steps.proofs.Stretches.{same_step}
 use Rattle.upgrade_steps.proofs.stretch_at.Goals as goal
 
--- the number of the band, by the table
-abbrev number : tie.After-band-step → ℕ
-number c = get_or c.before.before.args.table.now c.before.before.args.place 0
-
 pub returns : goal.returns
 returns c =
-    let step : band_step c.band_step.result ≡ step_at (number ⟪After-band_step⟫) (get_or c.args.t3 (number ⟪After-band_step⟫) 0) (get_or c.args.t4 (number ⟪After-band_step⟫) 0) = c.band_step.ensures in
+    let number : ℕ = get_or c.args.table.now c.args.place 0 in
+    let step : band_step c.band_step.result ≡ step_at (number) (get_or c.args.prev (number) 0) (get_or c.args.curr (number) 0) = c.band_step.ensures in
     let a = c.args in
     let by_table = ap (λ (l : List ℕ). get_or l a.place 0) table in
-    same_step e a.t3 a.t4 a.place _ _ c.requires.0 (λ i. get_or (ends i) (by_table i) 0)
-    (step ∙ ap (step_of a.t3 a.t4) by_table)
+    same_step e a.prev a.curr a.place _ _ c.requires.0 (λ i. get_or (ends i) (by_table i) 0)
+    (step ∙ ap (step_of a.prev a.curr) by_table)

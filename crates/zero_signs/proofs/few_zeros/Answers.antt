@@ -1,7 +1,6 @@
 -- `zero_signs::few_zeros` meets its contract. Assumes nothing.
 use mathlib.Core.Path.{◌≡◌, sym, ap, ◌∙◌}
 use mathlib.Core.Bool.{true, false}
-use mathlib.Core.Logic.{⊎_elim}
 use Prim.Native.Nat.{ℕ, ◌-◌}
 use native.Mathlib.Omega.{arith}
 use lib.IntN.{pos}
@@ -14,6 +13,7 @@ use Rattle.fixed.specs.Fixed.{is_zero}
 use Rattle.zero_signs.specs.ZeroSigns.{zeros_in}
 use Rattle.zero_signs.proofs.Counted.{zeros_next, Counting, count_starts}
 use Rattle.zero_signs.proofs.few_zeros.Goals as goal
+use Rattle.zero_signs.proofs.few_zeros.Goals.{then-is_zero_sign, else-is_zero_sign}
 
 pub loop-i-init : goal.loop-i-init
 loop-i-init c = count_starts c.args.signs.now c.args.from c.args.to c.requires.0
@@ -24,10 +24,10 @@ loop-i-preserved c =
     let at = c.loop-i in
     let next = zeros_next l at.i c.args.to in
     let is = sym (c.is_zero_sign.ensures ∙ ap is_zero (to_z-of_z w8 (get_or l at.i (pos 0)) (record { sfits = c.is_zero_sign-arg-1.given }))) in
-    ⊎_elim
-    (λ w. (omega arith, omega arith, omega arith, omega (arith, at.invariant.3, next true (is ∙ w.0.taken) c.loop-i-test.true c.requires.2)))
-    (λ w. (omega arith, omega arith, omega arith, omega (arith, at.invariant.3, next false (is ∙ w.0.left) c.loop-i-test.true c.requires.2)))
-    c.if-is_zero_sign.branch
+    elim c.if-is_zero_sign.branch [
+      then-is_zero_sign w ↦ (omega arith, omega arith, omega arith, omega (arith, at.invariant.3, next true (is ∙ w.if-is_zero_sign.true) c.loop-i-test.true c.requires.2))
+      | else-is_zero_sign w ↦ (omega arith, omega arith, omega arith, omega (arith, at.invariant.3, next false (is ∙ w.if-is_zero_sign.false) c.loop-i-test.true c.requires.2))
+    ]
 
 pub returns : goal.returns
 unfolding zeros_in

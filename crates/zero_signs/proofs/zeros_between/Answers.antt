@@ -11,7 +11,7 @@ loop-i-init c = count_starts c.args.signs.now c.args.from c.args.to c.requires.0
 pub loop-i-preserved : goal.loop-i-preserved
 loop-i-preserved c =
     let at = c.loop-i in
-    let few = c.few_zeros_lem.ensures in
+    let few = c.few_zeros.ensures in
     let parts = zeros_parts c.args.signs.now at.i c.args.to (at.i + 128) (omega arith) (omega arith) c.requires.1 in
     (omega arith, omega arith, omega (arith, few.1), omega (arith, at.invariant.3, few.0, parts))
 

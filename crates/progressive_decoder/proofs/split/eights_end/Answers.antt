@@ -4,7 +4,7 @@ use mathlib.Core.Bool.{Bool, cond}
 use Rattle.progressive_decoder.proofs.split.eights_end.Goals as goal
 
 pub returns-then-t : goal.returns-then-t
-returns-then-t c = cond b 0 c.before.args.len) c.if1.true)
+returns-then-t c = sym (ap (λ (b : Bool). cond b 0 c.args.len) c.if-t.true)
 
 pub returns : goal.returns
-returns c = cond b 0 c.before.args.len) c.if1.false)
+returns c = sym (ap (λ (b : Bool). cond b 0 c.args.len) c.if-t.false)

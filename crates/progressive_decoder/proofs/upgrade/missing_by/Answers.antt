@@ -24,6 +24,6 @@ pub returns : goal.returns
 returns c =
     let read : bits_read c.place.result ≡ c.args.ends.raw = ap bits_read c.place.ensures ∙ read_place _ in
     let a = c.args in
-    let srl : c.past_end-srl.result ≡ bits_read a.ends.srl.reader - 8 * length a.srl-data.now = c.past_end-srl.ensures in
-    let raw : c.past_end-raw.result ≡ bits_read c.place.result - 8 * length a.raw-data.now = c.past_end-raw.ensures in
-    ap₂ missing_bits srl (raw ∙ ap (λ (n : ℕ). n - 8 * length a.raw-data.now) read)
+    let srl : c.past_end-srl.result ≡ bits_read a.ends.srl.reader - 8 * length a.srl_data.now = c.past_end-srl.ensures in
+    let raw : c.past_end-raw.result ≡ bits_read c.place.result - 8 * length a.raw_data.now = c.past_end-raw.ensures in
+    ap₂ missing_bits srl (raw ∙ ap (λ (n : ℕ). n - 8 * length a.raw_data.now) read)

@@ -18,5 +18,5 @@ returns c =
     let same = to_z-of_z w16 x (record { sfits = c.c-1.given }) in
     let moved = c.moved in (
       ap (set a.coefficients.now a.i) (got w16 moved.type-inv (moved.ensures ∙ ap (raw_coefficient (not v.negative) a.position v.magnitude) same)),
-      ap (set a.sign.now a.i) (got w8 c.sign_by_lem.type_inv c.sign_by_lem.ensures),
+      ap (set a.sign.now a.i) (got w8 c.sign_by.type_inv c.sign_by.ensures),
     )

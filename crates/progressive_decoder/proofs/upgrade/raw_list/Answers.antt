@@ -26,7 +26,7 @@ use Rattle.progressive_decoder.proofs.upgrade.raw_list.Goals as goal
 pub loop-j-init : goal.loop-j-init
 loop-j-init c =
     let a = c.args in
-    (omega arith, omega arith, refl, record { fits = omega arith; is = omega (arith, num_none a.raw-data.now a.from) }, λ s q. refl)
+    (omega arith, omega arith, refl, record { fits = omega arith; is = omega (arith, num_none a.raw_data.now a.from) }, λ s q. refl)
 
 pub refill-word-requires : goal.refill-word-requires
 refill-word-requires c = (c.requires.0.1, c.loop-j.invariant.3)
@@ -35,7 +35,7 @@ pub overflow_cast-m : goal.overflow_cast-m
 overflow_cast-m c =
     let number : c.top-m.result ≡ num c.args.raw_data.now c.loop-j.at c.args.t.width = let a = c.args in
     let r = c.refill-word in
-    c.top-m.ensures ∙ top_take r.result.count a.t.width r.result.bits a.raw-data.now c.loop-j.at r.ensures.0 r.ensures.1 in
+    c.top-m.ensures ∙ top_take r.result.count a.t.width r.result.bits a.raw_data.now c.loop-j.at r.ensures.0 r.ensures.1 in
     record { fits = omega (arith, number, num_lt c.args.raw_data.now c.loop-j.at c.args.t.width, pow_high c.args.t.width c.requires.0) }
 
 pub overflow_cast-i : goal.overflow_cast-i
@@ -66,10 +66,10 @@ pub loop-j-preserved : goal.loop-j-preserved
 loop-j-preserved c =
     let number : c.top-m.result ≡ num c.args.raw_data.now c.loop-j.at c.args.t.width = let a = c.args in
     let r = c.refill-word in
-    c.top-m.ensures ∙ top_take r.result.count a.t.width r.result.bits a.raw-data.now c.loop-j.at r.ensures.0 r.ensures.1 in
+    c.top-m.ensures ∙ top_take r.result.count a.t.width r.result.bits a.raw_data.now c.loop-j.at r.ensures.0 r.ensures.1 in
     let a = c.args in
     let l = c.loop-j in
-    let d = a.raw-data.now in
+    let d = a.raw_data.now in
     let w = a.t.width in
     let i = get_or a.list.now l.j 0 in
     let r = c.refill-word in

@@ -29,7 +29,7 @@ loop-j-init c =
       omega arith,
       refl,
       refl,
-      λ d m. turn_start a.srl-data.now d (band_step a.t) a.n a.list.now c.requires.5 a.coefficients.now a.sign.now c.count_of-at.result a.from.kp a.from.zero_run_remaining a.from.nonzero_pending m,
+      λ d m. turn_start a.srl_data.now d (band_step a.t) a.n a.list.now c.requires.5 a.coefficients.now a.sign.now c.count_of-at.result a.from.kp a.from.zero_run_remaining a.from.nonzero_pending m,
     )
 
 pub count_of-at-requires : goal.count_of-at-requires
@@ -100,7 +100,7 @@ loop-j-preserved-then-due c =
     let brings : Brought c.args.srl_data.now c.loop-j.at c.loop-j.kp c.loop-j.pending (c.args.n - c.loop-j.j) c.up_to_value-codes.result = let l = c.loop-j in c.up_to_value-codes.ensures c.args.srl_data.now l.at (64 - l.at % 8) c.ahead_at-a.ensures (omega arith) in
     let there : c.loop-j.j + c.up_to_value-codes.result.run < c.args.n = (c.due.ensures.0 c.if-due.true).1 in
     let a = c.args in
-    let s = a.srl-data.now in
+    let s = a.srl_data.now in
     let t = band_step a.t in
     let w = a.t.width in
     let q = a.t.position in
@@ -115,13 +115,13 @@ loop-j-preserved-then-due c =
     let x = get_or l.coefficients i (pos 0) in
     let y = get_or l.sign i (pos 0) in
     let z = zeros s (at + 1) (most_zeros w) in
-    let coefficients : put.new.0 ≡ set l.coefficients i (srl_coefficient q (nonzero s at w) x) =
+    let coefficients : put.new.coefficients ≡ set l.coefficients i (srl_coefficient q (nonzero s at w) x) =
     put.ensures.0 ∙ ap (set l.coefficients i) ((λ e. raw_coefficient (not (v.ensures.0 e)) q (v.ensures.1 e) x) ∙ sym (moved_by (bit_at s at) q z x)) in
-    let sign : put.new.1.0 ≡ set l.sign i (srl_sign (nonzero s at w) y) = put.ensures.1 ∙ ap (set l.sign i) (ap sign_by v.ensures.0 ∙ sym (sign_by_lem (bit_at s at) z y)) in (
+    let sign : put.new.sign ≡ set l.sign i (srl_sign (nonzero s at w) y) = put.ensures.1 ∙ ap (set l.sign i) (ap sign_by v.ensures.0 ∙ sym (sign_by_lem (bit_at s at) z y)) in (
       b.kp_low,
       omega (arith, l.invariant.1, b.near, v.ensures.3),
-      put.auto.0 ∙ l.invariant.2,
-      put.auto.1.0 ∙ l.invariant.3,
+      put.auto.coefficients ∙ l.invariant.2,
+      put.auto.sign ∙ l.invariant.3,
       λ d m. l.invariant.4 d m
           ∙ turn_codes s d t a.n a.list.now c.requires.5 l.coefficients l.sign l.j l.at l.kp r.run at r.kp l.pending r.pending m c.loop-j-test.true b.same
           ∙ turn_value s d t a.n a.list.now c.requires.5 l.coefficients l.sign j at r.kp i r.pending m there (c.due.ensures.0 c.if-due.true).0 refl
@@ -151,13 +151,13 @@ loop-j-preserved c =
       l.invariant.2,
       l.invariant.3,
       λ d m. l.invariant.4 d m
-          ∙ turn_codes a.srl-data.now d (band_step a.t) a.n a.list.now c.requires.5 l.coefficients l.sign l.j l.at l.kp r.run (l.at + r.taken) r.kp l.pending r.pending m c.loop-j-test.true b.same,
+          ∙ turn_codes a.srl_data.now d (band_step a.t) a.n a.list.now c.requires.5 l.coefficients l.sign l.j l.at l.kp r.run (l.at + r.taken) r.kp l.pending r.pending m c.loop-j-test.true b.same,
     )
 
 pub returns : goal.returns
 returns c =
     let a = c.args in
-    let s = a.srl-data.now in
+    let s = a.srl_data.now in
     let l = c.loop-j in
     let at = c.count_of-at.ensures in
     let place = c.place.ensures in

@@ -17,8 +17,8 @@ missing_by-requires c =
     let a = c.args in
     let u = c.upgrade_bands-ends.ensures.ends in (
       u.place,
-      omega (arith, read, srl_far a.use-reduce-extrapolate a.prev a.curr a.srl-data.now a.sign.now c.requires.0),
-      omega (arith, u.raw, raw_far a.use-reduce-extrapolate a.prev a.curr a.sign.now c.requires.0),
+      omega (arith, read, srl_far a.use_reduce_extrapolate a.prev a.curr a.srl_data.now a.sign.now c.requires.0),
+      omega (arith, u.raw, raw_far a.use_reduce_extrapolate a.prev a.curr a.sign.now c.requires.0),
     )
 
 pub returns : goal.returns
@@ -26,12 +26,12 @@ returns c =
     let read : bits_read c.upgrade_bands-ends.result.srl.reader ≡ (reader_after c.args.srl_data.now (srl_widths (steps c.args.use_reduce_extrapolate c.args.prev c.args.curr) c.args.sign.now) start).read = ap (λ (r : Reader). r.read) c.upgrade_bands-ends.ensures.ends.srl in
     let a = c.args in
     let u = c.upgrade_bands-ends.ensures in
-    let ts = steps a.use-reduce-extrapolate a.prev a.curr in
+    let ts = steps a.use_reduce_extrapolate a.prev a.curr in
     record {
       coefficients = u.coefficients;
       sign = u.sign;
       missing = c.missing_by.ensures
           ∙ ap₂ missing_bits
-          (ap (λ (n : ℕ). n - 8 * length a.srl-data.now) read ∙ sym (srl_missing_lem ts a.srl-data.now a.sign.now))
-          (ap (λ (n : ℕ). n - 8 * length a.raw-data.now) u.ends.raw ∙ sym (raw_missing_lem ts a.raw-data.now a.sign.now));
+          (ap (λ (n : ℕ). n - 8 * length a.srl_data.now) read ∙ sym (srl_missing_lem ts a.srl_data.now a.sign.now))
+          (ap (λ (n : ℕ). n - 8 * length a.raw_data.now) u.ends.raw ∙ sym (raw_missing_lem ts a.raw_data.now a.sign.now));
     }

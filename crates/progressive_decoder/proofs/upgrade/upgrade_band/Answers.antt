@@ -19,16 +19,16 @@ use Rattle.progressive_decoder.proofs.upgrade.upgrade_band.Goals as goal
 pub returns-then-t-eq0 : goal.returns-then-t-eq0
 returns-then-t-eq0 c =
     let a = c.args in (
-      walk_skipped a.srl-data.now a.raw-data.now (band_step a.t) (length a.coefficients.now) a.coefficients.now a.sign.now (opened a.from.srl) a.from.raw c.if-t-eq0.true,
+      walk_skipped a.srl_data.now a.raw_data.now (band_step a.t) (length a.coefficients.now) a.coefficients.now a.sign.now (opened a.from.srl) a.from.raw c.if-t-eq0.true,
       λ m y. early_on a.from m (40000 * length a.coefficients.now) y,
     )
 
 pub raw_list-raw-requires : goal.raw_list-raw-requires
 raw_list-raw-requires c =
     let wide : Width c.args.t.width = (omega (arith, c.if-t-eq0.false), c.requires.0) in
-    let long : (c.split-n.result ≤ length c.split-n.new.1.1.0) × (length c.args.sign.now - c.split-n.result ≤ length c.split-n.new.1.1.1.0) = let p = c.requires in
+    let long : (c.split-n.result ≤ length c.split-n.new.zeros) × (length c.args.sign.now - c.split-n.result ≤ length c.split-n.new.others) = let p = c.requires in
     (omega (arith, c.split-n.ensures.few, c.split-n.auto.zeros, p.2, p.3, p.4), omega (arith, c.split-n.auto.others, p.2, p.3, p.5)) in
-    let listed : (take c.split-n.result c.split-n.new.1.1.0 ≡ srl_places (band_step c.args.t) c.args.sign.now) × (take (length c.args.sign.now - c.split-n.result) c.split-n.new.1.1.1.0 ≡ raw_places (band_step c.args.t) c.args.sign.now) = split_whole (band_step c.args.t) c.args.sign.now c.split-n.result c.split-n.new.1.1.0 c.split-n.new.1.1.1.0 c.split-n.ensures in
+    let listed : (take c.split-n.result c.split-n.new.zeros ≡ srl_places (band_step c.args.t) c.args.sign.now) × (take (length c.args.sign.now - c.split-n.result) c.split-n.new.others ≡ raw_places (band_step c.args.t) c.args.sign.now) = split_whole (band_step c.args.t) c.args.sign.now c.split-n.result c.split-n.new.zeros c.split-n.new.others c.split-n.ensures in
     let w = wide in
     let p = c.requires in (
       w,
@@ -42,9 +42,9 @@ raw_list-raw-requires c =
 pub srl_list-srl-requires : goal.srl_list-srl-requires
 srl_list-srl-requires c =
     let wide : Width c.args.t.width = (omega (arith, c.if-t-eq0.false), c.requires.0) in
-    let long : (c.split-n.result ≤ length c.split-n.new.1.1.0) × (length c.args.sign.now - c.split-n.result ≤ length c.split-n.new.1.1.1.0) = let p = c.requires in
+    let long : (c.split-n.result ≤ length c.split-n.new.zeros) × (length c.args.sign.now - c.split-n.result ≤ length c.split-n.new.others) = let p = c.requires in
     (omega (arith, c.split-n.ensures.few, c.split-n.auto.zeros, p.2, p.3, p.4), omega (arith, c.split-n.auto.others, p.2, p.3, p.5)) in
-    let listed : (take c.split-n.result c.split-n.new.1.1.0 ≡ srl_places (band_step c.args.t) c.args.sign.now) × (take (length c.args.sign.now - c.split-n.result) c.split-n.new.1.1.1.0 ≡ raw_places (band_step c.args.t) c.args.sign.now) = split_whole (band_step c.args.t) c.args.sign.now c.split-n.result c.split-n.new.1.1.0 c.split-n.new.1.1.1.0 c.split-n.ensures in
+    let listed : (take c.split-n.result c.split-n.new.zeros ≡ srl_places (band_step c.args.t) c.args.sign.now) × (take (length c.args.sign.now - c.split-n.result) c.split-n.new.others ≡ raw_places (band_step c.args.t) c.args.sign.now) = split_whole (band_step c.args.t) c.args.sign.now c.split-n.result c.split-n.new.zeros c.split-n.new.others c.split-n.ensures in
     let w = wide in
     let p = c.requires in
     let same = c.raw_list.auto.1.1.1.1.1.0 in (
@@ -61,11 +61,11 @@ srl_list-srl-requires c =
 pub returns : goal.returns
 returns c =
     let wide : Width c.args.t.width = (omega (arith, c.if-t-eq0.false), c.requires.0) in
-    let listed : (take c.split-n.result c.split-n.new.1.1.0 ≡ srl_places (band_step c.args.t) c.args.sign.now) × (take (length c.args.sign.now - c.split-n.result) c.split-n.new.1.1.1.0 ≡ raw_places (band_step c.args.t) c.args.sign.now) = split_whole (band_step c.args.t) c.args.sign.now c.split-n.result c.split-n.new.1.1.0 c.split-n.new.1.1.1.0 c.split-n.ensures in
+    let listed : (take c.split-n.result c.split-n.new.zeros ≡ srl_places (band_step c.args.t) c.args.sign.now) × (take (length c.args.sign.now - c.split-n.result) c.split-n.new.others ≡ raw_places (band_step c.args.t) c.args.sign.now) = split_whole (band_step c.args.t) c.args.sign.now c.split-n.result c.split-n.new.zeros c.split-n.new.others c.split-n.ensures in
     let w = wide in
     let a = c.args in
-    let s = a.srl-data.now in
-    let d = a.raw-data.now in
+    let s = a.srl_data.now in
+    let d = a.raw_data.now in
     let t = band_step a.t in
     let cs = a.coefficients.now in
     let ss = a.sign.now in
@@ -74,7 +74,7 @@ returns c =
     let first = c.raw_list in
     let last = c.srl_list-srl in
     let l = listed in
-    let done : walk s d (replicate (length cs) t) cs ss r n ≡ walked_by last.new.1.1.1.1.1.0 last.new.1.1.1.1.1.1.0 (record { srl = last.result; raw = first.result }) =
+    let done : walk s d (replicate (length cs) t) cs ss r n ≡ walked_by last.new.coefficients last.new.sign (record { srl = last.result; raw = first.result }) =
     walk_listed s d t cs ss r n w.0 c.requires.2
     ∙ sym (ap₂ (λ (is os : List ℕ). over srl s d t is (over raw s d t os (walked cs ss r n))) l.0 l.1)
     ∙ ap (over srl s d t _) (first.ensures s r)

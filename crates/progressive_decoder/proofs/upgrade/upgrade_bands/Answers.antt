@@ -45,7 +45,7 @@ stretch_at-stretch-requires c =
     let a = c.args in
     let i = c.loop-i.i in
     let number = ap (λ (l : List ℕ). get_or l i 0) c.bands_of_places-table.ensures in
-    (omega (arith, c.loop-i-test.true), omega (arith, number, one_of_ten a.use-reduce-extrapolate i))
+    (omega (arith, c.loop-i-test.true), omega (arith, number, one_of_ten a.use_reduce_extrapolate i))
 
 pub upgrade_band-readers-requires : goal.upgrade_band-readers-requires
 upgrade_band-readers-requires c =
@@ -89,32 +89,32 @@ loop-i-preserved c =
       s.ends,
       c.coefficients-1.given.1 ∙ l.invariant.1,
       c.sign-1.given.1 ∙ l.invariant.2,
-      band_turn a.srl-data.now a.raw-data.now a.use-reduce-extrapolate a.prev a.curr from to t s a.coefficients.now a.sign.now l.coefficients l.sign l.readers
-          (walked_by u.new.1.1.1.1.0 u.new.1.1.1.1.1.0 u.result) p.1 p.2 l.invariant.3
-          (ap (λ (k : ℕ). walk a.srl-data.now a.raw-data.now (replicate k t) (mid_of from (to - from) l.coefficients) (mid_of from (to - from) l.sign) (opened l.readers.srl) l.readers.raw) (sym m)
+      band_turn a.srl_data.now a.raw_data.now a.use_reduce_extrapolate a.prev a.curr from to t s a.coefficients.now a.sign.now l.coefficients l.sign l.readers
+          (walked_by u.new.coefficients u.new.sign u.result) p.1 p.2 l.invariant.3
+          (ap (λ (k : ℕ). walk a.srl_data.now a.raw_data.now (replicate k t) (mid_of from (to - from) l.coefficients) (mid_of from (to - from) l.sign) (opened l.readers.srl) l.readers.raw) (sym m)
           ∙ u.ensures.0),
       subst (Early u.result) {x = 40000 * from + 40000 * length (mid_of from (to - from) l.coefficients)} {y = 40000 * to} (omega (arith, m, s.begins))
           (u.ensures.1 (40000 * from) l.invariant.4),
-      u.auto.1.1.1.1.1.1.0 ∙ l.invariant.5,
-      u.auto.1.1.1.1.1.1.1.0 ∙ l.invariant.6,
+      u.auto.zeros ∙ l.invariant.5,
+      u.auto.others ∙ l.invariant.6,
     )
 
 pub returns : goal.returns
 returns c =
     let a = c.args in
     let l = c.loop-i in
-    let ts = steps a.use-reduce-extrapolate a.prev a.curr in
+    let ts = steps a.use_reduce_extrapolate a.prev a.curr in
     let all : 4096 ≤ l.i = c.loop-i-test.false in
-    let whole : length ts ≡ 4096 = place_whole a.use-reduce-extrapolate (step_of a.prev a.curr) in
-    let done : walk a.srl-data.now a.raw-data.now ts a.coefficients.now a.sign.now start 0 ≡ walked_by l.coefficients l.sign l.readers =
-    ap (λ t. walk a.srl-data.now a.raw-data.now t a.coefficients.now a.sign.now start 0) (sym (take_all l.i ts (omega (arith, whole, all)))) ∙ l.invariant.3 in
+    let whole : length ts ≡ 4096 = place_whole a.use_reduce_extrapolate (step_of a.prev a.curr) in
+    let done : walk a.srl_data.now a.raw_data.now ts a.coefficients.now a.sign.now start 0 ≡ walked_by l.coefficients l.sign l.readers =
+    ap (λ t. walk a.srl_data.now a.raw_data.now t a.coefficients.now a.sign.now start 0) (sym (take_all l.i ts (omega (arith, whole, all)))) ∙ l.invariant.3 in
     let enough : length ts ≤ length a.coefficients.now = omega (arith, whole, c.requires.1) in
     record {
-      coefficients = sym (ap (λ (w : Walked). w.coefficients) done) ∙ walk_coefficients a.srl-data.now a.raw-data.now ts a.coefficients.now a.sign.now start 0;
-      sign = sym (ap (λ (w : Walked). w.sign) done) ∙ walk_signs a.srl-data.now a.raw-data.now ts a.coefficients.now a.sign.now start 0 enough;
+      coefficients = sym (ap (λ (w : Walked). w.coefficients) done) ∙ walk_coefficients a.srl_data.now a.raw_data.now ts a.coefficients.now a.sign.now start 0;
+      sign = sym (ap (λ (w : Walked). w.sign) done) ∙ walk_signs a.srl_data.now a.raw_data.now ts a.coefficients.now a.sign.now start 0 enough;
       ends = record {
-        srl = sym (ap (λ (w : Walked). w.srl) done) ∙ walk_reader a.srl-data.now a.raw-data.now ts a.coefficients.now a.sign.now start 0 enough;
-        raw = sym (ap (λ (w : Walked). w.raw) done) ∙ walk_count a.srl-data.now a.raw-data.now ts a.coefficients.now a.sign.now start 0 enough;
+        srl = sym (ap (λ (w : Walked). w.srl) done) ∙ walk_reader a.srl_data.now a.raw_data.now ts a.coefficients.now a.sign.now start 0 enough;
+        raw = sym (ap (λ (w : Walked). w.raw) done) ∙ walk_count a.srl_data.now a.raw_data.now ts a.coefficients.now a.sign.now start 0 enough;
         place = l.invariant.4.place;
       };
     }

@@ -19,7 +19,7 @@ pub returns : goal.returns
 returns c =
     let read : bits_read c.place-place.result ≡ c.args.at = ap bits_read c.place-place.ensures ∙ read_place c.args.at in
     let a = c.args in
-    let s = a.srl-data.now in
+    let s = a.srl_data.now in
     let v = c.decode_nonzero in
     let n = read in
     (v.ensures.0 ∙ ap (bit_at s) n, v.ensures.1 ∙ ap (λ (m : ℕ). zeros s (m + 1) (most_zeros a.width) + 1) n, ap (λ (m : ℕ). m + v.result.taken) (sym n) ∙ v.ensures.2 ∙ ap (λ (m : ℕ). behind s m a.width) n, v.ensures.3)

@@ -21,12 +21,12 @@ loop-i-preserved c =
     let l = c.loop-i in
     let r = rule_of a.symmetric in
     let t = band_step a.t in
-    let e : c.class_of.result ≡ class_of r t (get_or a.coefficients.now l.i (pos 0)) (get_or a.prev-coefficients.now l.i (pos 0)) (get_or a.sign.now l.i (pos 0)) =
+    let e : c.class_of.result ≡ class_of r t (get_or a.coefficients.now l.i (pos 0)) (get_or a.prev_coefficients.now l.i (pos 0)) (get_or a.sign.now l.i (pos 0)) =
     c.class_of.ensures
-    ∙ (λ j. class_of r t (to_z-of_z w16 (get_or a.coefficients.now l.i (pos 0)) (record { sfits = c.class_of-arg-1.given }) j) (to_z-of_z w16 (get_or a.prev-coefficients.now l.i (pos 0)) (record { sfits = c.class_of-arg-in-loop-i-1.given }) j) (to_z-of_z w8 (get_or a.sign.now l.i (pos 0)) (record { sfits = c.class_of-arg-in-loop-i-2-1.given }) j)) in (
+    ∙ (λ j. class_of r t (to_z-of_z w16 (get_or a.coefficients.now l.i (pos 0)) (record { sfits = c.class_of-arg-1.given }) j) (to_z-of_z w16 (get_or a.prev_coefficients.now l.i (pos 0)) (record { sfits = c.class_of-arg-in-loop-i-1.given }) j) (to_z-of_z w8 (get_or a.sign.now l.i (pos 0)) (record { sfits = c.class_of-arg-in-loop-i-2-1.given }) j)) in (
       omega (arith, c.loop-i-test.true),
       length-set l.classes l.i c.class_of.result ∙ l.invariant.1,
-      fills_next (λ k. class_of r t (get_or a.coefficients.now k (pos 0)) (get_or a.prev-coefficients.now k (pos 0)) (get_or a.sign.now k (pos 0))) l.classes l.i c.class_of.result (omega (arith, c.loop-i-test.true, c.requires.1, l.invariant.1)) e l.invariant.2,
+      fills_next (λ k. class_of r t (get_or a.coefficients.now k (pos 0)) (get_or a.prev_coefficients.now k (pos 0)) (get_or a.sign.now k (pos 0))) l.classes l.i c.class_of.result (omega (arith, c.loop-i-test.true, c.requires.1, l.invariant.1)) e l.invariant.2,
     )
 
 pub returns : goal.returns

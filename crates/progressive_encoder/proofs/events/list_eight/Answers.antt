@@ -15,5 +15,5 @@ overflow_add-result c = omega (arith, c.zeros_of_eight.ensures, c.requires.8)
 pub returns-then-at_most-lt2 : goal.returns-then-at_most-lt2
 returns-then-at_most-lt2 c =
     let a = c.args in
-    lists_quiet (rule_of a.symmetric) (band_step a.t) a.coefficients.now a.prev-coefficients.now a.classes.now a.words.now a.start.count a.i 8 a.start.zeros _ c.requires.3
+    lists_quiet (rule_of a.symmetric) (band_step a.t) a.coefficients.now a.prev_coefficients.now a.classes.now a.words.now a.start.count a.i 8 a.start.zeros _ c.requires.3
     (λ k h. omega (arith, c.at_most.ensures k h, c.if-at_most-lt2.true)) (omega (arith, c.zeros_of_eight.ensures))

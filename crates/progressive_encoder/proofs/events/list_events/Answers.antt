@@ -12,7 +12,7 @@ use Rattle.progressive_encoder.proofs.events.list_events.Goals as goal
 pub loop-i-init : goal.loop-i-init
 loop-i-init c =
     let a = c.args in
-    (omega arith, refl, lists_none (rule_of a.symmetric) (band_step a.t) a.coefficients.now a.prev-coefficients.now a.classes.now 0 (listed_by a.words.now a.start))
+    (omega arith, refl, lists_none (rule_of a.symmetric) (band_step a.t) a.coefficients.now a.prev_coefficients.now a.classes.now 0 (listed_by a.words.now a.start))
 
 pub list_eight-next-requires : goal.list_eight-next-requires
 list_eight-next-requires c =
@@ -27,8 +27,8 @@ loop-i-preserved c =
     let l = c.loop-i in
     let u = c.list_eight-next in (
       omega (arith, c.loop-i-test.true),
-      u.auto.1.1.1.1.1.1.0 ∙ l.invariant.1,
-      lists_then (rule_of a.symmetric) (band_step a.t) a.coefficients.now a.prev-coefficients.now a.classes.now 0 l.i (l.i + 8) (listed_by a.words.now a.start) (listed_of l.words l.count l.zeros) _ (omega arith) (omega arith) l.invariant.2 u.ensures,
+      u.auto.words ∙ l.invariant.1,
+      lists_then (rule_of a.symmetric) (band_step a.t) a.coefficients.now a.prev_coefficients.now a.classes.now 0 l.i (l.i + 8) (listed_by a.words.now a.start) (listed_of l.words l.count l.zeros) _ (omega arith) (omega arith) l.invariant.2 u.ensures,
     )
 
 pub list_places-requires : goal.list_places-requires
@@ -44,4 +44,4 @@ pub returns : goal.returns
 returns c =
     let a = c.args in
     let l = c.loop-i in
-    lists_then (rule_of a.symmetric) (band_step a.t) a.coefficients.now a.prev-coefficients.now a.classes.now 0 l.i (length a.coefficients.now) (listed_by a.words.now a.start) (listed_of l.words l.count l.zeros) _ (omega arith) l.invariant.0 l.invariant.2 c.list_places.ensures
+    lists_then (rule_of a.symmetric) (band_step a.t) a.coefficients.now a.prev_coefficients.now a.classes.now 0 l.i (length a.coefficients.now) (listed_by a.words.now a.start) (listed_of l.words l.count l.zeros) _ (omega arith) l.invariant.0 l.invariant.2 c.list_places.ensures

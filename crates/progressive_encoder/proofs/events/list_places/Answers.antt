@@ -15,7 +15,7 @@ use Rattle.progressive_encoder.proofs.events.list_places.Goals as goal
 pub loop-i-init : goal.loop-i-init
 loop-i-init c =
     let a = c.args in
-    (omega arith, c.requires.0, refl, lists_none (rule_of a.symmetric) (band_step a.t) a.coefficients.now a.prev-coefficients.now a.classes.now a.from (listed_by a.words.now a.start))
+    (omega arith, c.requires.0, refl, lists_none (rule_of a.symmetric) (band_step a.t) a.coefficients.now a.prev_coefficients.now a.classes.now a.from (listed_by a.words.now a.start))
 
 pub list_place-next-requires : goal.list_place-next-requires
 list_place-next-requires c =
@@ -32,11 +32,11 @@ loop-i-preserved c =
     let r = rule_of a.symmetric in
     let t = band_step a.t in
     let cs = a.coefficients.now in
-    let ps = a.prev-coefficients.now in
+    let ps = a.prev_coefficients.now in
     let place = read_place r t (get_or a.classes.now l.i 0) (listed_of l.words l.count l.zeros) _ (to_z-of_z w16 (get_or cs l.i (pos 0)) (record { sfits = c.c-1.given })) (to_z-of_z w16 (get_or ps l.i (pos 0)) (record { sfits = c.p-1.given })) u.ensures.0 in (
       omega (arith, l.invariant.0),
       omega (arith, c.loop-i-test.true),
-      u.auto.1.1.1.1.1.0 ∙ l.invariant.2,
+      u.auto.words ∙ l.invariant.2,
       lists_then r t cs ps a.classes.now a.from l.i (l.i + 1) (listed_by a.words.now a.start) (listed_of l.words l.count l.zeros) _ l.invariant.0 (omega arith) l.invariant.3
           (lists_one r t cs ps a.classes.now l.i (listed_of l.words l.count l.zeros) _ place u.ensures.1 u.ensures.2),
     )
@@ -46,7 +46,7 @@ returns c =
     let a = c.args in
     let l = c.loop-i in
     let e : l.i ≡ a.to = omega (arith, l.invariant.1, c.loop-i-test.false) in
-    subst (λ j. TakesEvents (rule_of a.symmetric) (band_step a.t) a.coefficients.now a.prev-coefficients.now a.classes.now a.from j (listed_by a.words.now a.start) (listed_of l.words l.count l.zeros)) e l.invariant.3
+    subst (λ j. TakesEvents (rule_of a.symmetric) (band_step a.t) a.coefficients.now a.prev_coefficients.now a.classes.now a.from j (listed_by a.words.now a.start) (listed_of l.words l.count l.zeros)) e l.invariant.3
 
 pub shape_of-words : goal.shape_of-words
 shape_of-words c = c.loop-i.invariant.2

@@ -12,7 +12,7 @@ use Rattle.progressive_encoder.proofs.look.look_band.Goals as goal
 pub returns-then-t-eq0 : goal.returns-then-t-eq0
 returns-then-t-eq0 c =
     let a = c.args in
-    band_skip (rule_of a.symmetric) Looks looks_placewise FewFound a.coefficients.now a.prev-coefficients.now a.sign.now (band_step a.t) c.requires.0 found_on c.if-t-eq0.true (looked_by a.raws.now a.words.now a.done)
+    band_skip (rule_of a.symmetric) Looks looks_placewise FewFound a.coefficients.now a.prev_coefficients.now a.sign.now (band_step a.t) c.requires.0 found_on c.if-t-eq0.true (looked_by a.raws.now a.words.now a.done)
 
 pub list_numbers-n-requires : goal.list_numbers-n-requires
 list_numbers-n-requires c =
@@ -30,7 +30,7 @@ returns c =
     let r = rule_of a.symmetric in
     let t = band_step a.t in
     let cs = a.coefficients.now in
-    let ps = a.prev-coefficients.now in
+    let ps = a.prev_coefficients.now in
     let ss = a.sign.now in
     let classed = c.classify.ensures in
     looks_both (band_lists r t (length cs) cs ps ss) (length cs) (looked_by a.raws.now a.words.now a.done) _

@@ -15,7 +15,7 @@ use Rattle.progressive_encoder.proofs.look.look_bands.Goals as goal
 pub loop-i-init : goal.loop-i-init
 loop-i-init c =
     let a = c.args in
-    (omega arith, refl, refl, walk_begins (rule_of a.symmetric) Looks looks_placewise FewFound a.coefficients.now a.prev-coefficients.now a.sign.now a.use-reduce-extrapolate a.prev a.curr (looked_by a.raws.now a.words.now nothing_found) (none_found a.raws.now a.words.now))
+    (omega arith, refl, refl, walk_begins (rule_of a.symmetric) Looks looks_placewise FewFound a.coefficients.now a.prev_coefficients.now a.sign.now a.use_reduce_extrapolate a.prev a.curr (looked_by a.raws.now a.words.now nothing_found) (none_found a.raws.now a.words.now))
 
 pub stretch_at-stretch-requires : goal.stretch_at-stretch-requires
 stretch_at-stretch-requires c =
@@ -27,12 +27,12 @@ look_band-done-requires c =
     let a = c.args in
     let l = c.loop-i in
     let n = next in (
-      next_part (rule_of a.symmetric) Looks looks_placewise FewFound a.coefficients.now a.prev-coefficients.now a.sign.now a.use-reduce-extrapolate a.prev a.curr l.i _ _ n c.requires.3,
+      next_part (rule_of a.symmetric) Looks looks_placewise FewFound a.coefficients.now a.prev_coefficients.now a.sign.now a.use_reduce_extrapolate a.prev a.curr l.i _ _ n c.requires.3,
       n.narrow c.requires.1,
       n.low c.requires.2,
       omega (arith, l.invariant.1, c.requires.4),
       omega (arith, l.invariant.2, c.requires.5),
-      next_room (rule_of a.symmetric) Looks looks_placewise FewFound a.coefficients.now a.prev-coefficients.now a.sign.now a.use-reduce-extrapolate a.prev a.curr l.i _ _ n c.requires.3 (looked_by a.raws.now a.words.now nothing_found) (looked_by l.raws l.words l.done) l.invariant.3,
+      next_room (rule_of a.symmetric) Looks looks_placewise FewFound a.coefficients.now a.prev_coefficients.now a.sign.now a.use_reduce_extrapolate a.prev a.curr l.i _ _ n c.requires.3 (looked_by a.raws.now a.words.now nothing_found) (looked_by l.raws l.words l.done) l.invariant.3,
     )
 
 pub loop-i-smaller : goal.loop-i-smaller
@@ -48,17 +48,17 @@ loop-i-preserved c =
     let u = c.look_band-done in
     let n = next in (
       n.ends,
-      u.auto.1.1.1.1.1.0 ∙ l.invariant.1,
-      u.auto.1.1.1.1.1.1.0 ∙ l.invariant.2,
-      walk_on (rule_of a.symmetric) Looks looks_placewise FewFound a.coefficients.now a.prev-coefficients.now a.sign.now a.use-reduce-extrapolate a.prev a.curr l.i _ _ n c.requires.3 (looked_by a.raws.now a.words.now nothing_found) (looked_by l.raws l.words l.done) _ l.invariant.3 u.ensures,
+      u.auto.raws ∙ l.invariant.1,
+      u.auto.words ∙ l.invariant.2,
+      walk_on (rule_of a.symmetric) Looks looks_placewise FewFound a.coefficients.now a.prev_coefficients.now a.sign.now a.use_reduce_extrapolate a.prev a.curr l.i _ _ n c.requires.3 (looked_by a.raws.now a.words.now nothing_found) (looked_by l.raws l.words l.done) _ l.invariant.3 u.ensures,
     )
 
 pub returns : goal.returns
 returns c =
     let a = c.args in
     let l = c.loop-i in
-    found_all (pass_lists (rule_of a.symmetric) (steps a.use-reduce-extrapolate a.prev a.curr) a.coefficients.now a.prev-coefficients.now a.sign.now) a.raws.now a.words.now (looked_by l.raws l.words l.done)
-    (walk_ends (rule_of a.symmetric) Looks looks_placewise FewFound a.coefficients.now a.prev-coefficients.now a.sign.now a.use-reduce-extrapolate a.prev a.curr l.i (looked_by a.raws.now a.words.now nothing_found) (looked_by l.raws l.words l.done) (omega (arith, l.invariant.0, c.loop-i-test.false)) l.invariant.3)
+    found_all (pass_lists (rule_of a.symmetric) (steps a.use_reduce_extrapolate a.prev a.curr) a.coefficients.now a.prev_coefficients.now a.sign.now) a.raws.now a.words.now (looked_by l.raws l.words l.done)
+    (walk_ends (rule_of a.symmetric) Looks looks_placewise FewFound a.coefficients.now a.prev_coefficients.now a.sign.now a.use_reduce_extrapolate a.prev a.curr l.i (looked_by a.raws.now a.words.now nothing_found) (looked_by l.raws l.words l.done) (omega (arith, l.invariant.0, c.loop-i-test.false)) l.invariant.3)
 
 pub slice_bounds-look_band-count : goal.slice_bounds-look_band-count
 slice_bounds-look_band-count c =

@@ -33,4 +33,4 @@ returns c =
     let l = c.loop-j in
     let a = c.args in
     let e : l.j ≡ a.count = omega (arith, l.invariant.0, c.loop-j-test.false) in
-    subst (λ n. MeasuresEvents (take n a.words.now) (record { bits = l.bits; kp = l.kp; too_large = l.too-large })) e l.invariant.1
+    subst (λ n. MeasuresEvents (take n a.words.now) (record { bits = l.bits; kp = l.kp; too_large = l.too_large })) e l.invariant.1

@@ -36,7 +36,7 @@ returns c = λ l f.
     record {
       large = m.large ∙ sym f.large;
       srl =
-          c.srl_length_lem.ensures
+          c.srl_length.ensures
           ∙ (λ i. srl_length (a.found.events + a.found.zeros) (m.bits i + length (flush (m.kp i) a.found.zeros)))
           ∙ srl_length_is l y f (omega (arith, p.1.events.few, p.0.events)) (a.found.events + a.found.zeros) refl;
       raw = ap (λ n. (n + 7) / 8) c.number_bits-raw.ensures.0 ∙ raw_length_is l y f;

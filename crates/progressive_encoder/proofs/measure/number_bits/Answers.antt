@@ -13,15 +13,15 @@ unfolding number_bits
 loop-j-init c = (omega arith, refl, omega arith)
 
 pub overflow_add-bits : goal.overflow_add-bits
-overflow_add-bits c = omega (arith, c.loop-j.invariant.2, c.loop-j.invariant.0, c.requires.0, c.width_of_lem.type_inv)
+overflow_add-bits c = omega (arith, c.loop-j.invariant.2, c.loop-j.invariant.0, c.requires.0, c.width_of.type_inv)
 
 pub loop-j-preserved : goal.loop-j-preserved
 loop-j-preserved c =
     let l = c.loop-j in
     let more = c.loop-j-test.true in (
       omega (arith, more),
-      (λ i. l.invariant.1 i + c.width_of_lem.ensures i) ∙ sym (number_length c.args.raws.now l.j (omega (arith, more, c.requires.1))),
-      omega (arith, l.invariant.2, c.width_of_lem.type_inv),
+      (λ i. l.invariant.1 i + c.width_of.ensures i) ∙ sym (number_length c.args.raws.now l.j (omega (arith, more, c.requires.1))),
+      omega (arith, l.invariant.2, c.width_of.type_inv),
     )
 
 pub returns : goal.returns

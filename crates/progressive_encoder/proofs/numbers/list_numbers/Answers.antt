@@ -8,4 +8,4 @@ use Rattle.progressive_encoder.proofs.numbers.list_numbers.Goals as goal
 pub returns : goal.returns
 returns c = λ ss part classed.
     let a = c.args in
-    takes_band (rule_of a.symmetric) (band_step a.t) a.coefficients.now a.prev-coefficients.now ss a.classes.now _ (words_of a.raws.now a.start) _ part classed c.number_places.ensures c.take_all.ensures
+    takes_band (rule_of a.symmetric) (band_step a.t) a.coefficients.now a.prev_coefficients.now ss a.classes.now _ (words_of a.raws.now a.start) _ part classed c.number_places.ensures c.take_all.ensures

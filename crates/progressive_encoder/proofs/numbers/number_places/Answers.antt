@@ -22,14 +22,14 @@ loop-i-preserved c =
     let l = c.loop-i in
     let r = rule_of a.symmetric in
     let x = get_or a.coefficients.now l.i (pos 0) in
-    let y = get_or a.prev-coefficients.now l.i (pos 0) in
+    let y = get_or a.prev_coefficients.now l.i (pos 0) in
     let m : c.raw_number-m.result ≡ r.number a.t.bottom a.t.position x y =
     c.raw_number-m.ensures
-    ∙ (λ j. cut_number (c.by_floors_lem.ensures j) a.t.position (to_z-of_z w16 x (record { sfits = c.raw_number-arg-1.given }) j) (to_z-of_z w16 y (record { sfits = c.raw_number-arg-in-loop-i-1.given }) j))
+    ∙ (λ j. cut_number (c.by_floors.ensures j) a.t.position (to_z-of_z w16 x (record { sfits = c.raw_number-arg-1.given }) j) (to_z-of_z w16 y (record { sfits = c.raw_number-arg-in-loop-i-1.given }) j))
     ∙ number_rule a.symmetric a.t.bottom a.t.position x y in (
       omega (arith, c.loop-i-test.true),
       length-set l.numbers l.i c.low_bits.result ∙ l.invariant.1,
-      fills_next (λ k. r.number a.t.bottom a.t.position (get_or a.coefficients.now k (pos 0)) (get_or a.prev-coefficients.now k (pos 0)) % 2 ^ a.t.width) l.numbers l.i c.low_bits.result (omega (arith, c.loop-i-test.true, c.requires.1, l.invariant.1)) (c.low_bits.ensures ∙ ap (λ n. n % 2 ^ a.t.width) m) l.invariant.2,
+      fills_next (λ k. r.number a.t.bottom a.t.position (get_or a.coefficients.now k (pos 0)) (get_or a.prev_coefficients.now k (pos 0)) % 2 ^ a.t.width) l.numbers l.i c.low_bits.result (omega (arith, c.loop-i-test.true, c.requires.1, l.invariant.1)) (c.low_bits.ensures ∙ ap (λ n. n % 2 ^ a.t.width) m) l.invariant.2,
     )
 
 pub returns : goal.returns

@@ -26,7 +26,7 @@ loop-i-preserved c =
     let l = c.loop-i in
     let u = c.take_eight-n in (
       omega (arith, c.loop-i-test.true),
-      u.auto.1.1.1.1.0 ∙ l.invariant.1,
+      u.auto.raws ∙ l.invariant.1,
       takes_then (band_step a.t) a.classes.now a.numbers.now 0 l.i (l.i + 8) (words_of a.raws.now a.start) (words_of l.raws l.n) _ (omega arith) (omega arith) l.invariant.2 u.ensures,
     )
 

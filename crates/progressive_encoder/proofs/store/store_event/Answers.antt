@@ -14,7 +14,7 @@ put_planned-sink-requires c =
       omega (arith, r.ensures.few, c.zeros_of.ensures, p.0.few, p.3),
       r.ensures.good,
       omega (arith, c.magnitude_of.ensures, p.0.some),
-      (omega (arith, c.width_of_lem.ensures.0, p.0.wide), c.width_of_lem.ensures.1),
+      (omega (arith, c.width_of.ensures.0, p.0.wide), c.width_of.ensures.1),
     )
 
 pub returns : goal.returns

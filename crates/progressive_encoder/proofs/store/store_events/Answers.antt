@@ -34,10 +34,10 @@ loop-j-preserved c =
     let more = c.loop-j-test.true in
     let u = c.store_event-next in
     let x = get_or a.words.now l.j 0 in
-    let stored = subst (λ (k : CallState). StoresEvent x l.out k u.result u.new.0) c.state_of.ensures u.ensures in (
+    let stored = subst (λ (k : CallState). StoresEvent x l.out k u.result u.new.out) c.state_of.ensures u.ensures in (
       omega (arith, more),
-      u.auto.0 ∙ l.invariant.1,
-      subst (λ z. StoresEvents (take (l.j + 1) a.words.now) a.out.now (call_of u.result.sink.at u.result.sink.word u.result.sink.held u.result.kp z) a.zeros u.new.0) stored.zeros
+      u.auto.out ∙ l.invariant.1,
+      subst (λ z. StoresEvents (take (l.j + 1) a.words.now) a.out.now (call_of u.result.sink.at u.result.sink.word u.result.sink.held u.result.kp z) a.zeros u.new.out) stored.zeros
           (events_more a.words.now a.out.now l.j a.zeros (omega (arith, more, c.requires.1)) event l.invariant.2 stored),
     )
 

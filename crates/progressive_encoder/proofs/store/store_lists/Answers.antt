@@ -25,5 +25,5 @@ returns c = λ l f.
     record {
       answer = λ i. Bytes (n.count i) (k i);
       srl = n.out;
-      raw = m.out ∙ ap (λ b. sets a.raw-out.now 0 (pack 0 0 b)) (sym f.raw-bits);
+      raw = m.out ∙ ap (λ b. sets a.raw_out.now 0 (pack 0 0 b)) (sym f.raw-bits);
     }

@@ -20,7 +20,7 @@ pub overflow_cast-width_of : goal.overflow_cast-width_of
 overflow_cast-width_of c =
     let number : NumberWord (get_or c.args.raws.now c.loop-j.j 0) = let more = c.loop-j-test.true in
     each_at c.args.raws.now c.args.count c.loop-j.j c.requires.2 more (omega (arith, more, c.requires.1)) in
-    omega (arith, c.width_of_lem.ensures, number.narrow)
+    omega (arith, c.width_of.ensures, number.narrow)
 
 pub put_word-k-requires : goal.put_word-k-requires
 put_word-k-requires c =
@@ -30,8 +30,8 @@ put_word-k-requires c =
     let x = number in (
       l.invariant.3.sound,
       omega (arith, words_near c.args.out.now _ l.invariant.3, l.invariant.2, l.invariant.0, c.requires.0),
-      omega (arith, c.width_of_lem.ensures, x.narrow),
-      (rw (c.width_of_lem.ensures, c.number_of_lem.ensures) x.small),
+      omega (arith, c.width_of.ensures, x.narrow),
+      (rw (c.width_of.ensures, c.number_of.ensures) x.small),
     )
 
 pub loop-j-preserved : goal.loop-j-preserved
@@ -43,9 +43,9 @@ loop-j-preserved c =
     let more = c.loop-j-test.true in
     let u = c.put_word-k in (
       omega (arith, more),
-      u.auto.0 ∙ l.invariant.1,
+      u.auto.out ∙ l.invariant.1,
       omega (arith, number_length a.raws.now l.j (omega (arith, more, c.requires.1)), number.narrow, l.invariant.2),
-      numbers_more a.raws.now a.out.now l.j (omega (arith, more, c.requires.1)) c.number_of_lem.ensures c.width_of_lem.ensures l.invariant.3 u.ensures,
+      numbers_more a.raws.now a.out.now l.j (omega (arith, more, c.requires.1)) c.number_of.ensures c.width_of.ensures l.invariant.3 u.ensures,
     )
 
 pub end_words-requires : goal.end_words-requires
@@ -62,4 +62,4 @@ returns c =
     let l = c.loop-j in
     let e : l.j ≡ a.count = omega (arith, l.invariant.0, c.loop-j-test.false) in
     let u = c.end_words in
-    subst (λ n. StoresRaw (number_bits (take n a.raws.now)) a.out.now u.result u.new.0) e (raw_stored a.out.now (number_bits (take l.j a.raws.now)) l.invariant.3 u.ensures.0 u.ensures.1)
+    subst (λ n. StoresRaw (number_bits (take n a.raws.now)) a.out.now u.result u.new.out) e (raw_stored a.out.now (number_bits (take l.j a.raws.now)) l.invariant.3 u.ensures.0 u.ensures.1)

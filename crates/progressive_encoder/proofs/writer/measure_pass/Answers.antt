@@ -11,8 +11,8 @@ look_bands-found-requires c =
 
 pub measure_lists-requires : goal.measure_lists-requires
 measure_lists-requires c =
-    let u = c.look_bands-found in (record { numbers = omega (arith, u.auto.1.1.1.1.1.1.1.1.0); events = omega (arith, u.auto.1.1.1.1.1.1.1.1.1.0) }, u.ensures.few)
+    let u = c.look_bands-found in (record { numbers = omega (arith, u.auto.raws); events = omega (arith, u.auto.words) }, u.ensures.few)
 
 pub returns : goal.returns
 returns c =
-    let a = c.args in c.measure_lists.ensures (pass_lists (rule_of a.symmetric) (steps a.use-reduce-extrapolate a.prev a.curr) a.coefficients.now a.prev-coefficients.now a.sign.now) c.look_bands-found.ensures
+    let a = c.args in c.measure_lists.ensures (pass_lists (rule_of a.symmetric) (steps a.use_reduce_extrapolate a.prev a.curr) a.coefficients.now a.prev_coefficients.now a.sign.now) c.look_bands-found.ensures

@@ -21,32 +21,32 @@ pub returns-then-lengths : goal.returns-then-lengths
 returns-then-lengths c = λ l f.
     let a = c.args in
     let m = c.measure_lists-lengths.ensures l f in
-    refused l a.srl-out.now a.raw-out.now magnitude_out_of_range (λ e. omega arith)
-    (refusal_is l a.srl-out.now a.raw-out.now (sym c.if-lengths.true ∙ m.large) refl refl)
+    refused l a.srl_out.now a.raw_out.now magnitude_out_of_range (λ e. omega arith)
+    (refusal_is l a.srl_out.now a.raw_out.now (sym c.if-lengths.true ∙ m.large) refl refl)
 
 pub returns-then-raw_out-lengths : goal.returns-then-raw_out-lengths
 returns-then-raw_out-lengths c = λ l f.
     let a = c.args in
     let m = c.measure_lists-lengths.ensures l f in
-    let full = lt-ltb (length a.raw-out.now) (length (raw_stream l.number_widths l.numbers)) (omega (arith, c.if-raw_out-lengths.true, m.raw)) in
-    refused l a.srl-out.now a.raw-out.now output_too_short (λ e. omega arith)
-    (refusal_is l a.srl-out.now a.raw-out.now (sym c.if-lengths.false ∙ m.large) refl (sym full)
-    ∙ either_full (ltb (length a.srl-out.now) (length (srl_stream l.widths l.values))))
+    let full = lt-ltb (length a.raw_out.now) (length (raw_stream l.number_widths l.numbers)) (omega (arith, c.if-raw_out-lengths.true, m.raw)) in
+    refused l a.srl_out.now a.raw_out.now output_too_short (λ e. omega arith)
+    (refusal_is l a.srl_out.now a.raw_out.now (sym c.if-lengths.false ∙ m.large) refl (sym full)
+    ∙ either_full (ltb (length a.srl_out.now) (length (srl_stream l.widths l.values))))
 
 pub returns-then-srl_out-lengths : goal.returns-then-srl_out-lengths
 returns-then-srl_out-lengths c = λ l f.
     let a = c.args in
     let m = c.measure_lists-lengths.ensures l f in
-    let full = lt-ltb (length a.srl-out.now) (length (srl_stream l.widths l.values)) (omega (arith, c.if-srl_out-lengths.true, m.srl)) in
-    refused l a.srl-out.now a.raw-out.now output_too_short (λ e. omega arith)
-    (refusal_is l a.srl-out.now a.raw-out.now (sym c.if-lengths.false ∙ m.large) (sym full) refl)
+    let full = lt-ltb (length a.srl_out.now) (length (srl_stream l.widths l.values)) (omega (arith, c.if-srl_out-lengths.true, m.srl)) in
+    refused l a.srl_out.now a.raw_out.now output_too_short (λ e. omega arith)
+    (refusal_is l a.srl_out.now a.raw_out.now (sym c.if-lengths.false ∙ m.large) (sym full) refl)
 
 pub returns : goal.returns
 returns c = λ l f.
     let a = c.args in
     let m = c.measure_lists-lengths.ensures l f in
-    let raw : length (raw_stream l.number_widths l.numbers) ≤ length a.raw-out.now = omega (arith, c.if-raw_out-lengths.false, m.raw) in
-    let srl : length (srl_stream l.widths l.values) ≤ length a.srl-out.now = omega (arith, c.if-srl_out-lengths.false, m.srl) in
-    accepted l a.srl-out.now a.raw-out.now
-    (refusal_is l a.srl-out.now a.raw-out.now (sym c.if-lengths.false ∙ m.large) (sym (le-ltb _ _ srl)) (sym (le-ltb _ _ raw)))
+    let raw : length (raw_stream l.number_widths l.numbers) ≤ length a.raw_out.now = omega (arith, c.if-raw_out-lengths.false, m.raw) in
+    let srl : length (srl_stream l.widths l.values) ≤ length a.srl_out.now = omega (arith, c.if-srl_out-lengths.false, m.srl) in
+    accepted l a.srl_out.now a.raw_out.now
+    (refusal_is l a.srl_out.now a.raw_out.now (sym c.if-lengths.false ∙ m.large) (sym (le-ltb _ _ srl)) (sym (le-ltb _ _ raw)))
     srl raw (c.store_lists.ensures l f)

@@ -35,7 +35,7 @@ loop-j-init c =
       omega (arith, c.requires.2),
       refl,
       λ i a b. u.ensures.0 i (omega arith) b,
-      rest_start c.args.src.now c.args.num_bits c.args.n (bits_read st.reader) st.kp st.zero_run_remaining st.nonzero_pending u.new.0 u.ensures.0,
+      rest_start c.args.src.now c.args.num_bits c.args.n (bits_read st.reader) st.kp st.zero_run_remaining st.nonzero_pending u.new.out u.ensures.0,
       omega arith,
       omega arith,
     )
@@ -49,13 +49,13 @@ overflow_add-turns c = record { fits = omega (arith, c.loop-j.invariant.6, c.loo
 pub overflow_add-j : goal.overflow_add-j
 overflow_add-j c =
     let brings : Brought c.args.src.now (8 * c.loop-j.byte_idx + c.loop-j.bit_idx) c.loop-j.kp c.loop-j.pending (c.args.n - c.loop-j.j) c.up_to_value-c.result = let l = c.loop-j in
-    c.up_to_value-c.ensures c.args.src.now (8 * l.byte-idx + l.bit-idx) (64 - l.bit-idx) c.ahead-a.ensures (omega (arith, l.invariant.0)) in
+    c.up_to_value-c.ensures c.args.src.now (8 * l.byte_idx + l.bit_idx) (64 - l.bit_idx) c.ahead-a.ensures (omega (arith, l.invariant.0)) in
     record { fits = omega (arith, brings.run_low, c.loop-j-test.true, c.requires.4, c.well_formed) }
 
 pub overflow_cast-codes : goal.overflow_cast-codes
 overflow_cast-codes c =
     let brings : Brought c.args.src.now (8 * c.loop-j.byte_idx + c.loop-j.bit_idx) c.loop-j.kp c.loop-j.pending (c.args.n - c.loop-j.j) c.up_to_value-c.result = let l = c.loop-j in
-    c.up_to_value-c.ensures c.args.src.now (8 * l.byte-idx + l.bit-idx) (64 - l.bit-idx) c.ahead-a.ensures (omega (arith, l.invariant.0)) in
+    c.up_to_value-c.ensures c.args.src.now (8 * l.byte_idx + l.bit_idx) (64 - l.bit_idx) c.ahead-a.ensures (omega (arith, l.invariant.0)) in
     record { fits = omega (arith, brings.near) }
 
 pub overflow_sub-have : goal.overflow_sub-have
@@ -64,36 +64,36 @@ overflow_sub-have c = omega (arith, c.loop-j.invariant.0)
 pub overflow_sub-have-then-due : goal.overflow_sub-have-then-due
 overflow_sub-have-then-due c =
     let brings : Brought c.args.src.now (8 * c.loop-j.byte_idx + c.loop-j.bit_idx) c.loop-j.kp c.loop-j.pending (c.args.n - c.loop-j.j) c.up_to_value-c.result = let l = c.loop-j in
-    c.up_to_value-c.ensures c.args.src.now (8 * l.byte-idx + l.bit-idx) (64 - l.bit-idx) c.ahead-a.ensures (omega (arith, l.invariant.0)) in
+    c.up_to_value-c.ensures c.args.src.now (8 * l.byte_idx + l.bit_idx) (64 - l.bit_idx) c.ahead-a.ensures (omega (arith, l.invariant.0)) in
     omega (arith, c.loop-j.invariant.0, brings.near)
 
 pub skip-at-requires : goal.skip-at-requires
 skip-at-requires c =
     let brings : Brought c.args.src.now (8 * c.loop-j.byte_idx + c.loop-j.bit_idx) c.loop-j.kp c.loop-j.pending (c.args.n - c.loop-j.j) c.up_to_value-c.result = let l = c.loop-j in
-    c.up_to_value-c.ensures c.args.src.now (8 * l.byte-idx + l.bit-idx) (64 - l.bit-idx) c.ahead-a.ensures (omega (arith, l.invariant.0)) in
+    c.up_to_value-c.ensures c.args.src.now (8 * l.byte_idx + l.bit_idx) (64 - l.bit_idx) c.ahead-a.ensures (omega (arith, l.invariant.0)) in
     let l = c.loop-j in (l.invariant.0, omega (arith, l.invariant.2, brings.near, c.requires.4, c.well_formed))
 
 pub behind-requires : goal.behind-requires
 behind-requires c =
     let brings : Brought c.args.src.now (8 * c.loop-j.byte_idx + c.loop-j.bit_idx) c.loop-j.kp c.loop-j.pending (c.args.n - c.loop-j.j) c.up_to_value-c.result = let l = c.loop-j in
-    c.up_to_value-c.ensures c.args.src.now (8 * l.byte-idx + l.bit-idx) (64 - l.bit-idx) c.ahead-a.ensures (omega (arith, l.invariant.0)) in
+    c.up_to_value-c.ensures c.args.src.now (8 * l.byte_idx + l.bit_idx) (64 - l.bit_idx) c.ahead-a.ensures (omega (arith, l.invariant.0)) in
     omega (arith, brings.near)
 
 pub decode_nonzero-v-requires : goal.decode_nonzero-v-requires
 decode_nonzero-v-requires c =
     let brings : Brought c.args.src.now (8 * c.loop-j.byte_idx + c.loop-j.bit_idx) c.loop-j.kp c.loop-j.pending (c.args.n - c.loop-j.j) c.up_to_value-c.result = let l = c.loop-j in
-    c.up_to_value-c.ensures c.args.src.now (8 * l.byte-idx + l.bit-idx) (64 - l.bit-idx) c.ahead-a.ensures (omega (arith, l.invariant.0)) in
+    c.up_to_value-c.ensures c.args.src.now (8 * l.byte_idx + l.bit_idx) (64 - l.bit_idx) c.ahead-a.ensures (omega (arith, l.invariant.0)) in
     let value_at : bits_read c.skip-at.result ≡ 8 * c.loop-j.byte_idx + c.loop-j.bit_idx + c.up_to_value-c.result.taken = ap bits_read c.skip-at.ensures ∙ read_place _ in
     let l = c.loop-j in
     let near = brings.near in
     let e = value_at in
-    let v = 64 - l.bit-idx in
+    let v = 64 - l.bit_idx in
     let m = c.up_to_value-c.result.taken in (
       omega (arith, ap (λ (r : BitReader). r.bit_idx) c.skip-at.ensures),
       omega (arith, e, near, l.invariant.2, c.requires.4, c.well_formed),
       c.requires.3,
       omega (arith, near, l.invariant.0),
-      rw (e, c.behind.ensures) (front_skip v m _ c.ahead-a.result c.args.src.now (8 * l.byte-idx + l.bit-idx) c.ahead-a.ensures (omega (arith, near, l.invariant.0))),
+      rw (e, c.behind.ensures) (front_skip v m _ c.ahead-a.result c.args.src.now (8 * l.byte_idx + l.bit_idx) c.ahead-a.ensures (omega (arith, near, l.invariant.0))),
     )
 
 pub offset_bounds-out-j : goal.offset_bounds-out-j
@@ -105,7 +105,7 @@ bounds-out-j c = omega (arith, (c.due.ensures.0 c.if-due.true).1, c.loop-j.invar
 pub overflow_add-taken : goal.overflow_add-taken
 overflow_add-taken c =
     let brings : Brought c.args.src.now (8 * c.loop-j.byte_idx + c.loop-j.bit_idx) c.loop-j.kp c.loop-j.pending (c.args.n - c.loop-j.j) c.up_to_value-c.result = let l = c.loop-j in
-    c.up_to_value-c.ensures c.args.src.now (8 * l.byte-idx + l.bit-idx) (64 - l.bit-idx) c.ahead-a.ensures (omega (arith, l.invariant.0)) in
+    c.up_to_value-c.ensures c.args.src.now (8 * l.byte_idx + l.bit_idx) (64 - l.bit_idx) c.ahead-a.ensures (omega (arith, l.invariant.0)) in
     record { fits = omega (arith, brings.near, c.decode_nonzero-v.ensures.3) }
 
 pub overflow_add-j-then-due : goal.overflow_add-j-then-due
@@ -114,7 +114,7 @@ overflow_add-j-then-due c = record { fits = omega (arith, (c.due.ensures.0 c.if-
 pub skip-next-requires : goal.skip-next-requires
 skip-next-requires c =
     let brings : Brought c.args.src.now (8 * c.loop-j.byte_idx + c.loop-j.bit_idx) c.loop-j.kp c.loop-j.pending (c.args.n - c.loop-j.j) c.up_to_value-c.result = let l = c.loop-j in
-    c.up_to_value-c.ensures c.args.src.now (8 * l.byte-idx + l.bit-idx) (64 - l.bit-idx) c.ahead-a.ensures (omega (arith, l.invariant.0)) in
+    c.up_to_value-c.ensures c.args.src.now (8 * l.byte_idx + l.bit_idx) (64 - l.bit_idx) c.ahead-a.ensures (omega (arith, l.invariant.0)) in
     let few : c.if-due.taken ≤ 32809 = ⊎_elim
     (λ p. omega (arith, p.10, brings.near, p.4.ensures.3))
     (λ p. omega (arith, p.4, brings.near))
@@ -124,12 +124,12 @@ skip-next-requires c =
 pub loop-j-smaller : goal.loop-j-smaller
 loop-j-smaller c =
     let brings : Brought c.args.src.now (8 * c.loop-j.byte_idx + c.loop-j.bit_idx) c.loop-j.kp c.loop-j.pending (c.args.n - c.loop-j.j) c.up_to_value-c.result = let l = c.loop-j in
-    c.up_to_value-c.ensures c.args.src.now (8 * l.byte-idx + l.bit-idx) (64 - l.bit-idx) c.ahead-a.ensures (omega (arith, l.invariant.0)) in
+    c.up_to_value-c.ensures c.args.src.now (8 * l.byte_idx + l.bit_idx) (64 - l.bit_idx) c.ahead-a.ensures (omega (arith, l.invariant.0)) in
     let turned : Turned c.args.src.now c.args.num_bits c.args.n c.loop-j.j (8 * c.loop-j.byte_idx + c.loop-j.bit_idx) c.loop-j.kp c.loop-j.pending c.loop-j.out c.if-due.j c.up_to_value-c.result.kp (8 * c.loop-j.byte_idx + c.loop-j.bit_idx + c.if-due.taken) c.if-due.pending c.if-due.out = let s = c.args.src.now in
     let n = c.args.n in
     let w = c.args.num_bits in
     let l = c.loop-j in
-    let at = 8 * l.byte-idx + l.bit-idx in
+    let at = 8 * l.byte_idx + l.bit_idx in
     let r = c.up_to_value-c.result in
     let due = c.due.ensures in
     ⊎_elim
@@ -149,12 +149,12 @@ loop-j-smaller c =
 pub loop-j-preserved : goal.loop-j-preserved
 loop-j-preserved c =
     let brings : Brought c.args.src.now (8 * c.loop-j.byte_idx + c.loop-j.bit_idx) c.loop-j.kp c.loop-j.pending (c.args.n - c.loop-j.j) c.up_to_value-c.result = let l = c.loop-j in
-    c.up_to_value-c.ensures c.args.src.now (8 * l.byte-idx + l.bit-idx) (64 - l.bit-idx) c.ahead-a.ensures (omega (arith, l.invariant.0)) in
+    c.up_to_value-c.ensures c.args.src.now (8 * l.byte_idx + l.bit_idx) (64 - l.bit_idx) c.ahead-a.ensures (omega (arith, l.invariant.0)) in
     let turned : Turned c.args.src.now c.args.num_bits c.args.n c.loop-j.j (8 * c.loop-j.byte_idx + c.loop-j.bit_idx) c.loop-j.kp c.loop-j.pending c.loop-j.out c.if-due.j c.up_to_value-c.result.kp (8 * c.loop-j.byte_idx + c.loop-j.bit_idx + c.if-due.taken) c.if-due.pending c.if-due.out = let s = c.args.src.now in
     let n = c.args.n in
     let w = c.args.num_bits in
     let l = c.loop-j in
-    let at = 8 * l.byte-idx + l.bit-idx in
+    let at = 8 * l.byte_idx + l.bit_idx in
     let r = c.up_to_value-c.result in
     let due = c.due.ensures in
     ⊎_elim
@@ -176,9 +176,9 @@ loop-j-preserved c =
     let t = turned in
     let step : l.j < q.j = omega (arith, t.nearer) in
     let test = c.loop-j-test.true in
-    let read : 8 * l.byte-idx + l.bit-idx + q.true ≡ bits_read c.skip-next.result = sym (ap bits_read c.skip-next.ensures ∙ read_place _) in
-    let left = l.invariant.5 ∙ t.left ∙ ap (λ (m : ℕ). rest a.src.now a.num-bits a.n q.j m kp q.pending q.out) read in
-    (omega (arith, ap (λ (r : BitReader). r.bit_idx) c.skip-next.ensures), brings.kp_low, rest_bound a.src.now a.num-bits a.n _ _ _ _ _ _ _ _ _ _ c.requires.3.1 c.requires.1 c.requires.2 left, t.long ∙ l.invariant.3, t.clear, left, omega (arith, l.invariant.6, step, test), omega (arith, l.invariant.6, test))
+    let read : 8 * l.byte_idx + l.bit_idx + q.true ≡ bits_read c.skip-next.result = sym (ap bits_read c.skip-next.ensures ∙ read_place _) in
+    let left = l.invariant.5 ∙ t.left ∙ ap (λ (m : ℕ). rest a.src.now a.num_bits a.n q.j m kp q.pending q.out) read in
+    (omega (arith, ap (λ (r : BitReader). r.bit_idx) c.skip-next.ensures), brings.kp_low, rest_bound a.src.now a.num_bits a.n _ _ _ _ _ _ _ _ _ _ c.requires.3.1 c.requires.1 c.requires.2 left, t.long ∙ l.invariant.3, t.clear, left, omega (arith, l.invariant.6, step, test), omega (arith, l.invariant.6, test))
 
 pub ended-requires : goal.ended-requires
 ended-requires c =
@@ -193,14 +193,14 @@ pub returns : goal.returns
 returns c =
     let a = c.args in
     let s = a.src.now in
-    let w = a.num-bits in
+    let w = a.num_bits in
     let n = a.n in
     let l = c.loop-j in
-    let at = 8 * l.byte-idx + l.bit-idx in
+    let at = 8 * l.byte_idx + l.bit_idx in
     let u = c.clear in
     let after = reader_after s (replicate n w) (opened a.st) in
-    let done : filled (values s (replicate n w) (opened a.st) ++ drop (0 + n) u.new.0) after ≡ filled l.out (reader at l.kp (l.j - n) l.pending) =
-    sym (fill_is s w n 0 (opened a.st) u.new.0 (omega (arith, u.auto.0, c.requires.4))) ∙ l.invariant.5 ∙ rest_end s w n l.j at l.kp l.pending l.out (omega (arith, c.loop-j-test.false)) in
+    let done : filled (values s (replicate n w) (opened a.st) ++ drop (0 + n) u.new.out) after ≡ filled l.out (reader at l.kp (l.j - n) l.pending) =
+    sym (fill_is s w n 0 (opened a.st) u.new.out (omega (arith, u.auto.out, c.requires.4))) ∙ l.invariant.5 ∙ rest_end s w n l.j at l.kp l.pending l.out (omega (arith, c.loop-j-test.false)) in
     let stands : opened c.state_of.result ≡ after = ap opened c.state_of.ensures ∙ sym (ap (λ (f : Filled). f.after) done) in (
       record {
         state = ap (λ (d : Stored). d.state) c.ended.ensures ∙ ap (λ (r : Reader). shut (held_reader s r)) stands;
@@ -210,5 +210,5 @@ returns c =
             ∙ sym (missing_past s (replicate n w) (opened a.st) c.requires.2);
         turns = omega (arith, ap (λ (d : Stored). d.turns) c.ended.ensures, l.invariant.7);
       },
-      sym (ap (λ (f : Filled). f.out) done) ∙ ap (λ (o : List ℤ). values s (replicate n w) (opened a.st) ++ o) (ap (λ (m : ℕ). drop m u.new.0) (zero-add n) ∙ u.ensures.1),
+      sym (ap (λ (f : Filled). f.out) done) ∙ ap (λ (o : List ℤ). values s (replicate n w) (opened a.st) ++ o) (ap (λ (m : ℕ). drop m u.new.out) (zero-add n) ∙ u.ensures.1),
     )

@@ -30,9 +30,9 @@ returns-then-f-ne0 c =
     let vs = a.values.now in
     let v = get_or vs l.i (pos 0) in
     l.invariant.2
-    ∙ ap (fault a.num-bits l.z) (drop-cons vs l.i (pos 0) (omega arith))
-    ∙ ap (λ f. first_of f (fault a.num-bits (value_zeros l.z v) (drop (suc l.i) vs)))
-    (sym (c.value_fault-f.ensures ∙ ap (λ m. value_fault a.num-bits l.z (pos m)) abs ∙ sym (unsigned a.num-bits l.z v).0)) in
+    ∙ ap (fault a.num_bits l.z) (drop-cons vs l.i (pos 0) (omega arith))
+    ∙ ap (λ f. first_of f (fault a.num_bits (value_zeros l.z v) (drop (suc l.i) vs)))
+    (sym (c.value_fault-f.ensures ∙ ap (λ m. value_fault a.num_bits l.z (pos m)) abs ∙ sym (unsigned a.num_bits l.z v).0)) in
     sym (all ∙ first_of_some _ _ c.if-f-ne0.true)
 
 pub loop-i-preserved : goal.loop-i-preserved
@@ -44,24 +44,24 @@ loop-i-preserved c =
     let vs = a.values.now in
     let v = get_or vs l.i (pos 0) in
     l.invariant.2
-    ∙ ap (fault a.num-bits l.z) (drop-cons vs l.i (pos 0) (omega arith))
-    ∙ ap (λ f. first_of f (fault a.num-bits (value_zeros l.z v) (drop (suc l.i) vs)))
-    (sym (c.value_fault-f.ensures ∙ ap (λ m. value_fault a.num-bits l.z (pos m)) abs ∙ sym (unsigned a.num-bits l.z v).0)) in
+    ∙ ap (fault a.num_bits l.z) (drop-cons vs l.i (pos 0) (omega arith))
+    ∙ ap (λ f. first_of f (fault a.num_bits (value_zeros l.z v) (drop (suc l.i) vs)))
+    (sym (c.value_fault-f.ensures ∙ ap (λ m. value_fault a.num_bits l.z (pos m)) abs ∙ sym (unsigned a.num_bits l.z v).0)) in
     let a = c.args in
     let l = c.loop-i in
     let vs = a.values.now in
     let v = get_or vs l.i (pos 0) in
-    let z : c.zeros_after-z.result ≡ value_zeros l.z v = c.zeros_after-z.ensures ∙ ap (λ m. value_zeros l.z (pos m)) abs ∙ sym (unsigned a.num-bits l.z v).1 in (
+    let z : c.zeros_after-z.result ≡ value_zeros l.z v = c.zeros_after-z.ensures ∙ ap (λ m. value_zeros l.z (pos m)) abs ∙ sym (unsigned a.num_bits l.z v).1 in (
       omega arith,
       omega (arith, z, value_zeros_lem l.z v),
       all
-          ∙ ap (λ f. first_of f (fault a.num-bits (value_zeros l.z v) (drop (suc l.i) vs))) c.if-f-ne0.false
-          ∙ ap (λ x. fault a.num-bits x (drop (suc l.i) vs)) (sym z)
-          ∙ ap (λ n. fault a.num-bits c.zeros_after-z.result (drop n vs)) (sym (add-one l.i)),
+          ∙ ap (λ f. first_of f (fault a.num_bits (value_zeros l.z v) (drop (suc l.i) vs))) c.if-f-ne0.false
+          ∙ ap (λ x. fault a.num_bits x (drop (suc l.i) vs)) (sym z)
+          ∙ ap (λ n. fault a.num_bits c.zeros_after-z.result (drop n vs)) (sym (add-one l.i)),
     )
 
 pub returns : goal.returns
 returns c =
     let a = c.args in
     let l = c.loop-i in
-    sym (l.invariant.2 ∙ ap (fault a.num-bits l.z) (drop_of_length-le a.values.now {i = l.i} (omega arith)))
+    sym (l.invariant.2 ∙ ap (fault a.num_bits l.z) (drop_of_length-le a.values.now {i = l.i} (omega arith)))

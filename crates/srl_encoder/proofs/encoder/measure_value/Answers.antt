@@ -19,7 +19,7 @@ pub returns-then-m-eq0 : goal.returns-then-m-eq0
 returns-then-m-eq0 c =
     let a = c.args in
     let p = counted_none (bit_count_of a.p) c.requires.0.0 in
-    (λ i. record { at = (p i).at; bit_count = (p i).bit_count; kp = a.p.kp; zeros = a.p.zeros + 1 }) ∙ ap (λ m. value_measure a.num-bits a.p (pos m)) (sym c.if-m-eq0.true)
+    (λ i. record { at = (p i).at; bit_count = (p i).bit_count; kp = a.p.kp; zeros = a.p.zeros + 1 }) ∙ ap (λ m. value_measure a.num_bits a.p (pos m)) (sym c.if-m-eq0.true)
 
 pub planned_length-requires : goal.planned_length-requires
 planned_length-requires c =
@@ -37,7 +37,7 @@ pub returns : goal.returns
 returns c =
     let a = c.args in
     let p = a.p in
-    let w = a.num-bits in
+    let w = a.num_bits in
     let plan = c.plan_run-plan in
     let nz = nonzero_value (pos a.m) w p.kp p.zeros a.m refl c.if-m-eq0.false in
     let run = run_bits (suc p.zeros) p.kp p.zeros in

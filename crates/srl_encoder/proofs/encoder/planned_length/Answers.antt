@@ -14,12 +14,12 @@ use Rattle.srl_encoder.proofs.encoder.planned_length.Goals as goal
 pub overflow_add-result : goal.overflow_add-result
 overflow_add-result c =
     let a = c.args in
-    omega (arith, c.run_length.ensures, length_plan a.plan, c.nonzero_length_lem.ensures, nonzero_le a.num-bits a.m true c.requires.1, c.requires.0, c.well_formed, c.ranges)
+    omega (arith, c.run_length.ensures, length_plan a.plan, c.nonzero_length.ensures, nonzero_le a.num_bits a.m true c.requires.1, c.requires.0, c.well_formed, c.ranges)
 
 pub returns : goal.returns
 returns c =
     let a = c.args in
-    let word = nonzero_bits a.num-bits true (a.m - 1) in
-    ap (λ n. n + c.nonzero_length_lem.result) c.run_length.ensures
-    ∙ ap (λ n. length (plan_bits a.plan) + n) c.nonzero_length_lem.ensures
+    let word = nonzero_bits a.num_bits true (a.m - 1) in
+    ap (λ n. n + c.nonzero_length.result) c.run_length.ensures
+    ∙ ap (λ n. length (plan_bits a.plan) + n) c.nonzero_length.ensures
     ∙ sym (length-append (plan_bits a.plan) word)

@@ -32,7 +32,7 @@ overflow_add-result c =
     let s : (c.run_size.result + a.r.rest) * 2 ^ n < 2 ^ 43 = shl_small (a.r.kp / 8 + 1) n 43 small (omega (arith, c.requires.0.0, c.requires.2, c.requires.3)) in
     let w : bit_of a.negative * 2 ^ (a.m - 1 + a.stop) + a.stop < 2 ^ 32 =
     lt_of_lt_of_le (word_small a.m a.stop a.negative c.requires.3 c.requires.1) (pow_mono {i = n} {j = 32} (omega (arith, c.requires.2, c.requires.3))) in
-    rw (exact, c.nonzero_word_lem.ensures) (record { fits = omega (arith, s, w) })
+    rw (exact, c.nonzero_word.ensures) (record { fits = omega (arith, s, w) })
 
 pub returns : goal.returns
 returns c =
@@ -40,6 +40,6 @@ returns c =
     let exact : ((c.run_size.result + c.args.r.rest) * 2 ^ (c.args.m + c.args.stop)) % 2 ^ 64 ≡ (c.run_size.result + c.args.r.rest) * 2 ^ (c.args.m + c.args.stop) = shl_exact (c.args.r.kp / 8 + 1) (c.args.m + c.args.stop) 64 small (omega (arith, c.requires.0.0, c.requires.2, c.requires.3)) in
     let a = c.args in
     let n = a.m + a.stop in
-    ap (λ x. x + c.nonzero_word_lem.result) exact
-    ∙ ap (λ x. (x + a.r.rest) * 2 ^ n + c.nonzero_word_lem.result) c.run_size.ensures
-    ∙ ap (λ x. (2 ^ (a.r.kp / 8) + a.r.rest) * 2 ^ n + x) c.nonzero_word_lem.ensures
+    ap (λ x. x + c.nonzero_word.result) exact
+    ∙ ap (λ x. (x + a.r.rest) * 2 ^ n + c.nonzero_word.result) c.run_size.ensures
+    ∙ ap (λ x. (2 ^ (a.r.kp / 8) + a.r.rest) * 2 ^ n + x) c.nonzero_word.ensures

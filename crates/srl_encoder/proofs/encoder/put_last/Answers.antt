@@ -36,5 +36,5 @@ returns c =
     let f = c.put_flush-flushed in
     let e = c.end_words-n in
     let n : e.result ≡ pad_count (flushed a.c) = e.ensures.0 ∙ ap pad_count f.ensures.writer in
-    let o : e.new.0 ≡ pad_out (flushed_out a.out.now a.c) (flushed a.c) = e.ensures.1 ∙ ap (λ x. pad_out x (settled f.result)) f.ensures.out ∙ ap (pad_out (flushed_out a.out.now a.c)) f.ensures.writer in
-    record { count = ap (λ i. i + 1) n; out = c.store.ensures ∙ ap (λ i. set e.new.0 i 0) n ∙ ap (λ l. set l (pad_count (flushed a.c)) 0) o }
+    let o : e.new.out ≡ pad_out (flushed_out a.out.now a.c) (flushed a.c) = e.ensures.1 ∙ ap (λ x. pad_out x (settled f.result)) f.ensures.out ∙ ap (pad_out (flushed_out a.out.now a.c)) f.ensures.writer in
+    record { count = ap (λ i. i + 1) n; out = c.store.ensures ∙ ap (λ i. set e.new.out i 0) n ∙ ap (λ l. set l (pad_count (flushed a.c)) 0) o }

@@ -15,7 +15,7 @@ pub returns-then-m-eq0 : goal.returns-then-m-eq0
 returns-then-m-eq0 c =
     let abs : c.magnitude-m.result ≡ nat_abs c.args.v = c.magnitude-m.ensures ∙ ap nat_abs (to_z-of_z w16 c.args.v c.ranges.v) in
     let a = c.args in
-    wrote_zero a.num-bits a.out.now (call_of a.at a.word a.held a.kp a.zeros) a.v c.requires.0.0 (zero_value a.v (sym abs ∙ c.if-m-eq0.true)) c.call_of.ensures
+    wrote_zero a.num_bits a.out.now (call_of a.at a.word a.held a.kp a.zeros) a.v c.requires.0.0 (zero_value a.v (sym abs ∙ c.if-m-eq0.true)) c.call_of.ensures
 
 pub put_value-requires : goal.put_value-requires
 put_value-requires c =
@@ -27,5 +27,5 @@ returns c =
     let sign = c.is_negative in
     let a = c.args in
     let cur = call_of a.at a.word a.held a.kp a.zeros in
-    wrote_nonzero a.num-bits a.out.now cur a.v abs c.if-m-eq0.false (sign.ensures ∙ ap is_negative (to_z-of_z w16 a.v c.ranges.v))
-    (subst (λ x. WroteNonzero a.num-bits a.out.now x c.magnitude-m.result sign.result c.put_value.result c.put_value.new.0) c.call_of-c.ensures c.put_value.ensures)
+    wrote_nonzero a.num_bits a.out.now cur a.v abs c.if-m-eq0.false (sign.ensures ∙ ap is_negative (to_z-of_z w16 a.v c.ranges.v))
+    (subst (λ x. WroteNonzero a.num_bits a.out.now x c.magnitude-m.result sign.result c.put_value.result c.put_value.new.out) c.call_of-c.ensures c.put_value.ensures)

@@ -19,14 +19,14 @@ put_word-sign-requires c =
 
 pub put_zero_words-zeros-requires : goal.put_zero_words-zeros-requires
 put_zero_words-zeros-requires c =
-    let signed : WroteWords c.args.out.now c.args.k (c.args.negative ∷ []) c.put_word-sign.result c.put_word-sign.new.0 = let a = c.args in
+    let signed : WroteWords c.args.out.now c.args.k (c.args.negative ∷ []) c.put_word-sign.result c.put_word-sign.new.out = let a = c.args in
     words_renamed a.out.now a.k (ap (bits_of 1) c.bit_of.ensures ∙ sign_bit a.negative) c.put_word-sign.ensures in
     let s = signed in
     (s.sound, omega (arith, c.requires.0.0, c.requires.1, s.near, c.ranges.m))
 
 pub put_word-requires : goal.put_word-requires
 put_word-requires c =
-    let signed : WroteWords c.args.out.now c.args.k (c.args.negative ∷ []) c.put_word-sign.result c.put_word-sign.new.0 = let a = c.args in
+    let signed : WroteWords c.args.out.now c.args.k (c.args.negative ∷ []) c.put_word-sign.result c.put_word-sign.new.out = let a = c.args in
     words_renamed a.out.now a.k (ap (bits_of 1) c.bit_of.ensures ∙ sign_bit a.negative) c.put_word-sign.ensures in
     let ends : c.stop_count-stop.result ≤ 1 = rw c.stop_count-stop.ensures (stop_le c.args.num_bits c.args.m) in
     let s = signed in
@@ -36,12 +36,12 @@ put_word-requires c =
 
 pub returns : goal.returns
 returns c =
-    let signed : WroteWords c.args.out.now c.args.k (c.args.negative ∷ []) c.put_word-sign.result c.put_word-sign.new.0 = let a = c.args in
+    let signed : WroteWords c.args.out.now c.args.k (c.args.negative ∷ []) c.put_word-sign.result c.put_word-sign.new.out = let a = c.args in
     words_renamed a.out.now a.k (ap (bits_of 1) c.bit_of.ensures ∙ sign_bit a.negative) c.put_word-sign.ensures in
     let a = c.args in
     let s = c.stop_count-stop in
     let zs = replicate (a.m - 1) false in
     let end = bits_of s.result s.result in
-    words_renamed a.out.now a.k (nonzero_parts a.num-bits a.m s.result a.negative s.ensures c.requires.2)
+    words_renamed a.out.now a.k (nonzero_parts a.num_bits a.m s.result a.negative s.ensures c.requires.2)
     (words_then a.out.now a.k (a.negative ∷ []) (zs ++ end) signed
-    (words_then c.put_word-sign.new.0 c.put_word-sign.result zs end c.put_zero_words-zeros.ensures c.put_word.ensures))
+    (words_then c.put_word-sign.new.out c.put_word-sign.result zs end c.put_zero_words-zeros.ensures c.put_word.ensures))

@@ -19,25 +19,25 @@ planned_length-n-requires c =
 pub planned_word-word-requires : goal.planned_word-word-requires
 planned_word-word-requires c =
     let total : c.planned_length-n.result ≡ c.args.plan.steps + (c.args.plan.kp / 8 + 1) + (c.args.m + c.stop_count.result) = let a = c.args in
-    c.planned_length-n.ensures ∙ length_planned a.plan a.num-bits a.m c.stop_count.result true c.stop_count.ensures c.requires.3 in
-    let ends : c.stop_count.result ≤ 1 = let a = c.args in rw c.stop_count.ensures (stop_le a.num-bits a.m) in
+    c.planned_length-n.ensures ∙ length_planned a.plan a.num_bits a.m c.stop_count.result true c.stop_count.ensures c.requires.3 in
+    let ends : c.stop_count.result ≤ 1 = let a = c.args in rw c.stop_count.ensures (stop_le a.num_bits a.m) in
     (c.requires.2, c.requires.3, omega (arith, total, c.if-n-le32.true), ends)
 
 pub put_word-requires : goal.put_word-requires
 put_word-requires c =
-    let ends : c.stop_count.result ≤ 1 = let a = c.args in rw c.stop_count.ensures (stop_le a.num-bits a.m) in
+    let ends : c.stop_count.result ≤ 1 = let a = c.args in rw c.stop_count.ensures (stop_le a.num_bits a.m) in
     let total : c.planned_length-n.result ≡ c.args.plan.steps + (c.args.plan.kp / 8 + 1) + (c.args.m + c.stop_count.result) = let a = c.args in
-    c.planned_length-n.ensures ∙ length_planned a.plan a.num-bits a.m c.stop_count.result true c.stop_count.ensures c.requires.3 in
+    c.planned_length-n.ensures ∙ length_planned a.plan a.num_bits a.m c.stop_count.result true c.stop_count.ensures c.requires.3 in
     let a = c.args in
     (c.requires.0, omega (arith, c.requires.1), c.if-n-le32.true, both_small a.plan a.m c.stop_count.result a.negative c.requires.2 ends c.requires.3 c.planned_word-word.ensures (omega (arith, total)))
 
 pub returns-then-n-le32 : goal.returns-then-n-le32
 returns-then-n-le32 c =
     let total : c.planned_length-n.result ≡ c.args.plan.steps + (c.args.plan.kp / 8 + 1) + (c.args.m + c.stop_count.result) = let a = c.args in
-    c.planned_length-n.ensures ∙ length_planned a.plan a.num-bits a.m c.stop_count.result true c.stop_count.ensures c.requires.3 in
+    c.planned_length-n.ensures ∙ length_planned a.plan a.num_bits a.m c.stop_count.result true c.stop_count.ensures c.requires.3 in
     let a = c.args in
     let s = c.stop_count in
-    words_renamed a.out.now a.k (ap (λ j. bits_of j c.planned_word-word.result) total ∙ both_word a.plan a.num-bits a.m s.result a.negative c.requires.2 s.ensures c.requires.3 c.planned_word-word.ensures)
+    words_renamed a.out.now a.k (ap (λ j. bits_of j c.planned_word-word.result) total ∙ both_word a.plan a.num_bits a.m s.result a.negative c.requires.2 s.ensures c.requires.3 c.planned_word-word.ensures)
     c.put_word.ensures
 
 pub put_run-run-requires : goal.put_run-run-requires
@@ -53,4 +53,4 @@ put_nonzero-requires c =
 pub returns : goal.returns
 returns c =
     let a = c.args in
-    words_then a.out.now a.k (plan_bits a.plan) (nonzero_bits a.num-bits a.negative (a.m - 1)) c.put_run-run.ensures c.put_nonzero.ensures
+    words_then a.out.now a.k (plan_bits a.plan) (nonzero_bits a.num_bits a.negative (a.m - 1)) c.put_run-run.ensures c.put_nonzero.ensures

@@ -34,4 +34,4 @@ returns c =
     let r = a.r in
     let z = c.put_zero_words-zeros in
     words_then a.out.now a.k (replicate r.steps false) (true ∷ bits_of (r.kp / 8) r.rest) z.ensures
-    (words_renamed z.new.0 z.result (ap (λ x. bits_of (r.kp / 8 + 1) (x + r.rest)) c.run_size.ensures ∙ plan_end (r.kp / 8) r.rest pre.2.1) c.put_word.ensures)
+    (words_renamed z.new.out z.result (ap (λ x. bits_of (r.kp / 8 + 1) (x + r.rest)) c.run_size.ensures ∙ plan_end (r.kp / 8) r.rest pre.2.1) c.put_word.ensures)

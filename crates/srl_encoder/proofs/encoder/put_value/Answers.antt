@@ -18,7 +18,7 @@ returns c =
     let plan = c.plan_run-plan.ensures in
     let a = c.args in
     record {
-      bits = words_renamed a.out.now a.c.sink (ap (λ l. l ++ nonzero_bits a.num-bits a.negative (a.m - 1)) (sym plan.bits)) c.put_planned-done.ensures;
+      bits = words_renamed a.out.now a.c.sink (ap (λ l. l ++ nonzero_bits a.num_bits a.negative (a.m - 1)) (sym plan.bits)) c.put_planned-done.ensures;
       kp = c.lowered.ensures ∙ sym plan.next;
       zeros = refl;
     }

@@ -11,11 +11,11 @@ use Rattle.srl_encoder.proofs.encoder.stop_count.Goals as goal
 pub returns-then-m-max_magnitude : goal.returns-then-m-max_magnitude
 returns-then-m-max_magnitude c =
     let a = c.args in
-    let j : a.m < 2 ^ a.num-bits - 1 = omega (arith, c.if-m-max_magnitude.true, c.max_magnitude.ensures, pow_low a.num-bits c.requires) in
+    let j : a.m < 2 ^ a.num_bits - 1 = omega (arith, c.if-m-max_magnitude.true, c.max_magnitude.ensures, pow_low a.num_bits c.requires) in
     sym (ap (λ b. cond b 1 0) (lt-ltb _ _ j))
 
 pub returns : goal.returns
 returns c =
     let a = c.args in
-    let j : 2 ^ a.num-bits - 1 ≤ a.m = omega (arith, c.if-m-max_magnitude.false, c.max_magnitude.ensures) in
+    let j : 2 ^ a.num_bits - 1 ≤ a.m = omega (arith, c.if-m-max_magnitude.false, c.max_magnitude.ensures) in
     sym (ap (λ b. cond b 1 0) (le-ltb _ _ j))

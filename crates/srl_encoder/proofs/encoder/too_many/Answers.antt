@@ -30,20 +30,20 @@ returns-then-limit-cur c =
     let l = c.loop-i in
     let v = get_or a.values.now l.i (pos 0) in
     let m : c.magnitude-m.result ≡ nat_abs v = c.magnitude-m.ensures ∙ ap nat_abs (to_z-of_z w16 v (record { sfits = c.magnitude-arg-1.given })) in
-    c.measure_value-cur.ensures ∙ ap (λ n. value_measure a.num-bits l.cur (pos n)) m ∙ sym (measure_unsigned a.num-bits l.cur v) in
+    c.measure_value-cur.ensures ∙ ap (λ n. value_measure a.num_bits l.cur (pos n)) m ∙ sym (measure_unsigned a.num_bits l.cur v) in
     let rest : call_count c.args.num_bits c.args.p c.args.values.now ≡ call_count c.args.num_bits c.measure_value-cur.result (drop (suc c.loop-i.i) c.args.values.now) = let a = c.args in
     let l = c.loop-i in
     let vs = a.values.now in
     let v = get_or vs l.i (pos 0) in
     l.invariant.4
-    ∙ ap (call_count a.num-bits l.cur) (drop-cons vs l.i (pos 0) (omega arith))
-    ∙ count_step a.num-bits l.cur v (drop (suc l.i) vs)
-    ∙ ap (λ p. call_count a.num-bits p (drop (suc l.i) vs)) (sym next) in
+    ∙ ap (call_count a.num_bits l.cur) (drop-cons vs l.i (pos 0) (omega arith))
+    ∙ count_step a.num_bits l.cur v (drop (suc l.i) vs)
+    ∙ ap (λ p. call_count a.num_bits p (drop (suc l.i) vs)) (sym next) in
     let a = c.args in
     let l = c.loop-i in
     let r = c.measure_value-cur.result in
-    let h : a.limit < call_count a.num-bits a.p a.values.now =
-    rw rest (omega (arith, c.if-limit-cur.true, count_mono a.num-bits r (drop (suc l.i) a.values.now))) in
+    let h : a.limit < call_count a.num_bits a.p a.values.now =
+    rw rest (omega (arith, c.if-limit-cur.true, count_mono a.num_bits r (drop (suc l.i) a.values.now))) in
     sym (lt-ltb _ _ h)
 
 pub loop-i-preserved : goal.loop-i-preserved
@@ -52,15 +52,15 @@ loop-i-preserved c =
     let l = c.loop-i in
     let v = get_or a.values.now l.i (pos 0) in
     let m : c.magnitude-m.result ≡ nat_abs v = c.magnitude-m.ensures ∙ ap nat_abs (to_z-of_z w16 v (record { sfits = c.magnitude-arg-1.given })) in
-    c.measure_value-cur.ensures ∙ ap (λ n. value_measure a.num-bits l.cur (pos n)) m ∙ sym (measure_unsigned a.num-bits l.cur v) in
+    c.measure_value-cur.ensures ∙ ap (λ n. value_measure a.num_bits l.cur (pos n)) m ∙ sym (measure_unsigned a.num_bits l.cur v) in
     let rest : call_count c.args.num_bits c.args.p c.args.values.now ≡ call_count c.args.num_bits c.measure_value-cur.result (drop (suc c.loop-i.i) c.args.values.now) = let a = c.args in
     let l = c.loop-i in
     let vs = a.values.now in
     let v = get_or vs l.i (pos 0) in
     l.invariant.4
-    ∙ ap (call_count a.num-bits l.cur) (drop-cons vs l.i (pos 0) (omega arith))
-    ∙ count_step a.num-bits l.cur v (drop (suc l.i) vs)
-    ∙ ap (λ p. call_count a.num-bits p (drop (suc l.i) vs)) (sym next) in
+    ∙ ap (call_count a.num_bits l.cur) (drop-cons vs l.i (pos 0) (omega arith))
+    ∙ count_step a.num_bits l.cur v (drop (suc l.i) vs)
+    ∙ ap (λ p. call_count a.num_bits p (drop (suc l.i) vs)) (sym next) in
     let a = c.args in
     let l = c.loop-i in
     let v = get_or a.values.now l.i (pos 0) in
@@ -69,13 +69,13 @@ loop-i-preserved c =
       rw e (omega arith, value_kp_lem l.cur.kp l.cur.zeros v l.invariant.1.1),
       rw e (omega (arith, l.invariant.2, value_zeros_lem l.cur.zeros v)),
       c.if-limit-cur.false,
-      rest ∙ ap (λ n. call_count a.num-bits c.measure_value-cur.result (drop n a.values.now)) (sym (add-one l.i)),
+      rest ∙ ap (λ n. call_count a.num_bits c.measure_value-cur.result (drop n a.values.now)) (sym (add-one l.i)),
     )
 
 pub returns : goal.returns
 returns c =
     let a = c.args in
     let l = c.loop-i in
-    let n : call_count a.num-bits a.p a.values.now ≡ l.cur.at =
-    l.invariant.4 ∙ ap (call_count a.num-bits l.cur) (drop_of_length-le a.values.now {i = l.i} (omega arith)) ∙ count_none a.num-bits l.cur l.invariant.1.0 in
+    let n : call_count a.num_bits a.p a.values.now ≡ l.cur.at =
+    l.invariant.4 ∙ ap (call_count a.num_bits l.cur) (drop_of_length-le a.values.now {i = l.i} (omega arith)) ∙ count_none a.num_bits l.cur l.invariant.1.0 in
     sym (ap (ltb a.limit) n ∙ le-ltb _ _ l.invariant.3)

@@ -21,47 +21,47 @@ enough l k e h = leb-true 4096 (get_or l k 0) (at (leb 4096) l k 0 e h)
 pub returns-then-not-long_enough : goal.returns-then-not-long_enough
 returns-then-not-long_enough c =
     let a = c.args in
-    let short : every long_enough (three a.y.now a.cb.now a.cr.now) ≡ false = sym c.long_enough_lem.ensures ∙ not-true _ c.if-not-long_enough.true in
+    let short : every long_enough (three a.y.now a.cb.now a.cr.now) ≡ false = sym c.long_enough.ensures ∙ c.if-not-long_enough.true in
     simp short c.not_loaded.ensures
 
 pub returns-then-not-long_enough-2 : goal.returns-then-not-long_enough-2
 returns-then-not-long_enough-2 c =
-    let coefficients : every long_enough (three c.args.y.now c.args.cb.now c.args.cr.now) ≡ true = sym c.long_enough_lem.ensures ∙ not-false _ c.if-not-long_enough.false in
+    let coefficients : every long_enough (three c.args.y.now c.args.cb.now c.args.cr.now) ≡ true = sym c.long_enough.ensures ∙ c.if-not-long_enough.false in
     let a = c.args in
     let long = coefficients in
-    let short : every long_enough (three a.y-sign.now a.cb-sign.now a.cr-sign.now) ≡ false = sym c.long_enough-2.ensures ∙ not-true _ c.if-not-long_enough-2.true in
+    let short : every long_enough (three a.y_sign.now a.cb_sign.now a.cr_sign.now) ≡ false = sym c.long_enough-2.ensures ∙ c.if-not-long_enough-2.true in
     simp (long, short) c.not_loaded-then-not-long_enough-2.ensures
 
 pub returns-then-not-rows_in_domain : goal.returns-then-not-rows_in_domain
 returns-then-not-rows_in_domain c =
-    let coefficients : every long_enough (three c.args.y.now c.args.cb.now c.args.cr.now) ≡ true = sym c.long_enough_lem.ensures ∙ not-false _ c.if-not-long_enough.false in
-    let signs : every long_enough (three c.args.y_sign.now c.args.cb_sign.now c.args.cr_sign.now) ≡ true = sym c.long_enough-2.ensures ∙ not-false _ c.if-not-long_enough-2.false in
-    let high : rows_in_domain c.args.prog_quants ≡ false = sym c.rows_in_domain_lem.ensures ∙ not-true _ c.if-not-rows_in_domain.true in
+    let coefficients : every long_enough (three c.args.y.now c.args.cb.now c.args.cr.now) ≡ true = sym c.long_enough.ensures ∙ c.if-not-long_enough.false in
+    let signs : every long_enough (three c.args.y_sign.now c.args.cb_sign.now c.args.cr_sign.now) ≡ true = sym c.long_enough-2.ensures ∙ c.if-not-long_enough-2.false in
+    let high : rows_in_domain c.args.prog_quants ≡ false = sym c.rows_in_domain.ensures ∙ c.if-not-rows_in_domain.true in
     simp (coefficients, signs, high) c.not_loaded-then-not-rows_in_domain.ensures
 
 pub returns-then-not-rows_in_domain-2 : goal.returns-then-not-rows_in_domain-2
 returns-then-not-rows_in_domain-2 c =
-    let coefficients : every long_enough (three c.args.y.now c.args.cb.now c.args.cr.now) ≡ true = sym c.long_enough_lem.ensures ∙ not-false _ c.if-not-long_enough.false in
-    let signs : every long_enough (three c.args.y_sign.now c.args.cb_sign.now c.args.cr_sign.now) ≡ true = sym c.long_enough-2.ensures ∙ not-false _ c.if-not-long_enough-2.false in
-    let positions : rows_in_domain c.args.prog_quants ≡ true = sym c.rows_in_domain_lem.ensures ∙ not-false _ c.if-not-rows_in_domain.false in
-    let high : rows_in_domain c.args.base_quants ≡ false = sym c.rows_in_domain-2.ensures ∙ not-true _ c.if-not-rows_in_domain-2.true in
+    let coefficients : every long_enough (three c.args.y.now c.args.cb.now c.args.cr.now) ≡ true = sym c.long_enough.ensures ∙ c.if-not-long_enough.false in
+    let signs : every long_enough (three c.args.y_sign.now c.args.cb_sign.now c.args.cr_sign.now) ≡ true = sym c.long_enough-2.ensures ∙ c.if-not-long_enough-2.false in
+    let positions : rows_in_domain c.args.prog_quants ≡ true = sym c.rows_in_domain.ensures ∙ c.if-not-rows_in_domain.false in
+    let high : rows_in_domain c.args.base_quants ≡ false = sym c.rows_in_domain-2.ensures ∙ c.if-not-rows_in_domain-2.true in
     simp (coefficients, signs, positions, high) c.not_loaded-then-not-rows_in_domain-2.ensures
 
 pub loaded-tile-requires : goal.loaded-tile-requires
 loaded-tile-requires c =
-    let coefficients : every long_enough (three c.args.y.now c.args.cb.now c.args.cr.now) ≡ true = sym c.long_enough_lem.ensures ∙ not-false _ c.if-not-long_enough.false in
-    let signs : every long_enough (three c.args.y_sign.now c.args.cb_sign.now c.args.cr_sign.now) ≡ true = sym c.long_enough-2.ensures ∙ not-false _ c.if-not-long_enough-2.false in
+    let coefficients : every long_enough (three c.args.y.now c.args.cb.now c.args.cr.now) ≡ true = sym c.long_enough.ensures ∙ c.if-not-long_enough.false in
+    let signs : every long_enough (three c.args.y_sign.now c.args.cb_sign.now c.args.cr_sign.now) ≡ true = sym c.long_enough-2.ensures ∙ c.if-not-long_enough-2.false in
     let a = c.args in
     let cs = three (length a.y.now) (length a.cb.now) (length a.cr.now) in
-    let ss = three (length a.y-sign.now) (length a.cb-sign.now) (length a.cr-sign.now) in
+    let ss = three (length a.y_sign.now) (length a.cb_sign.now) (length a.cr_sign.now) in
     let long = coefficients in
     let long' = signs in
     (enough cs 0 long (omega arith), enough cs 1 long (omega arith), enough cs 2 long (omega arith), enough ss 0 long' (omega arith), enough ss 1 long' (omega arith), enough ss 2 long' (omega arith))
 
 pub returns : goal.returns
 returns c =
-    let coefficients : every long_enough (three c.args.y.now c.args.cb.now c.args.cr.now) ≡ true = sym c.long_enough_lem.ensures ∙ not-false _ c.if-not-long_enough.false in
-    let signs : every long_enough (three c.args.y_sign.now c.args.cb_sign.now c.args.cr_sign.now) ≡ true = sym c.long_enough-2.ensures ∙ not-false _ c.if-not-long_enough-2.false in
-    let positions : rows_in_domain c.args.prog_quants ≡ true = sym c.rows_in_domain_lem.ensures ∙ not-false _ c.if-not-rows_in_domain.false in
-    let quantizers : rows_in_domain c.args.base_quants ≡ true = sym c.rows_in_domain-2.ensures ∙ not-false _ c.if-not-rows_in_domain-2.false in
+    let coefficients : every long_enough (three c.args.y.now c.args.cb.now c.args.cr.now) ≡ true = sym c.long_enough.ensures ∙ c.if-not-long_enough.false in
+    let signs : every long_enough (three c.args.y_sign.now c.args.cb_sign.now c.args.cr_sign.now) ≡ true = sym c.long_enough-2.ensures ∙ c.if-not-long_enough-2.false in
+    let positions : rows_in_domain c.args.prog_quants ≡ true = sym c.rows_in_domain.ensures ∙ c.if-not-rows_in_domain.false in
+    let quantizers : rows_in_domain c.args.base_quants ≡ true = sym c.rows_in_domain-2.ensures ∙ c.if-not-rows_in_domain-2.false in
     simp (coefficients, signs, positions, quantizers, c.loaded-tile.ensures)

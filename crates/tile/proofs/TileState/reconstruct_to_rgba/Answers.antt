@@ -9,12 +9,12 @@ use Rattle.tile.proofs.TileState.reconstruct_to_rgba.Goals as goal
 pub returns-then-not-are_right : goal.returns-then-not-are_right
 returns-then-not-are_right c =
     let t = c.args.self in
-    let wrong : are_right t.use_reduce_extrapolate t.sign t.zero_signs ≡ false = sym c.are_right.ensures ∙ not-true _ c.if-not-are_right.true in
+    let wrong : are_right t.use_reduce_extrapolate t.sign t.zero_signs ≡ false = sym c.are_right.ensures ∙ c.if-not-are_right.true in
     record { answer = simp wrong; pixels = simp wrong }
 
 pub returns : goal.returns
 returns c =
     let t = c.args.self in
-    let right : are_right t.use_reduce_extrapolate t.sign t.zero_signs ≡ true = sym c.are_right.ensures ∙ not-false _ c.if-not-are_right.false in
+    let right : are_right t.use_reduce_extrapolate t.sign t.zero_signs ≡ true = sym c.are_right.ensures ∙ c.if-not-are_right.false in
     let e = c.reconstruct_to_rgba.ensures in
     record { answer = simp right e.answer; pixels = simp right e.pixels }
