@@ -15,5 +15,5 @@ returns c =
     let low = a.src.now in
     let high = drop a.half low in
     let both = scale (a.p + a.q) a.p a.q a.w refl in
-    let same = rows_down a.w a.p a.q low high c.requires.0 c.requires.1.0.0 (omega (arith, both, c.requires.1.1.0)) (simp length-drop (omega (arith, both, c.requires.1.0.1, c.requires.1.1.0))) in
+    let same = rows_down a.w a.p a.q low high c.requires.halves c.requires.w_value.0 (omega (arith, both, c.requires.w_in_bounds.0)) (simp length-drop (omega (arith, both, c.requires.w_value.1, c.requires.w_in_bounds.0))) in
     rw (to_end low a.half, same) at c.line_rows.ensures

@@ -10,7 +10,7 @@ use Rattle.upgrade_steps.proofs.Stretches.{same_step}
 use Rattle.upgrade_steps.proofs.stretch_at.Goals as goal
 
 pub returns : goal.returns
-returns c =
+returns c = λ e table ends.
     let number : ℕ = get_or c.args.table.now c.args.place 0 in
     let step : band_step c.band_step.result ≡ step_at (number) (get_or c.args.prev (number) 0) (get_or c.args.curr (number) 0) = c.band_step.ensures in
     let a = c.args in

@@ -17,10 +17,7 @@ use Rattle.srl_decoder.proofs.Codes.{code_near, code_moves}
 use Rattle.srl_decoder.proofs.Values.{opened_shut}
 use Rattle.srl_decoder.proofs.Turns.{found, dry_due, dry_few, dry_spent, dry_step, dry_stop}
 use Rattle.srl_decoder.proofs.decoder.any_due.Goals as goal
-
--- what a dry run finds after some turns
-abbrev after : ℕ → DryRun → DryRun
-after t d = record { due = d.due; turns = t + d.turns }
+use Rattle.srl_decoder.proofs.decoder.any_due.Invariants.{after}
 
 pub loop-turns-init : goal.loop-turns-init
 loop-turns-init c =

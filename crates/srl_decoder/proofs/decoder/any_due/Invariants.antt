@@ -18,6 +18,10 @@ use Rattle.srl_decoder.proofs.Values.{opened_shut}
 use Rattle.srl_decoder.proofs.Turns.{found, dry_due, dry_few, dry_spent, dry_step, dry_stop}
 use Rattle.srl_decoder.proofs.decoder.any_due.Given as goal
 
+-- what a dry run finds after some turns
+abbrev pub after : ℕ → DryRun → DryRun
+after t d = record { due = d.due; turns = t + d.turns }
+
 abbrev pub invariant-loop-turns : goal.invariant-loop-turns
 invariant-loop-turns l =
     (l.cur.reader.bit_idx ≤ 7) × (l.cur.kp ≤ 80) × (dry_run l.src (opened l.initial.cur) l.num_values ≡ after l.turns (dry_run l.src (opened l.cur) l.left))

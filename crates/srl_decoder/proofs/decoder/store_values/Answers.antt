@@ -1,7 +1,6 @@
 -- `srl_decoder::decoder::store_values` meets its contract: a turn reads code words and a nonzero value behind them, and what is left to store stays the same. Assumes nothing.
 use mathlib.Core.Path.{◌≡◌, refl, sym, ap, ◌∙◌}
 use mathlib.Core.List.{List, ◌++◌}
-use mathlib.Core.Logic.{⊎_elim}
 use Prim.Native.Nat.{ℕ, ◌+◌, ◌-◌, ◌*◌, ◌≤◌, ◌<◌}
 use native.Mathlib.Nat.{zero-add}
 use native.Mathlib.Omega.{arith}
@@ -25,6 +24,7 @@ use Rattle.srl_decoder.proofs.Missing.{missing_past}
 use Rattle.srl_decoder.proofs.Filled.{Filled, filled, fill, fill_is, rest, rest_start, Turned, turn_codes, turn_value, rest_bound, rest_end}
 use borrow.Author.Rules.{rules}
 use Rattle.srl_decoder.proofs.decoder.store_values.Goals as goal
+use Rattle.srl_decoder.proofs.decoder.store_values.Goals.{then-due, else-due}
 
 pub loop-j-init : goal.loop-j-init
 loop-j-init c =
@@ -115,10 +115,10 @@ pub skip-next-requires : goal.skip-next-requires
 skip-next-requires c =
     let brings : Brought c.args.src.now (8 * c.loop-j.byte_idx + c.loop-j.bit_idx) c.loop-j.kp c.loop-j.pending (c.args.n - c.loop-j.j) c.up_to_value-c.result = let l = c.loop-j in
     c.up_to_value-c.ensures c.args.src.now (8 * l.byte_idx + l.bit_idx) (64 - l.bit_idx) c.ahead-a.ensures (omega (arith, l.invariant.0)) in
-    let few : c.if-due.taken ≤ 32809 = ⊎_elim
-    (λ p. omega (arith, p.10, brings.near, p.4.ensures.3))
-    (λ p. omega (arith, p.4, brings.near))
-    c.if-due.branch in
+    let few : c.if-due.taken ≤ 32809 = elim c.if-due.branch [
+        then-due p ↦ omega (arith, p.taken-is, brings.near, p.decode_nonzero-v.ensures.3)
+        | else-due p ↦ omega (arith, p.taken-is, brings.near)
+    ] in
     let l = c.loop-j in (l.invariant.0, omega (arith, l.invariant.2, few, c.requires.4, c.well_formed))
 
 pub loop-j-smaller : goal.loop-j-smaller
@@ -132,18 +132,18 @@ loop-j-smaller c =
     let at = 8 * l.byte_idx + l.bit_idx in
     let r = c.up_to_value-c.result in
     let due = c.due.ensures in
-    ⊎_elim
-    (λ p.
-    let here = bits_read p.2.result in
-    let e : here ≡ at + r.taken = ap bits_read p.2.ensures ∙ read_place _ in
-    let v = p.4 in
-    let made = p.5 in
+    elim c.if-due.branch [
+    then-due p ↦
+    let here = bits_read p.skip-at.result in
+    let e : here ≡ at + r.taken = ap bits_read p.skip-at.ensures ∙ read_place _ in
+    let v = p.decode_nonzero-v in
+    let made = p.with_sign in
     let value : to_z w16 (of_z w16 made.result) ≡ nonzero s (at + r.taken) w =
-    got w16 made.ok (made.ensures ∙ (λ i. clamp_i16 (with_sign (v.ensures.0 i) (v.ensures.1 i))) ∙ nonzero_is s here w (zeros s (here + 1) (most_zeros w)) (bit_at s here) c.requires.3 refl refl ∙ ap (λ (m : ℕ). nonzero s m w) e) in
+    got w16 made.type_inv (made.ensures ∙ (λ i. clamp_i16 (with_sign (v.ensures.0 i) (v.ensures.1 i))) ∙ nonzero_is s here w (zeros s (here + 1) (most_zeros w)) (bit_at s here) c.requires.3 refl refl ∙ ap (λ (m : ℕ). nonzero s m w) e) in
     let ends : at + (r.taken + v.result.taken) ≡ behind s (at + r.taken) w = omega (arith, e, v.ensures.2) ∙ ap (λ (m : ℕ). behind s m w) e in
-    rw (p.7, p.8, p.9, p.10) (turn_value s w n l.j at l.kp l.pending l.out r (at + (r.taken + v.result.taken)) (to_z w16 (of_z w16 made.result)) l.invariant.4 brings (due.0 p.0.taken) value ends))
-    (λ p. rw (p.1, p.2, p.3, p.4) (turn_codes s w n l.j at l.kp l.pending l.out r c.loop-j-test.true l.invariant.4 brings (due.1 p.0.left)))
-    c.if-due.branch in
+    rw (p.out-is, p.pending-is, p.j-is, p.taken-is) (turn_value s w n l.j at l.kp l.pending l.out r (at + (r.taken + v.result.taken)) (to_z w16 (of_z w16 made.result)) l.invariant.4 brings (due.0 p.if-due.true) value ends)
+    | else-due p ↦ rw (p.out-is, p.pending-is, p.j-is, p.taken-is) (turn_codes s w n l.j at l.kp l.pending l.out r c.loop-j-test.true l.invariant.4 brings (due.1 p.if-due.false))
+    ] in
     turned.nearer
 
 pub loop-j-preserved : goal.loop-j-preserved
@@ -157,18 +157,18 @@ loop-j-preserved c =
     let at = 8 * l.byte_idx + l.bit_idx in
     let r = c.up_to_value-c.result in
     let due = c.due.ensures in
-    ⊎_elim
-    (λ p.
-    let here = bits_read p.2.result in
-    let e : here ≡ at + r.taken = ap bits_read p.2.ensures ∙ read_place _ in
-    let v = p.4 in
-    let made = p.5 in
+    elim c.if-due.branch [
+    then-due p ↦
+    let here = bits_read p.skip-at.result in
+    let e : here ≡ at + r.taken = ap bits_read p.skip-at.ensures ∙ read_place _ in
+    let v = p.decode_nonzero-v in
+    let made = p.with_sign in
     let value : to_z w16 (of_z w16 made.result) ≡ nonzero s (at + r.taken) w =
-    got w16 made.ok (made.ensures ∙ (λ i. clamp_i16 (with_sign (v.ensures.0 i) (v.ensures.1 i))) ∙ nonzero_is s here w (zeros s (here + 1) (most_zeros w)) (bit_at s here) c.requires.3 refl refl ∙ ap (λ (m : ℕ). nonzero s m w) e) in
+    got w16 made.type_inv (made.ensures ∙ (λ i. clamp_i16 (with_sign (v.ensures.0 i) (v.ensures.1 i))) ∙ nonzero_is s here w (zeros s (here + 1) (most_zeros w)) (bit_at s here) c.requires.3 refl refl ∙ ap (λ (m : ℕ). nonzero s m w) e) in
     let ends : at + (r.taken + v.result.taken) ≡ behind s (at + r.taken) w = omega (arith, e, v.ensures.2) ∙ ap (λ (m : ℕ). behind s m w) e in
-    rw (p.7, p.8, p.9, p.10) (turn_value s w n l.j at l.kp l.pending l.out r (at + (r.taken + v.result.taken)) (to_z w16 (of_z w16 made.result)) l.invariant.4 brings (due.0 p.0.taken) value ends))
-    (λ p. rw (p.1, p.2, p.3, p.4) (turn_codes s w n l.j at l.kp l.pending l.out r c.loop-j-test.true l.invariant.4 brings (due.1 p.0.left)))
-    c.if-due.branch in
+    rw (p.out-is, p.pending-is, p.j-is, p.taken-is) (turn_value s w n l.j at l.kp l.pending l.out r (at + (r.taken + v.result.taken)) (to_z w16 (of_z w16 made.result)) l.invariant.4 brings (due.0 p.if-due.true) value ends)
+    | else-due p ↦ rw (p.out-is, p.pending-is, p.j-is, p.taken-is) (turn_codes s w n l.j at l.kp l.pending l.out r c.loop-j-test.true l.invariant.4 brings (due.1 p.if-due.false))
+    ] in
     let a = c.args in
     let l = c.loop-j in
     let q = c.if-due in
@@ -176,7 +176,7 @@ loop-j-preserved c =
     let t = turned in
     let step : l.j < q.j = omega (arith, t.nearer) in
     let test = c.loop-j-test.true in
-    let read : 8 * l.byte_idx + l.bit_idx + q.true ≡ bits_read c.skip-next.result = sym (ap bits_read c.skip-next.ensures ∙ read_place _) in
+    let read : 8 * l.byte_idx + l.bit_idx + q.taken ≡ bits_read c.skip-next.result = sym (ap bits_read c.skip-next.ensures ∙ read_place _) in
     let left = l.invariant.5 ∙ t.left ∙ ap (λ (m : ℕ). rest a.src.now a.num_bits a.n q.j m kp q.pending q.out) read in
     (omega (arith, ap (λ (r : BitReader). r.bit_idx) c.skip-next.ensures), brings.kp_low, rest_bound a.src.now a.num_bits a.n _ _ _ _ _ _ _ _ _ _ c.requires.3.1 c.requires.1 c.requires.2 left, t.long ∙ l.invariant.3, t.clear, left, omega (arith, l.invariant.6, step, test), omega (arith, l.invariant.6, test))
 

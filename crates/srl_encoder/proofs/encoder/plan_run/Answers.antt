@@ -10,13 +10,7 @@ use borrow.Author.Rules.{rules}
 use Rattle.srl_encoder.specs.Encode.{run_bits, run_kp}
 use Rattle.srl_encoder.proofs.Runs.{run_more, run_last, plan_step}
 use Rattle.srl_encoder.proofs.encoder.plan_run.Goals as goal
-
--- the bits of a run of z zeros at kp p, and kp after it
-abbrev R : ℕ → ℕ → List Bool
-R z p = run_bits (suc z) p z
-
-abbrev K : ℕ → ℕ → ℕ
-K z p = run_kp (suc z) p z
+use Rattle.srl_encoder.proofs.encoder.plan_run.Invariants.{R, K}
 
 pub loop-size-init : goal.loop-size-init
 loop-size-init c = (omega arith, c.requires, c.run_size-size.ensures, refl, refl)
