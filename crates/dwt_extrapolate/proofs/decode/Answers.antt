@@ -25,13 +25,13 @@ returns-then-temp-lt-COEFFICIENTS_PER_COMPONENT c =
 
 -- each block makes lines
 pub decode_block-requires : goal.decode_block-requires
-decode_block-requires c = (makes_lines tt, search rules)
+decode_block-requires c = record { halves = makes_lines tt; q_bound = search rules; q_in_bounds = search rules }
 
 pub decode_block-requires-2 : goal.decode_block-requires-2
-decode_block-requires-2 c = (makes_lines tt, search rules)
+decode_block-requires-2 c = record { halves = makes_lines tt; q_bound = search rules; q_in_bounds = search rules }
 
 pub decode_block-requires-3 : goal.decode_block-requires-3
-decode_block-requires-3 c = (makes_lines tt, search rules)
+decode_block-requires-3 c = record { halves = makes_lines tt; q_bound = search rules; q_in_bounds = search rules }
 
 pub shape_of-buffer : goal.shape_of-buffer
 shape_of-buffer c = c.decode_block-3.auto.buffer ∙ c.buffer-2-1.given.1 ∙ c.buffer-1.given.1
@@ -54,5 +54,5 @@ returns c =
     let k₃ = length B - 3807 in
     let k₂ = length (put_part 3807 k₃ B d₃.new.buffer) - 3007 in
     let given = c.buffer-1.given.1 in
-    let r = three_blocks B T d₃.new.buffer d₃.new.temp d₂.new.buffer d₂.new.temp d₁.new.buffer d₁.new.temp k₃ k₂ refl refl nb given d₃.ensures.0 d₂.ensures.0 d₁.ensures.0 d₃.ensures.1 d₂.ensures.1 d₁.ensures.1 in
+    let r = three_blocks B T d₃.new.buffer d₃.new.temp d₂.new.buffer d₂.new.temp d₁.new.buffer d₁.new.temp k₃ k₂ refl refl nb given d₃.ensures.buffer_after d₂.ensures.buffer_after d₁.ensures.buffer_after d₃.ensures.temp_after d₂.ensures.temp_after d₁.ensures.temp_after in
     record { answer = simp (long, longt); buffer = simp (long, longt) r.0; scratch = simp (long, longt) r.1 }

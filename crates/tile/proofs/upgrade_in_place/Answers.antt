@@ -6,7 +6,7 @@ use Rattle.tile.proofs.upgrade_in_place.Goals as goal
 
 pub returns : goal.returns
 returns c =
-    let done = c.upgrade_components.ensures in
+    let done = c.upgrade_components-missing.ensures in
     record {
       coefficients = done.coefficients;
       sign = done.sign;

@@ -31,9 +31,9 @@ split_eight-n-requires c =
 pub loop-i-preserved : goal.loop-i-preserved
 loop-i-preserved c =
     let l = c.loop-i in
-    let u = c.split_eight_lem in
+    let u = c.split_eight-n in
     let h = eights c.args.t.bottom _ _ l.i c.eights_end-end.ensures c.loop-i-test.true in
-    (h.1, u.auto.1.1.1.0 ∙ l.invariant.1, u.auto.1.1.1.1.0 ∙ l.invariant.2, u.ensures (band_step c.args.t) h.0 l.invariant.3)
+    (h.1, u.auto.zeros ∙ l.invariant.1, u.auto.others ∙ l.invariant.2, u.ensures (band_step c.args.t) h.0 l.invariant.3)
 
 pub split_places-requires : goal.split_places-requires
 split_places-requires c =

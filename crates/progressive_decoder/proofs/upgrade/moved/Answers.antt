@@ -11,10 +11,10 @@ pub returns-then-adds : goal.returns-then-adds
 returns-then-adds c =
     let a = c.args in
     let r = c.add_scaled-sum in
-    got w16 r.type-inv (r.ensures ∙ ap (λ z. add_scaled z a.m a.position) (search exact depth 20) ∙ sym (ap (λ b. raw_coefficient b a.position a.m a.c) c.if-adds.true))
+    got w16 r.type_inv (r.ensures ∙ ap (λ z. add_scaled z a.m a.position) (search exact depth 20) ∙ sym (ap (λ b. raw_coefficient b a.position a.m a.c) c.if-adds.true))
 
 pub returns : goal.returns
 returns c =
     let a = c.args in
     let r = c.sub_scaled-difference in
-    got w16 r.type-inv (r.ensures ∙ ap (λ z. sub_scaled z a.m a.position) (search exact depth 20) ∙ sym (ap (λ b. raw_coefficient b a.position a.m a.c) c.if-adds.false))
+    got w16 r.type_inv (r.ensures ∙ ap (λ z. sub_scaled z a.m a.position) (search exact depth 20) ∙ sym (ap (λ b. raw_coefficient b a.position a.m a.c) c.if-adds.false))

@@ -35,7 +35,7 @@ raw_list-raw-requires c =
       omega (arith, p.1.raw_read),
       omega (arith, p.2, p.3),
       long.1,
-      λ j h. subst (λ n. get_or c.split.new.1.1.1.0 j 0 < n) p.2 (list_within (λ s. not (from_srl (band_step c.args.t) s)) c.args.sign.now (length c.args.sign.now - c.split.result) c.split.new.1.1.1.0 long.1 listed.1 j h),
+      λ j h. subst (λ n. get_or c.split-n.new.others j 0 < n) p.2 (list_within (λ s. not (from_srl (band_step c.args.t) s)) c.args.sign.now (length c.args.sign.now - c.split-n.result) c.split-n.new.others long.1 listed.1 j h),
       p.2,
     )
 
@@ -47,14 +47,14 @@ srl_list-srl-requires c =
     let listed : (take c.split-n.result c.split-n.new.zeros ≡ srl_places (band_step c.args.t) c.args.sign.now) × (take (length c.args.sign.now - c.split-n.result) c.split-n.new.others ≡ raw_places (band_step c.args.t) c.args.sign.now) = split_whole (band_step c.args.t) c.args.sign.now c.split-n.result c.split-n.new.zeros c.split-n.new.others c.split-n.ensures in
     let w = wide in
     let p = c.requires in
-    let same = c.raw_list.auto.1.1.1.1.1.0 in (
+    let same = c.raw_list-raw.auto.coefficients in (
       w,
       p.1.place,
       p.1.kp,
       omega (arith, p.1.srl_read_lem),
-      omega (arith, c.split.ensures.few, p.2, p.3),
+      omega (arith, c.split-n.ensures.few, p.2, p.3),
       long.0,
-      λ j h. subst (λ n. get_or c.split.new.1.1.0 j 0 < n) (p.2 ∙ sym same) (list_within (from_srl (band_step c.args.t)) c.args.sign.now c.split.result c.split.new.1.1.0 long.0 listed.0 j h),
+      λ j h. subst (λ n. get_or c.split-n.new.zeros j 0 < n) (p.2 ∙ sym same) (list_within (from_srl (band_step c.args.t)) c.args.sign.now c.split-n.result c.split-n.new.zeros long.0 listed.0 j h),
       p.2 ∙ sym same,
     )
 
@@ -71,7 +71,7 @@ returns c =
     let ss = a.sign.now in
     let r = opened a.from.srl in
     let n = a.from.raw in
-    let first = c.raw_list in
+    let first = c.raw_list-raw in
     let last = c.srl_list-srl in
     let l = listed in
     let done : walk s d (replicate (length cs) t) cs ss r n ≡ walked_by last.new.coefficients last.new.sign (record { srl = last.result; raw = first.result }) =

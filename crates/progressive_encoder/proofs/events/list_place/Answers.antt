@@ -36,7 +36,7 @@ returns c =
     let is : r.value q a.c a.p ≡ with_sign b.result m.result = sided ∙ ap (with_sign b.result) (sym size) in (
       (λ s e.
           let two = class_two r (band_step a.t) a.c a.p s (omega (arith, e, c.if-class-lt2.false)) in
-          place_event r (band_step a.t) a.c a.p s c.requires.0 a.words.now a.count a.zeros c.event_word.result m.result b.result (omega (arith, c.requires.3, c.requires.4)) (omega (arith, m.type-inv)) c.requires.1 (omega (arith, size, two.1)) (omega (arith, c.requires.5)) is c.event_word.ensures two.0),
+          place_event r (band_step a.t) a.c a.p s c.requires.0 a.words.now a.count a.zeros c.event_word.result m.result b.result (omega (arith, c.requires.3, c.requires.4)) (omega (arith, m.type_inv)) c.requires.1 (omega (arith, size, two.1)) (omega (arith, c.requires.5)) is c.event_word.ensures two.0),
       omega arith,
       omega arith,
     )

@@ -13,19 +13,19 @@ use borrow.Author.Rules.{rules}
 use Rattle.progressive_encoder.proofs.measure.measure_event.Goals as goal
 
 pub max_magnitude-most-requires : goal.max_magnitude-most-requires
-max_magnitude-most-requires c = (omega (arith, c.width_of.ensures.0, c.requires.0.wide), c.width_of.ensures.1)
+max_magnitude-most-requires c = (omega (arith, c.width_of-width.ensures.0, c.requires.0.wide), c.width_of-width.ensures.1)
 
 pub planned_length-requires : goal.planned_length-requires
 planned_length-requires c =
     let few : c.plan_run-plan.result.steps ≤ 4096 = omega (arith, c.plan_run-plan.ensures.few, c.zeros_of.ensures, c.requires.0.few) in
     let some : 1 ≤ c.magnitude_of-m.result = omega (arith, c.magnitude_of-m.ensures, c.requires.0.some) in
-    (omega (arith, few), some, (omega (arith, c.width_of.ensures.0, c.requires.0.wide), c.width_of.ensures.1))
+    (omega (arith, few), some, (omega (arith, c.width_of-width.ensures.0, c.requires.0.wide), c.width_of-width.ensures.1))
 
 pub overflow_add-result : goal.overflow_add-result
 overflow_add-result c =
     let some : 1 ≤ c.magnitude_of-m.result = omega (arith, c.magnitude_of-m.ensures, c.requires.0.some) in
     let few : c.plan_run-plan.result.steps ≤ 4096 = omega (arith, c.plan_run-plan.ensures.few, c.zeros_of.ensures, c.requires.0.few) in
-    let small : c.planned_length.result ≤ 80000 = omega (arith, c.planned_length.ensures, planned_le c.plan_run-plan.result c.width_of.result c.magnitude_of-m.result true c.plan_run-plan.ensures.good some, few, c.magnitude_of-m.type_inv) in
+    let small : c.planned_length.result ≤ 80000 = omega (arith, c.planned_length.ensures, planned_le c.plan_run-plan.result c.width_of-width.result c.magnitude_of-m.result true c.plan_run-plan.ensures.good some, few, c.magnitude_of-m.type_inv) in
     omega (arith, small, c.requires.2)
 
 pub returns : goal.returns
@@ -33,7 +33,7 @@ returns c =
     let x = c.args.x in
     let kp = c.args.done.kp in
     let m = c.magnitude_of-m in
-    let w = c.width_of_lem in
+    let w = c.width_of-width in
     let z = c.zeros_of in
     let p = c.plan_run-plan in
     record {

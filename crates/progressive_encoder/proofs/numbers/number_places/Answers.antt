@@ -25,7 +25,7 @@ loop-i-preserved c =
     let y = get_or a.prev_coefficients.now l.i (pos 0) in
     let m : c.raw_number-m.result ≡ r.number a.t.bottom a.t.position x y =
     c.raw_number-m.ensures
-    ∙ (λ j. cut_number (c.by_floors.ensures j) a.t.position (to_z-of_z w16 x (record { sfits = c.raw_number-arg-1.given }) j) (to_z-of_z w16 y (record { sfits = c.raw_number-arg-in-loop-i-1.given }) j))
+    ∙ (λ j. cut_number (c.by_floors-floors.ensures j) a.t.position (to_z-of_z w16 x (record { sfits = c.raw_number-arg-1.given }) j) (to_z-of_z w16 y (record { sfits = c.raw_number-arg-in-loop-i-1.given }) j))
     ∙ number_rule a.symmetric a.t.bottom a.t.position x y in (
       omega (arith, c.loop-i-test.true),
       length-set l.numbers l.i c.low_bits.result ∙ l.invariant.1,

@@ -16,5 +16,5 @@ returns c =
     let b = c.shift_right_floor-2 in
     got w16 c.sub_clamp.type_inv
     (c.sub_clamp.ensures
-    ∙ ap (λ x. clamp_i16 (x -ℤ to_z w16 (of_z w16 b.result))) (got w16 a.type-inv (a.ensures ∙ ap (λ v. floor_shift v q) (to_z-of_z w16 c.args.c c.ranges.c)))
-    ∙ ap (λ x. clamp_i16 (floor_shift c.args.c q -ℤ x)) (got w16 b.type-inv (b.ensures ∙ ap (λ v. floor_shift v q) (to_z-of_z w16 c.args.p c.ranges.p))))
+    ∙ ap (λ x. clamp_i16 (x -ℤ to_z w16 (of_z w16 b.result))) (got w16 a.type_inv (a.ensures ∙ ap (λ v. floor_shift v q) (to_z-of_z w16 c.args.c c.ranges.c)))
+    ∙ ap (λ x. clamp_i16 (floor_shift c.args.c q -ℤ x)) (got w16 b.type_inv (b.ensures ∙ ap (λ v. floor_shift v q) (to_z-of_z w16 c.args.p c.ranges.p))))

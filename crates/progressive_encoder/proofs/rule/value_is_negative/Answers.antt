@@ -28,6 +28,6 @@ returns c =
     let q = a.position in
     let d = c.srl_difference in
     let v = srl_difference q a.c a.p in
-    let e : c.is_negative.result ≡ is_negative v = c.is_negative.ensures ∙ ap is_negative (got w16 d.type-inv (d.ensures ∙ (λ i. srl_difference q (to_z-of_z w16 a.c c.ranges.c i) (to_z-of_z w16 a.p c.ranges.p i)))) in
+    let e : c.is_negative.result ≡ is_negative v = c.is_negative.ensures ∙ ap is_negative (got w16 d.type_inv (d.ensures ∙ (λ i. srl_difference q (to_z-of_z w16 a.c c.ranges.c i) (to_z-of_z w16 a.p c.ranges.p i)))) in
     subst (λ (b : Bool). (rule_of b).value q a.c a.p ≡ with_sign c.is_negative.result (nat_abs ((rule_of b).value q a.c a.p))) (sym c.if-symmetric.false)
     (own_sign v ∙ ap (λ (b : Bool). with_sign b (nat_abs v)) (sym e))

@@ -42,5 +42,5 @@ returns c =
     let b = c.shift_right_floor-2 in
     let d = a.ensures ∙ ap (λ v. floor_shift v q) (to_z-of_z w16 c.args.c c.ranges.c) in
     let e = b.ensures ∙ ap (λ v. floor_shift v q) (to_z-of_z w16 c.args.p c.ranges.p) in
-    by_floors_lem q c.args.c c.args.p a.result b.result (got w16 a.type-inv d) (got w16 b.type-inv e) d e _ refl
+    by_floors_lem q c.args.c c.args.p a.result b.result (got w16 a.type_inv d) (got w16 b.type_inv e) d e _ refl
     ∙ ap (λ (s : Bool). is_zero ((rule_of s).value q c.args.c c.args.p)) (sym c.if-symmetric.false)

@@ -26,5 +26,5 @@ returns c =
     let a = c.args in
     let d = c.srl_difference in
     c.magnitude.ensures
-    ∙ ap nat_abs (got w16 d.type-inv (d.ensures ∙ (λ i. srl_difference a.position (to_z-of_z w16 a.c c.ranges.c i) (to_z-of_z w16 a.p c.ranges.p i))))
+    ∙ ap nat_abs (got w16 d.type_inv (d.ensures ∙ (λ i. srl_difference a.position (to_z-of_z w16 a.c c.ranges.c i) (to_z-of_z w16 a.p c.ranges.p i))))
     ∙ ap (λ (b : Bool). nat_abs ((rule_of b).value a.position a.c a.p)) (sym c.if-symmetric.false)

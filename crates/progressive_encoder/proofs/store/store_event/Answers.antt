@@ -21,7 +21,7 @@ pub returns : goal.returns
 returns c =
     let a = c.args in
     let m = c.magnitude_of in
-    let w = c.width_of_lem in
+    let w = c.width_of in
     let z = c.zeros_of in
     let b = c.is_negative_of in
     let p = c.plan_run-plan in

@@ -21,9 +21,9 @@ returns c = λ l f.
     let a = c.args in
     let n = c.store_srl-n.ensures l a.raws.now f in
     let m = c.store_raw-m.ensures in
-    let k = m.count ∙ ap (λ b. length (pack 0 0 b)) (sym f.raw-bits) in
+    let k = m.count ∙ ap (λ b. length (pack 0 0 b)) (sym f.raw_bits_lem) in
     record {
       answer = λ i. Bytes (n.count i) (k i);
       srl = n.out;
-      raw = m.out ∙ ap (λ b. sets a.raw_out.now 0 (pack 0 0 b)) (sym f.raw-bits);
+      raw = m.out ∙ ap (λ b. sets a.raw_out.now 0 (pack 0 0 b)) (sym f.raw_bits_lem);
     }
