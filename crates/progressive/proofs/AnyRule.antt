@@ -44,6 +44,7 @@ all_legal (w ∷ ws) (v ∷ vs) l e = by (ltb (2 ^ w - 1) (nat_abs v)) refl e (a
 pub read_values_lem : (ws : List ℕ) (vs : List ℤ) → Legal ws vs → ReadBack (srl_stream ws vs) ws start vs (8 * length (srl_stream ws vs))
 unfolding values reader_after
 read_values_lem [] [] l = record { gives = refl; ends = omega arith }
+read_values_lem (w ∷ ws) [] l = elim l [ ]
 read_values_lem ws (v ∷ vs) l = stream_back l (srl_stream ws (v ∷ vs)) refl
 
 -- and so is a raw stream, from wherever the bits of its numbers stand

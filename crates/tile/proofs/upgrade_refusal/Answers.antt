@@ -10,7 +10,7 @@ use Rattle.tile.proofs.upgrade_refusal.Goals as goal
 pub returns-then-not-right : goal.returns-then-not-right
 returns-then-not-right c =
     let a = c.args in
-    let wrong : are_right a.use_reduce_extrapolate a.sign.now a.numbers.now ≡ false = sym c.are_right-right.ensures ∙ not-true c.are_right-right.result c.if-not-right.true in
+    let wrong : are_right a.use_reduce_extrapolate a.sign.now a.numbers.now ≡ false = sym c.are_right-right.ensures ∙ c.if-not-right.true in
     simp wrong
 
 pub returns-then-not-low : goal.returns-then-not-low
