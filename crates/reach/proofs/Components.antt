@@ -40,15 +40,15 @@ gains_in (b ∷ bs) p q (c' ∷ cs') (s' ∷ ss') (FitsRow.one f fs) g =
 gains_out : {bs p q : List ℕ} {cs ss cs' ss' : List ℤ} → GainsRow p q bs cs ss cs' ss' → ComponentGains bs p q cs ss cs' ss'
 gains_out g = record { coefficients = coefficients g; signs = signs g; each = each g }
   where
-    coefficients : {bs p q : List ℕ} {cs ss cs' ss' : List ℤ} → GainsRow p q bs cs ss cs' ss' → length cs' ≡ length bs
+    coefficients : {p q bs : List ℕ} {cs ss cs' ss' : List ℤ} → GainsRow p q bs cs ss cs' ss' → length cs' ≡ length bs
     coefficients GainsRow.none = refl
     coefficients (GainsRow.one g gs) = ap suc (coefficients gs)
 
-    signs : {bs p q : List ℕ} {cs ss cs' ss' : List ℤ} → GainsRow p q bs cs ss cs' ss' → length ss' ≡ length bs
+    signs : {p q bs : List ℕ} {cs ss cs' ss' : List ℤ} → GainsRow p q bs cs ss cs' ss' → length ss' ≡ length bs
     signs GainsRow.none = refl
     signs (GainsRow.one g gs) = ap suc (signs gs)
 
-    each : {bs p q : List ℕ} {cs ss cs' ss' : List ℤ} → GainsRow p q bs cs ss cs' ss' → (i : ℕ) → i < length bs
+    each : {p q bs : List ℕ} {cs ss cs' ss' : List ℤ} → GainsRow p q bs cs ss cs' ss' → (i : ℕ) → i < length bs
         → Gains (is_bottom_band (get_or bs i 0)) (position_of p (get_or bs i 0)) (position_of q (get_or bs i 0)) (place_of_lists cs ss i) (place_of_lists cs' ss' i)
     each GainsRow.none i h = absurd (omega arith)
     each (GainsRow.one g gs) zero h = g
