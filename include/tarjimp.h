@@ -2,8 +2,8 @@
  * Tarjimp: SRL and raw streams, upgrade passes, dequantizing, the inverse
  * reduce-extrapolate wavelet and pixels of RemoteFX Progressive tiles.
  *
- * Link with libtarjimp.a, which `rt staticlib tarjimp` writes to
- * target/staticlib/. It needs no other library, keeps no state of its own,
+ * Link with libtarjimp.a, which `rt lib` in crates/tarjimp/ writes to
+ * crates/tarjimp/out/. It needs no other library, keeps no state of its own,
  * allocates nothing, and any number of threads may call it. A call takes up to
  * 1 KB of stack; tarjimp_band_of_place 5, the two writers of a pass 57,
  * tarjimp_decode_upgrade_pass and tarjimp_tile_decode_upgrade 12,

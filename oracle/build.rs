@@ -18,7 +18,7 @@ const INSIDE: &str = "crates/ironrdp-graphics/src";
 const FILES: [&str; 3] = ["dwt_extrapolate", "progressive", "srl"];
 
 /// The port's static library, in the repository.
-const PORT: &str = "target/staticlib/libtarjimp.a";
+const PORT: &str = "crates/tarjimp/out/libtarjimp.a";
 
 fn main() {
     println!("cargo::rerun-if-changed=build.rs");

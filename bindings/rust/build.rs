@@ -1,4 +1,4 @@
-//! Has the crate linked with `libtarjimp.a`, which `rt staticlib tarjimp` writes.
+//! Has the crate linked with `libtarjimp.a`, which `rt lib` writes in `crates/tarjimp`.
 
 use std::env;
 use std::path::{Path, PathBuf};
@@ -7,7 +7,7 @@ use std::path::{Path, PathBuf};
 const VARIABLE: &str = "TARJIMP_LIB_DIR";
 
 /// Where the library is if the variable is not set, or empty.
-const DEFAULT: &str = "../../target/staticlib";
+const DEFAULT: &str = "../../crates/tarjimp/out";
 
 fn main() {
     println!("cargo::rerun-if-changed=build.rs");
@@ -21,7 +21,7 @@ fn main() {
     println!("cargo::rerun-if-changed={}", library.display());
     if !library.is_file() {
         println!(
-            "cargo::error=there is no {}: run `rt staticlib tarjimp` in the repository, or set {VARIABLE} to the folder that has it",
+            "cargo::error=there is no {}: run `rt lib` in the folder crates/tarjimp of the repository, or set {VARIABLE} to the folder that has it",
             library.display()
         );
         return; // cargo ends the build because of the error

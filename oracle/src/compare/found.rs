@@ -69,7 +69,7 @@ fn text(seed: Option<u64>, difference: &Difference) -> String {
     let name = kinds::name(*kind);
     let from = seed.map_or("file".into(), |seed| format!("seed {seed}"));
     let side = match side {
-        Side::Replay => "target/bin/replay",
+        Side::Replay => "crates/replay/out/replay",
         Side::Functions => "the functions of libtarjimp.a",
     };
     let mut text = format!("first difference: {name}, {from}, case {number}, by {side}\n");
@@ -85,7 +85,7 @@ fn text(seed: Option<u64>, difference: &Difference) -> String {
     match keep(&file, *kind, case) {
         Ok(()) => {
             text += &format!(
-                "  replay it: target/bin/replay < {file}\n  compare it: oracle/compare --file {file}"
+                "  replay it: crates/replay/out/replay < {file}\n  compare it: oracle/compare --file {file}"
             );
         }
         Err(error) => text += &format!("  {file} cannot be written: {error}"),

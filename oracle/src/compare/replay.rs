@@ -12,7 +12,7 @@ use crate::ROOT;
 use crate::found::{Difference, Found, Side};
 
 /// The program, from the repository's root.
-const PROGRAM: &str = "target/bin/replay";
+const PROGRAM: &str = "crates/replay/out/replay";
 
 /// What it writes last if it has read everything.
 const ENDED: &str = "the recording was read to its end";
