@@ -25,7 +25,7 @@ loop-i-preserved c =
     let next = zeros_next l at.i c.args.to in
     let is = sym (c.is_zero_sign.ensures ∙ ap is_zero (to_z-of_z w8 (get_or l at.i (pos 0)) (record { sfits = c.is_zero_sign-arg-1.given }))) in
     elim c.if-is_zero_sign.branch [
-      then-is_zero_sign w ↦ (omega arith, omega arith, omega arith, omega (arith, at.invariant.3, next true (is ∙ w.if-is_zero_sign.true) c.loop-i-test.true c.requires.2))
+      | then-is_zero_sign w ↦ (omega arith, omega arith, omega arith, omega (arith, at.invariant.3, next true (is ∙ w.if-is_zero_sign.true) c.loop-i-test.true c.requires.2))
       | else-is_zero_sign w ↦ (omega arith, omega arith, omega arith, omega (arith, at.invariant.3, next false (is ∙ w.if-is_zero_sign.false) c.loop-i-test.true c.requires.2))
     ]
 

@@ -116,8 +116,8 @@ skip-next-requires c =
     let brings : Brought c.args.src.now (8 * c.loop-j.byte_idx + c.loop-j.bit_idx) c.loop-j.kp c.loop-j.pending (c.args.n - c.loop-j.j) c.up_to_value-c.result = let l = c.loop-j in
     c.up_to_value-c.ensures c.args.src.now (8 * l.byte_idx + l.bit_idx) (64 - l.bit_idx) c.ahead-a.ensures (omega (arith, l.invariant.0)) in
     let few : c.if-due.taken ≤ 32809 = elim c.if-due.branch [
-        then-due p ↦ omega (arith, p.taken-is, brings.near, p.decode_nonzero-v.ensures.3)
-        | else-due p ↦ omega (arith, p.taken-is, brings.near)
+      | then-due p ↦ omega (arith, p.taken-is, brings.near, p.decode_nonzero-v.ensures.3)
+      | else-due p ↦ omega (arith, p.taken-is, brings.near)
     ] in
     let l = c.loop-j in (l.invariant.0, omega (arith, l.invariant.2, few, c.requires.4, c.well_formed))
 
@@ -133,16 +133,16 @@ loop-j-smaller c =
     let r = c.up_to_value-c.result in
     let due = c.due.ensures in
     elim c.if-due.branch [
-    then-due p ↦
-    let here = bits_read p.skip-at.result in
-    let e : here ≡ at + r.taken = ap bits_read p.skip-at.ensures ∙ read_place _ in
-    let v = p.decode_nonzero-v in
-    let made = p.with_sign in
-    let value : to_z w16 (of_z w16 made.result) ≡ nonzero s (at + r.taken) w =
-    got w16 made.type_inv (made.ensures ∙ (λ i. clamp_i16 (with_sign (v.ensures.0 i) (v.ensures.1 i))) ∙ nonzero_is s here w (zeros s (here + 1) (most_zeros w)) (bit_at s here) c.requires.3 refl refl ∙ ap (λ (m : ℕ). nonzero s m w) e) in
-    let ends : at + (r.taken + v.result.taken) ≡ behind s (at + r.taken) w = omega (arith, e, v.ensures.2) ∙ ap (λ (m : ℕ). behind s m w) e in
-    rw (p.out-is, p.pending-is, p.j-is, p.taken-is) (turn_value s w n l.j at l.kp l.pending l.out r (at + (r.taken + v.result.taken)) (to_z w16 (of_z w16 made.result)) l.invariant.4 brings (due.0 p.if-due.true) value ends)
-    | else-due p ↦ rw (p.out-is, p.pending-is, p.j-is, p.taken-is) (turn_codes s w n l.j at l.kp l.pending l.out r c.loop-j-test.true l.invariant.4 brings (due.1 p.if-due.false))
+      | then-due p ↦
+          let here = bits_read p.skip-at.result in
+          let e : here ≡ at + r.taken = ap bits_read p.skip-at.ensures ∙ read_place _ in
+          let v = p.decode_nonzero-v in
+          let made = p.with_sign in
+          let value : to_z w16 (of_z w16 made.result) ≡ nonzero s (at + r.taken) w =
+          got w16 made.type_inv (made.ensures ∙ (λ i. clamp_i16 (with_sign (v.ensures.0 i) (v.ensures.1 i))) ∙ nonzero_is s here w (zeros s (here + 1) (most_zeros w)) (bit_at s here) c.requires.3 refl refl ∙ ap (λ (m : ℕ). nonzero s m w) e) in
+          let ends : at + (r.taken + v.result.taken) ≡ behind s (at + r.taken) w = omega (arith, e, v.ensures.2) ∙ ap (λ (m : ℕ). behind s m w) e in
+          rw (p.out-is, p.pending-is, p.j-is, p.taken-is) (turn_value s w n l.j at l.kp l.pending l.out r (at + (r.taken + v.result.taken)) (to_z w16 (of_z w16 made.result)) l.invariant.4 brings (due.0 p.if-due.true) value ends)
+      | else-due p ↦ rw (p.out-is, p.pending-is, p.j-is, p.taken-is) (turn_codes s w n l.j at l.kp l.pending l.out r c.loop-j-test.true l.invariant.4 brings (due.1 p.if-due.false))
     ] in
     turned.nearer
 
@@ -158,16 +158,16 @@ loop-j-preserved c =
     let r = c.up_to_value-c.result in
     let due = c.due.ensures in
     elim c.if-due.branch [
-    then-due p ↦
-    let here = bits_read p.skip-at.result in
-    let e : here ≡ at + r.taken = ap bits_read p.skip-at.ensures ∙ read_place _ in
-    let v = p.decode_nonzero-v in
-    let made = p.with_sign in
-    let value : to_z w16 (of_z w16 made.result) ≡ nonzero s (at + r.taken) w =
-    got w16 made.type_inv (made.ensures ∙ (λ i. clamp_i16 (with_sign (v.ensures.0 i) (v.ensures.1 i))) ∙ nonzero_is s here w (zeros s (here + 1) (most_zeros w)) (bit_at s here) c.requires.3 refl refl ∙ ap (λ (m : ℕ). nonzero s m w) e) in
-    let ends : at + (r.taken + v.result.taken) ≡ behind s (at + r.taken) w = omega (arith, e, v.ensures.2) ∙ ap (λ (m : ℕ). behind s m w) e in
-    rw (p.out-is, p.pending-is, p.j-is, p.taken-is) (turn_value s w n l.j at l.kp l.pending l.out r (at + (r.taken + v.result.taken)) (to_z w16 (of_z w16 made.result)) l.invariant.4 brings (due.0 p.if-due.true) value ends)
-    | else-due p ↦ rw (p.out-is, p.pending-is, p.j-is, p.taken-is) (turn_codes s w n l.j at l.kp l.pending l.out r c.loop-j-test.true l.invariant.4 brings (due.1 p.if-due.false))
+      | then-due p ↦
+          let here = bits_read p.skip-at.result in
+          let e : here ≡ at + r.taken = ap bits_read p.skip-at.ensures ∙ read_place _ in
+          let v = p.decode_nonzero-v in
+          let made = p.with_sign in
+          let value : to_z w16 (of_z w16 made.result) ≡ nonzero s (at + r.taken) w =
+          got w16 made.type_inv (made.ensures ∙ (λ i. clamp_i16 (with_sign (v.ensures.0 i) (v.ensures.1 i))) ∙ nonzero_is s here w (zeros s (here + 1) (most_zeros w)) (bit_at s here) c.requires.3 refl refl ∙ ap (λ (m : ℕ). nonzero s m w) e) in
+          let ends : at + (r.taken + v.result.taken) ≡ behind s (at + r.taken) w = omega (arith, e, v.ensures.2) ∙ ap (λ (m : ℕ). behind s m w) e in
+          rw (p.out-is, p.pending-is, p.j-is, p.taken-is) (turn_value s w n l.j at l.kp l.pending l.out r (at + (r.taken + v.result.taken)) (to_z w16 (of_z w16 made.result)) l.invariant.4 brings (due.0 p.if-due.true) value ends)
+      | else-due p ↦ rw (p.out-is, p.pending-is, p.j-is, p.taken-is) (turn_codes s w n l.j at l.kp l.pending l.out r c.loop-j-test.true l.invariant.4 brings (due.1 p.if-due.false))
     ] in
     let a = c.args in
     let l = c.loop-j in
