@@ -17,7 +17,7 @@ use Rattle.upgrade_steps.specs.Cut.{cut_component, cut_component_signs}
 use Rattle.progressive_decoder.specs.Upgrade.{upgraded_coefficients, upgraded_signs}
 use Rattle.progressive.specs.CutTrip.{Brings, CutAsked}
 use Rattle.components.specs.Components.{steps_of, pass_coefficients, pass_signs}
-use Rattle.planes.specs.Planes.{component, row_of, joined, three, of}
+use Rattle.planes.specs.Planes.{component, row_of, joined, of}
 use Rattle.planes.proofs.Joined.{three_of_lem, Long, joined_long, parts_long, component_joined}
 use Rattle.zero_signs.specs.ZeroSigns.{zero_signs_of}
 use Rattle.tile.specs.Tile.{upgraded, rows_refusal, upgrade_refusal}

@@ -13,8 +13,6 @@ use Rattle.fixed.specs.Cut.{cut_level, toward_zero, downward}
 use Rattle.fixed.proofs.Clamp.{clamp_same}
 use Rattle.fixed.proofs.Cuts.{cut_below, toward_pos, toward_neg}
 use Rattle.fixed.proofs.Sign.{with_minus, abs_minus}
-use Rattle.bits.specs.Bits.{numbers}
-use Rattle.srl_decoder.specs.Srl.{values}
 use Rattle.upgrade_steps.specs.Steps.{Step, Source, skipped, srl, raw, source, source_of, steps, raw_widths}
 use Rattle.progressive_decoder.specs.Upgrade.{srl_coefficient, srl_sign, adds, raw_coefficient, decode_coefficients, decode_signs}
 use Rattle.progressive_encoder.specs.Encode.{floor_rule, srl_difference, raw_difference, raw_differences, srl_bytes, raw_bytes, encode_pass_refusal}

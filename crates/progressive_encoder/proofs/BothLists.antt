@@ -1,15 +1,13 @@
 -- Laws of a look over the places of a pass: both lists together, and what they say when all places are looked at. Assumes nothing.
-use mathlib.Core.Path.{◌≡◌, refl, ap, sym, ◌∙◌}
-use mathlib.Core.Bool.{◌||◌, or-false}
-use mathlib.Core.List.{List, [], ◌∷◌, ◌++◌, append-nil}
-use Prim.Native.Nat.{ℕ, ◌+◌, ◌≤◌}
+use mathlib.Core.Path.{sym, ◌∙◌}
+use mathlib.Core.Bool.{or-false}
+use mathlib.Core.List.{List, [], append-nil}
+use Prim.Native.Nat.{ℕ, ◌≤◌}
 use native.Mathlib.Omega.{arith}
-use lib.IntN.{ℤ}
-use lib.ListN.{length}
 use Rattle.bits.specs.Written.{bits_of_all}
-use Rattle.srl_encoder.specs.Finish.{flush, stream_bits}
+use Rattle.srl_encoder.specs.Finish.{stream_bits}
 use Rattle.progressive_encoder.specs.Encode.{any_too_large}
-use Rattle.progressive_encoder.specs.Inner.{Lists, GoesOver, WentOver, held, number_bits, events_then, any_event_too_large, event_values, Each, srl_then, large_then, raw_then, ListsNumbers, FewWords, ListsEvents, FewEvents, Looked, looked_by, nothing_found, Looks, FewFound, FoundAll}
+use Rattle.progressive_encoder.specs.Inner.{Lists, GoesOver, WentOver, held, number_bits, events_then, any_event_too_large, event_values, Each, ListsNumbers, FewWords, ListsEvents, FewEvents, Looked, looked_by, nothing_found, Looks, FewFound, FoundAll}
 use Rattle.progressive_encoder.proofs.Placewise.{Placewise}
 use Rattle.progressive_encoder.proofs.ListedNumbers.{numbers_placewise}
 use Rattle.progressive_encoder.proofs.ListedEvents.{events_placewise}

@@ -2,14 +2,14 @@
 -- Assumes nothing.
 use mathlib.Core.Path.{◌≡◌, refl, ap, sym, ◌∙◌, subst}
 use mathlib.Core.Bool.{Bool, true, false, cond, ◌||◌, or_assoc, or-false}
-use mathlib.Core.List.{List, [], ◌∷◌, ◌++◌, append_assoc}
+use mathlib.Core.List.{List, [], ◌∷◌, ◌++◌}
 use Prim.Native.Nat.{ℕ, zero, suc, ◌+◌, ◌-◌, ◌*◌, ◌/◌, ◌%◌, ◌^◌, ◌≤◌, ◌<◌}
 use native.Mathlib.Nat.{add-zero}
 use native.Mathlib.Numerals.{add-one}
 use native.Mathlib.Omega.{arith}
 use borrow.Author.Tests.{le-ltb}
 use lib.Dec.{ltb, eqb}
-use lib.IntN.{ℤ, pos, negsuc, nat_abs, neg_ℤ}
+use lib.IntN.{ℤ, pos, nat_abs}
 use lib.ListN.{length, get_or, set, take, length-append}
 use Rattle.bits.specs.Bits.{bit_of}
 use Rattle.fixed.specs.Fixed.{is_zero, with_sign}
@@ -19,7 +19,7 @@ use Rattle.srl_encoder.specs.Finish.{stream_bits}
 use Rattle.upgrade_steps.specs.Steps.{Step}
 use Rattle.upgrade_steps.specs.Inner.{from_srl}
 use Rattle.progressive_encoder.specs.Encode.{Rule, any_too_large}
-use Rattle.progressive_encoder.specs.Inner.{Lists, place_lists, band_lists, Part, GoesOver, event_magnitude, event_negative, event_width, event_zeros, Event, event_bits, event_kp, events_then, any_event_too_large, event_values, Each, Listed, listed_of, srl_then, large_then, held, words_of, ListsEvents, FewEvents, class_of, Classed, PlacesOver, TakesEvents, sum_from}
+use Rattle.progressive_encoder.specs.Inner.{Lists, place_lists, band_lists, Part, GoesOver, event_magnitude, event_negative, event_width, event_zeros, Event, event_bits, event_kp, events_then, any_event_too_large, event_values, Each, Listed, listed_of, srl_then, large_then, held, words_of, ListsEvents, FewEvents, class_of, Classed, TakesEvents, sum_from}
 use Rattle.progressive_encoder.proofs.Rules.{abs_signed, some_abs}
 use Rattle.progressive_encoder.proofs.Held.{each_append, behind_others}
 use Rattle.progressive_encoder.proofs.Placewise.{Placewise, chain, place_srl, place_raw, band_begins, band_goes_on}

@@ -2,7 +2,7 @@
 use mathlib.Core.Path.{◌≡◌, refl, ap, sym, ◌∙◌, subst}
 use mathlib.Core.Bool.{Bool, true, false, cond}
 use mathlib.Core.List.{List, [], ◌∷◌, ◌++◌, append_assoc, append-nil}
-use Prim.Native.Nat.{ℕ, zero, suc, ◌+◌, ◌-◌, ◌*◌, ◌/◌, ◌%◌, ◌^◌, ◌≤◌, ◌<◌}
+use Prim.Native.Nat.{ℕ, zero, suc, ◌+◌, ◌*◌, ◌/◌, ◌%◌, ◌^◌, ◌≤◌, ◌<◌}
 use native.Mathlib.Nat.{add-zero}
 use native.Mathlib.Omega.{arith}
 use lib.IntN.{ℤ, pos}
@@ -15,7 +15,7 @@ use Rattle.fixed.proofs.Cuts.{rest_small}
 use Rattle.upgrade_steps.specs.Steps.{Step}
 use Rattle.upgrade_steps.specs.Inner.{from_srl}
 use Rattle.progressive_encoder.specs.Encode.{Rule}
-use Rattle.progressive_encoder.specs.Inner.{Lists, place_lists, band_lists, Part, GoesOver, number_of, number_width_of, number_bits, Words, words_of, held, raw_then, ListsNumbers, NumberWord, Each, FewWords, class_of, Classed, Numbered, PlacesOver, TakesNumbers}
+use Rattle.progressive_encoder.specs.Inner.{Lists, place_lists, band_lists, Part, GoesOver, number_of, number_width_of, number_bits, Words, words_of, raw_then, ListsNumbers, NumberWord, Each, FewWords, class_of, Classed, Numbered, TakesNumbers}
 use Rattle.progressive_encoder.proofs.Held.{behind_others, none_behind, each_append}
 use Rattle.progressive_encoder.proofs.Placewise.{Placewise, chain, place_srl, place_raw, band_begins, band_goes_on}
 

@@ -1,9 +1,9 @@
 -- Laws of what a place gives by either rule: a value by its magnitude and its side, values that are 0, numbers that are not below 0. Assumes nothing.
 use mathlib.Core.Path.{◌≡◌, refl, ap, sym, ◌∙◌}
 use mathlib.Core.Bool.{Bool, true, false, ◌&&◌, true≢false}
-use Prim.Native.Nat.{ℕ, zero, suc, ◌/◌, ◌^◌}
+use Prim.Native.Nat.{ℕ, zero, suc}
 use native.Mathlib.Omega.{arith}
-use borrow.Author.Tests.{le-ltb, ltb-true, ltb-false}
+use borrow.Author.Tests.{le-ltb, ltb-true}
 use lib.IntN.{ℤ, pos, negsuc, nat_abs, ◌+ℤ◌, ◌-ℤ◌, +ℤ_idl, +ℤ_invr, -ℤ-+ℤ_cancel}
 use Rattle.fixed.specs.Fixed.{clamp_i16, floor_shift, is_zero, is_negative, with_sign}
 use Rattle.fixed.proofs.Sign.{abs_minus}

@@ -1,8 +1,8 @@
 -- Laws of how long both streams are: events and numbers one by one, and then the streams. Assumes nothing.
 use mathlib.Core.Path.{◌≡◌, refl, ap, sym, ◌∙◌, subst}
-use mathlib.Core.Bool.{Bool, true, false, ◌||◌, or-false}
+use mathlib.Core.Bool.{Bool, false, ◌||◌, or-false}
 use mathlib.Core.List.{List, [], ◌∷◌, ◌++◌, append-nil, append_assoc}
-use Prim.Native.Nat.{ℕ, zero, suc, ◌+◌, ◌-◌, ◌*◌, ◌/◌, ◌%◌, ◌^◌, ◌≤◌, ◌<◌}
+use Prim.Native.Nat.{ℕ, zero, suc, ◌+◌, ◌-◌, ◌/◌, ◌^◌, ◌≤◌, ◌<◌}
 use native.Mathlib.Omega.{arith}
 use lib.Dec.{ltb}
 use lib.IntN.{ℤ}
@@ -16,7 +16,7 @@ use Rattle.srl_encoder.specs.Finish.{flush, stream_bits}
 use Rattle.srl_encoder.specs.Inner.{plan_bits, Planned}
 use Rattle.srl_encoder.specs.declared.encoder.RunPlan.{RunPlan}
 use Rattle.srl_encoder.proofs.Runs.{length_run, run_kp_le}
-use Rattle.srl_encoder.proofs.Nonzeros.{nonzero_le, sign_length}
+use Rattle.srl_encoder.proofs.Nonzeros.{nonzero_le}
 use Rattle.progressive_encoder.specs.Encode.{srl_stream, raw_stream}
 use Rattle.progressive_encoder.specs.Inner.{Lists, held, number_of, number_width_of, number_bits, event_magnitude, event_negative, event_width, event_zeros, Event, event_bits, event_kp, events_then, events_kp, events_bits, any_event_too_large, event_values, Looked, FoundAll, srl_length, MeasuresEvent, MeasuresEvents}
 use Rattle.progressive_encoder.specs.declared.measure.EventsMeasured.{EventsMeasured}

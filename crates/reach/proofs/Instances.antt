@@ -15,7 +15,7 @@ use Rattle.bands.specs.Positions.{every, rows_in_domain}
 use Rattle.bands.proofs.Every.{both_true}
 use Rattle.bands.proofs.Spread.{place_whole, bands_whole, place_map, one_of_ten}
 use Rattle.answer.specs.Refusals.{slice_too_short, out_of_domain, unless, first_of, long_enough}
-use Rattle.planes.specs.Planes.{component, joined, three, of, taken}
+use Rattle.planes.specs.Planes.{component, joined, of, taken}
 use Rattle.tile.specs.Tile.{fresh, loaded, load_refusal}
 use Rattle.planes.proofs.Joined.{three_of_lem, Long, joined_long, component_joined, row_joined}
 use Rattle.fitting.specs.Place.{Multiple, Fits}

@@ -1,6 +1,5 @@
 -- `answer::number_of` meets its contract. Assumes nothing.
 use mathlib.Core.Path.{refl}
-use borrow.Author.Rules.{rules}
 use Rattle.answer.proofs.number_of.Goals as goal
 
 pub returns-in-Refused : goal.returns-in-Refused

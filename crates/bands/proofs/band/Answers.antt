@@ -1,7 +1,6 @@
 -- `bands::band` meets its contract. Assumes nothing.
 use mathlib.Core.Path.{refl}
 use native.Mathlib.Omega.{arith}
-use borrow.Author.Rules.{rules}
 use Rattle.bands.proofs.Laid.{no_band}
 use Rattle.bands.proofs.band.Goals as goal
 

@@ -1,7 +1,6 @@
 -- `bands::band_count` meets its contract. Assumes nothing.
 use mathlib.Core.Path.{◌∙◌, ap}
 use native.Mathlib.Omega.{arith}
-use borrow.Author.Rules.{rules}
 use Rattle.bands.specs.Bands.{count_of}
 use Rattle.bands.proofs.Laid.{band_within}
 use Rattle.bands.proofs.band_count.Goals as goal

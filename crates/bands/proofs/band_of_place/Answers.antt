@@ -4,7 +4,6 @@ use mathlib.Core.Path.{sym, ap, ◌∙◌}
 use Prim.Native.Nat.{ℕ}
 use native.Mathlib.Omega.{arith}
 use lib.ListN.{get_or}
-use borrow.Author.Rules.{rules}
 use Rattle.bands.proofs.Laid.{past_all}
 use Rattle.bands.proofs.Places.{entry_right}
 use Rattle.bands.proofs.band_of_place.Goals as goal

@@ -1,12 +1,8 @@
 -- `bands::positions_in_domain` meets its contract: what is left of the positions decides. Assumes nothing.
-use mathlib.Core.Path.{◌≡◌, refl, sym, ◌∙◌}
+use mathlib.Core.Path.{◌≡◌}
 use Prim.Native.Nat.{◌≤◌, ◌-◌}
-use native.Mathlib.Omega.{arith}
 use lib.ListN.{length, drop}
-use borrow.Author.Rules.{rules}
-use borrow.Author.Tests.{le-leb, lt-leb}
-use Rattle.bands.specs.Positions.{row_in_domain, in_domain}
-use Rattle.bands.proofs.Every.{passes, fails, ends}
+use Rattle.bands.specs.Positions.{row_in_domain}
 use Rattle.bands.proofs.positions_in_domain.Given as goal
 
 abbrev pub invariant-loop-b : goal.invariant-loop-b

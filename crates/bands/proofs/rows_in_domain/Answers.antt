@@ -1,10 +1,8 @@
 -- `bands::rows_in_domain` meets its contract: what is left of the rows decides. Assumes nothing.
-use mathlib.Core.Path.{◌≡◌, refl, sym, ◌∙◌}
-use Prim.Native.Nat.{◌≤◌, ◌-◌}
+use mathlib.Core.Path.{refl, sym, ◌∙◌}
 use native.Mathlib.Omega.{arith}
-use lib.ListN.{length, drop}
 use borrow.Author.Rules.{rules}
-use Rattle.bands.specs.Positions.{row_in_domain, rows_in_domain}
+use Rattle.bands.specs.Positions.{row_in_domain}
 use Rattle.bands.proofs.Every.{passes, fails, ends}
 use Rattle.bands.proofs.rows_in_domain.Goals as goal
 

@@ -1,12 +1,8 @@
 -- `bands::rows_in_domain` meets its contract: what is left of the rows decides. Assumes nothing.
-use mathlib.Core.Path.{◌≡◌, refl, sym, ◌∙◌}
+use mathlib.Core.Path.{◌≡◌}
 use Prim.Native.Nat.{◌≤◌, ◌-◌}
-use native.Mathlib.Omega.{arith}
 use lib.ListN.{length, drop}
-use borrow.Author.Rules.{rules}
-use borrow.Author.Tests.{not-true, not-false}
-use Rattle.bands.specs.Positions.{row_in_domain, rows_in_domain}
-use Rattle.bands.proofs.Every.{passes, fails, ends}
+use Rattle.bands.specs.Positions.{rows_in_domain}
 use Rattle.bands.proofs.rows_in_domain.Given as goal
 
 abbrev pub invariant-loop-c : goal.invariant-loop-c

@@ -4,7 +4,6 @@ use lib.IntN.{pos, ◌+ℤ◌, ◌-ℤ◌, ◌*ℤ◌}
 use mir.Facts.{to_z-of_z}
 use mir.Syntax.{w64}
 use mir.Val.{SFits, to_z, of_z}
-use borrow.Author.Rules.{rules}
 use Rattle.fixed.specs.Fixed.{clamp_u8}
 use Rattle.fixed.proofs.Machine.{signed}
 use Rattle.color.specs.Color.{rounded}

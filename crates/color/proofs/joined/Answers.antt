@@ -1,9 +1,9 @@
 -- `color::joined` meets its contract: the first i are stored. Assumes nothing.
-use Prim.Native.Nat.{◌+◌, ◌*◌, ◌-◌}
+use Prim.Native.Nat.{◌+◌, ◌*◌}
 use native.Mathlib.Omega.{arith}
 use lib.ListN.{get_or}
 use borrow.Author.Rules.{rules}
-use Rattle.color.proofs.Picture.{Storing, stored}
+use Rattle.color.proofs.Picture.{stored}
 use Rattle.color.proofs.joined.Goals as goal
 
 pub loop-i-preserved : goal.loop-i-preserved

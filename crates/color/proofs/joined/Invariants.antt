@@ -1,9 +1,7 @@
 -- `color::joined` meets its contract: the first i are stored. Assumes nothing.
 use Prim.Native.Nat.{◌+◌, ◌*◌, ◌-◌}
-use native.Mathlib.Omega.{arith}
 use lib.ListN.{get_or}
-use borrow.Author.Rules.{rules}
-use Rattle.color.proofs.Picture.{Storing, stored}
+use Rattle.color.proofs.Picture.{Storing}
 use Rattle.color.proofs.joined.Given as goal
 
 abbrev pub invariant-loop-i : goal.invariant-loop-i

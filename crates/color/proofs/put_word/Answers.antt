@@ -1,7 +1,6 @@
 -- `color::put_word` meets its contract. Assumes nothing.
 use native.Mathlib.Omega.{arith}
 use lib.ListN.{length-set}
-use borrow.Author.Rules.{rules}
 use Rattle.color.proofs.put_word.Goals as goal
 
 pub bounds-pixels-o-2 : goal.bounds-pixels-o-2

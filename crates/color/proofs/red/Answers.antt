@@ -1,6 +1,5 @@
 -- `color::red` meets its contract. Assumes nothing.
 use mathlib.Core.Path.{◌∙◌, ap}
-use borrow.Author.Rules.{rules}
 use Rattle.fixed.specs.Fixed.{clamp_u8}
 use Rattle.fixed.proofs.Machine.{signed, exact}
 use Rattle.color.proofs.Split.{red_whole}

@@ -1,7 +1,6 @@
 -- `color::red_green` meets its contract. Assumes nothing.
 use mathlib.Core.Path.{◌∙◌}
 use mir.Facts.{to_z-of_z}
-use borrow.Author.Rules.{rules}
 use Rattle.color.proofs.red_green.Goals as goal
 
 pub returns : goal.returns

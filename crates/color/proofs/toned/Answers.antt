@@ -1,8 +1,7 @@
 -- `color::toned` meets its contract. Assumes nothing.
 use mathlib.Core.Path.{◌∙◌, ap}
-use lib.IntN.{ℤ, pos, ◌+ℤ◌}
+use lib.IntN.{pos, ◌+ℤ◌}
 use mir.Syntax.{w16, w32}
-use borrow.Author.Rules.{rules}
 use Rattle.fixed.specs.Fixed.{clamp_u8, clamp_i16}
 use Rattle.fixed.proofs.Bounds.{Under, under_more, under_add}
 use Rattle.fixed.proofs.Machine.{signed, exact, known, fits_eq, mag_under}

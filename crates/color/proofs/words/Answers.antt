@@ -1,6 +1,6 @@
 -- `color::words` meets its contract: the first i of both are stored. Assumes nothing.
 use mathlib.Core.Path.{◌≡◌, ◌∙◌}
-use Prim.Native.Nat.{◌+◌, ◌*◌, ◌-◌, ◌<◌}
+use Prim.Native.Nat.{◌+◌, ◌*◌, ◌<◌}
 use native.Mathlib.Omega.{arith}
 use lib.IntN.{pos}
 use lib.ListN.{get_or}
@@ -8,7 +8,7 @@ use mir.Syntax.{w16}
 use mir.Val.{to_z, of_z}
 use borrow.Author.Rules.{rules}
 use Rattle.color.specs.Inner.{red_green, blue_full}
-use Rattle.color.proofs.Picture.{Storing, stored}
+use Rattle.color.proofs.Picture.{stored}
 use Rattle.color.proofs.words.Goals as goal
 
 pub loop-i-preserved : goal.loop-i-preserved

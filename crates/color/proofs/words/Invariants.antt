@@ -1,14 +1,7 @@
 -- `color::words` meets its contract: the first i of both are stored. Assumes nothing.
-use mathlib.Core.Path.{◌≡◌, ◌∙◌}
-use Prim.Native.Nat.{◌+◌, ◌*◌, ◌-◌, ◌<◌}
-use native.Mathlib.Omega.{arith}
-use lib.IntN.{pos}
-use lib.ListN.{get_or}
-use mir.Syntax.{w16}
-use mir.Val.{to_z, of_z}
-use borrow.Author.Rules.{rules}
+use Prim.Native.Nat.{◌+◌, ◌-◌}
 use Rattle.color.specs.Inner.{red_green, blue_full}
-use Rattle.color.proofs.Picture.{Storing, stored}
+use Rattle.color.proofs.Picture.{Storing}
 use Rattle.color.proofs.words.Given as goal
 
 abbrev pub invariant-loop-i : goal.invariant-loop-i

@@ -1,9 +1,8 @@
 -- `color::write_64` meets its contract: those before i are stored. Assumes nothing.
 use mathlib.Core.Path.{◌≡◌, refl, ap, ◌∙◌}
-use Prim.Native.Nat.{◌+◌, ◌-◌, ◌<◌, ◌≤◌}
+use Prim.Native.Nat.{◌+◌, ◌<◌}
 use native.Mathlib.Omega.{arith}
-use borrow.Author.Rules.{rules}
-use Rattle.color.specs.Inner.{answer, PixelsWritten}
+use Rattle.color.specs.Inner.{answer}
 use Rattle.color.proofs.Picture.{pixel_turn, written_on}
 use Rattle.color.proofs.write_64.Goals as goal
 

@@ -1,11 +1,7 @@
 -- `color::write_rgba` meets its contract: those before `at` are stored. Assumes nothing.
-use mathlib.Core.Path.{refl, sym, ◌∙◌}
-use Prim.Native.Nat.{◌+◌, ◌-◌, ◌≤◌}
-use native.Mathlib.Omega.{arith}
+use Prim.Native.Nat.{◌-◌, ◌≤◌}
 use lib.ListN.{length}
-use borrow.Author.Rules.{rules}
 use Rattle.color.specs.Inner.{PixelsWritten}
-use Rattle.color.proofs.Picture.{written_on, pixels_left, pixels_done}
 use Rattle.color.proofs.write_rgba.Given as goal
 
 abbrev pub invariant-loop-at : goal.invariant-loop-at

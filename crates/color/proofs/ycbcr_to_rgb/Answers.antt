@@ -1,6 +1,5 @@
 -- `color::ycbcr_to_rgb` meets its contract. Assumes nothing.
 use mir.Facts.{to_z-of_z}
-use borrow.Author.Rules.{rules}
 use Rattle.color.proofs.ycbcr_to_rgb.Goals as goal
 
 pub returns : goal.returns

@@ -1,6 +1,5 @@
 -- `components::sum_of` meets its contract. Assumes nothing.
 use mathlib.Core.Path.{refl}
-use borrow.Author.Rules.{rules}
 use Rattle.components.proofs.sum_of.Goals as goal
 
 pub returns : goal.returns

@@ -6,7 +6,6 @@ use Prim.Native.Nat.{◌+◌, ◌-◌, ◌*◌}
 use native.Mathlib.Omega.{arith}
 use borrow.Rule.Slice.PartMut.{mid_of}
 use lib.IntN.{ℤ}
-use borrow.Author.Rules.{rules}
 use Rattle.bands.specs.Positions.{in_domain, row_in_domain}
 use Rattle.bands.proofs.Every.{part_passes}
 use Rattle.upgrade_steps.specs.Steps.{Step}

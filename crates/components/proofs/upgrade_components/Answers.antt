@@ -1,7 +1,6 @@
 -- `components::upgrade_components` meets its contract. Assumes nothing.
 use mathlib.Core.Path.{◌∙◌}
 use native.Mathlib.Omega.{arith}
-use borrow.Author.Rules.{rules}
 use Rattle.planes.specs.Planes.{three}
 use Rattle.components.proofs.Passes.{passed}
 use Rattle.components.proofs.upgrade_components.Goals as goal

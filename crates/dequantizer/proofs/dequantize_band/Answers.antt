@@ -1,6 +1,5 @@
 -- `dequantizer::dequantize_band` meets its contract: after i turns the first i are dequantized. Assumes nothing.
 use mathlib.Core.Path.{◌≡◌, refl, sym, ap, ◌∙◌}
-use Prim.Native.Nat.{◌-◌, ◌≤◌}
 use native.Mathlib.Omega.{arith}
 use lib.IntN.{pos}
 use lib.ListN.{length, get_or, set, replicate, length-set}
@@ -9,7 +8,6 @@ use mir.ValLaws.{to_z-of_z}
 use Rattle.fixed.proofs.Machine.{got}
 use Rattle.dequantizer.specs.Dequantize.{dequantized, dequantized_all}
 use Rattle.dequantizer.proofs.Dequantized.{all_turn}
-use borrow.Author.Rules.{rules}
 use Rattle.dequantizer.proofs.dequantize_band.Goals as goal
 
 pub loop-i-init : goal.loop-i-init

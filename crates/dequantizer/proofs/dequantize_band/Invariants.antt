@@ -1,15 +1,8 @@
 -- `dequantizer::dequantize_band` meets its contract: after i turns the first i are dequantized. Assumes nothing.
-use mathlib.Core.Path.{◌≡◌, refl, sym, ap, ◌∙◌}
+use mathlib.Core.Path.{◌≡◌}
 use Prim.Native.Nat.{◌-◌, ◌≤◌}
-use native.Mathlib.Omega.{arith}
-use lib.IntN.{pos}
-use lib.ListN.{length, get_or, set, replicate, length-set}
-use mir.Syntax.{w16}
-use mir.ValLaws.{to_z-of_z}
-use Rattle.fixed.proofs.Machine.{got}
-use Rattle.dequantizer.specs.Dequantize.{dequantized, dequantized_all}
-use Rattle.dequantizer.proofs.Dequantized.{all_turn}
-use borrow.Author.Rules.{rules}
+use lib.ListN.{length, replicate}
+use Rattle.dequantizer.specs.Dequantize.{dequantized_all}
 use Rattle.dequantizer.proofs.dequantize_band.Given as goal
 
 abbrev pub invariant-loop-i : goal.invariant-loop-i

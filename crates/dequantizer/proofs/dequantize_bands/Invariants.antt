@@ -1,14 +1,9 @@
 -- `dequantizer::dequantize_bands` meets its contract: after b turns the places of the first b bands are dequantized. Assumes nothing.
-use mathlib.Core.Path.{◌≡◌, refl, sym, ap, ◌∙◌}
+use mathlib.Core.Path.{◌≡◌}
 use Prim.Native.Nat.{◌-◌, ◌≤◌}
-use native.Mathlib.Omega.{arith}
-use borrow.Rule.Slice.PartMut.{mid_of}
-use lib.ListN.{length, get_or, replicate}
-use Rattle.bands.proofs.Spread.{spread_to, per_place_to, place_all}
+use lib.ListN.{length, get_or}
+use Rattle.bands.proofs.Spread.{per_place_to}
 use Rattle.dequantizer.specs.Dequantize.{dequantized_all}
-use Rattle.bands.proofs.Spans.{Lies, part_length}
-use Rattle.dequantizer.proofs.Dequantized.{all_band}
-use borrow.Author.Rules.{rules}
 use Rattle.dequantizer.proofs.dequantize_bands.Given as goal
 
 abbrev pub invariant-loop-b : goal.invariant-loop-b

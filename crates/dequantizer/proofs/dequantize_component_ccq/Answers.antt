@@ -2,11 +2,10 @@
 use mathlib.Core.Path.{◌≡◌, sym, ◌∙◌}
 use mathlib.Core.Bool.{true, false}
 use native.Mathlib.Omega.{arith}
-use borrow.Author.Tests.{le-leb, lt-leb, not-true, not-false}
+use borrow.Author.Tests.{le-leb, lt-leb}
 use lib.ListN.{length}
 use Rattle.bands.specs.Positions.{row_in_domain}
 use Rattle.answer.specs.Refusals.{long_enough}
-use borrow.Author.Rules.{rules}
 use Rattle.dequantizer.proofs.dequantize_component_ccq.Goals as goal
 
 pub returns-then-coefficients-lt-COEFFICIENTS_PER_COMPONENT : goal.returns-then-coefficients-lt-COEFFICIENTS_PER_COMPONENT

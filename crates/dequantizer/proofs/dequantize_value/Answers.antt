@@ -7,7 +7,6 @@ use mir.Syntax.{w16}
 use mir.ValLaws.{to_z-of_z}
 use Rattle.fixed.specs.Fixed.{round_shift, shift_left_clamp}
 use Rattle.fixed.proofs.Machine.{got}
-use borrow.Author.Rules.{rules}
 use Rattle.dequantizer.proofs.dequantize_value.Goals as goal
 
 pub returns-then-q-gt6 : goal.returns-then-q-gt6

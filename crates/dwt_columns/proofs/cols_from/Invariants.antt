@@ -1,14 +1,10 @@
 -- `dwt_columns::cols_from` meets its contract. Assumes nothing.
-use mathlib.Core.Path.{◌≡◌, refl, ◌∙◌}
+use mathlib.Core.Path.{◌≡◌}
 use mathlib.Core.List.{◌++◌, flatten}
-use Prim.Native.Nat.{ℕ, ◌+◌, ◌*◌, ◌-◌, ◌≤◌}
-use native.Mathlib.Omega.{arith}
+use Prim.Native.Nat.{◌+◌, ◌*◌, ◌-◌, ◌≤◌}
 use lib.ListN.{length, take, drop}
-use borrow.Author.Rules.{rules}
 use Rattle.dwt_columns.specs.Columns.{rows}
 use Rattle.dwt_columns.specs.Inner.{from_rows}
-use Rattle.dwt_columns.proofs.Products.{scale}
-use Rattle.dwt_columns.proofs.RowByRow.{cols_kept, cols_turn, cols_one, cols_two}
 use Rattle.dwt_columns.proofs.cols_from.Given as goal
 
 abbrev pub invariant-loop-m : goal.invariant-loop-m

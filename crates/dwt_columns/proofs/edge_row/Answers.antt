@@ -1,13 +1,12 @@
 -- `dwt_columns::edge_row` meets its contract. Assumes nothing.
 use mathlib.Core.Path.{◌≡◌, refl, ◌∙◌}
-use Prim.Native.Nat.{◌-◌, ◌≤◌}
 use native.Mathlib.Omega.{arith}
 use lib.IntN.{pos}
-use lib.ListN.{length, get_or, length-set}
+use lib.ListN.{get_or, length-set}
 use mir.Syntax.{w16}
 use mir.Val.{to_z, of_z}
 use borrow.Author.Rules.{rules}
-use Rattle.dwt_columns.proofs.Fronts.{EdgeDone, edge_start, edge_turn, edge_done}
+use Rattle.dwt_columns.proofs.Fronts.{edge_start, edge_turn, edge_done}
 use Rattle.dwt_columns.proofs.edge_row.Goals as goal
 
 pub loop-i-init : goal.loop-i-init

@@ -3,7 +3,6 @@ use mathlib.Core.Path.{refl}
 use Prim.Native.Nat.{◌+◌}
 use native.Mathlib.Omega.{arith}
 use lib.ListN.{drop, length-drop}
-use borrow.Author.Rules.{rules}
 use Rattle.dwt_columns.proofs.Products.{scale}
 use Rattle.dwt_columns.proofs.Columns.{rows_down}
 use Rattle.dwt_columns.proofs.Put.{to_end}

@@ -1,7 +1,6 @@
 -- `dwt_columns::last_at` meets its contract. Assumes nothing.
 use Prim.Native.Nat.{◌+◌, ◌*◌, ◌-◌}
 use native.Mathlib.Omega.{arith}
-use borrow.Author.Rules.{rules}
 use Rattle.dwt_columns.proofs.RowByRow.{last_put}
 use Rattle.dwt_columns.proofs.last_at.Goals as goal
 

@@ -1,13 +1,8 @@
 -- `dwt_columns::last_rows` meets its contract. Assumes nothing.
-use mathlib.Core.Path.{◌≡◌, refl, ◌∙◌}
+use mathlib.Core.Path.{◌≡◌}
 use Prim.Native.Nat.{◌-◌, ◌≤◌}
-use native.Mathlib.Omega.{arith}
-use lib.IntN.{pos}
-use lib.ListN.{length, get_or, length-set}
-use mir.Syntax.{w16}
-use mir.Val.{to_z, of_z}
-use borrow.Author.Rules.{rules}
-use Rattle.dwt_columns.proofs.Fronts.{LastDone, last_start, last_turn, last_done}
+use lib.ListN.{length}
+use Rattle.dwt_columns.proofs.Fronts.{LastDone}
 use Rattle.dwt_columns.proofs.last_rows.Given as goal
 
 abbrev pub invariant-loop-i : goal.invariant-loop-i

@@ -1,7 +1,6 @@
 -- `dwt_columns::pair_at` meets its contract. Assumes nothing.
 use Prim.Native.Nat.{◌+◌, ◌*◌, ◌-◌}
 use native.Mathlib.Omega.{arith}
-use borrow.Author.Rules.{rules}
 use Rattle.dwt_columns.proofs.RowByRow.{pair_put}
 use Rattle.dwt_columns.proofs.pair_at.Goals as goal
 

@@ -3,7 +3,6 @@ use mathlib.Core.Path.{refl}
 use Prim.Native.Nat.{◌+◌, ◌*◌, ◌-◌}
 use native.Mathlib.Omega.{arith}
 use lib.ListN.{length}
-use borrow.Author.Rules.{rules}
 use Rattle.dwt_extrapolate.proofs.Blocks.{block_scratch, block_cols}
 use Rattle.dwt_extrapolate.proofs.decode_block.Goals as goal
 

@@ -1,15 +1,9 @@
 -- `dwt_extrapolate::idwt_rows` meets its contract. Assumes nothing.
-use mathlib.Core.Path.{◌≡◌, refl, ◌∙◌}
-use mathlib.Core.List.{◌++◌, flatten, append-nil}
-use Prim.Native.Nat.{◌+◌, ◌*◌, ◌-◌, ◌≤◌}
-use native.Mathlib.Omega.{arith}
+use mathlib.Core.Path.{◌≡◌}
+use mathlib.Core.List.{◌++◌, flatten}
+use Prim.Native.Nat.{◌+◌, ◌*◌, ◌≤◌}
 use lib.ListN.{length, take, drop}
-use borrow.Author.Rules.{rules}
-use borrow.Rule.Slice.PartMut.{mid_len}
 use Rattle.dwt_extrapolate.specs.Block.{lines}
-use Rattle.dwt_columns.proofs.Products.{scale}
-use Rattle.dwt_columns.proofs.Put.{put_kept, whole}
-use Rattle.dwt_extrapolate.proofs.Rows.{lines_none, lines_turn}
 use Rattle.dwt_extrapolate.proofs.idwt_rows.Given as goal
 
 abbrev pub invariant-loop-m : goal.invariant-loop-m

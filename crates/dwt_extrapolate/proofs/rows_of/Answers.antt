@@ -1,5 +1,4 @@
 -- `dwt_extrapolate::rows_of` meets its contract. Assumes nothing.
-use borrow.Author.Rules.{rules}
 use Rattle.dwt_columns.proofs.Put.{to_end}
 use Rattle.dwt_extrapolate.proofs.rows_of.Goals as goal
 

@@ -4,7 +4,6 @@ use lib.IntN.{◌-ℤ◌}
 use mir.Facts.{to_z-of_z}
 use mir.Syntax.{w16, w32}
 use mir.Val.{SFits, to_z, of_z}
-use borrow.Author.Rules.{rules}
 use Rattle.fixed.specs.Fixed.{wrap_i16, half_toward_zero}
 use Rattle.fixed.proofs.Machine.{signed, exact, got}
 use Rattle.dwt_lines.specs.Line.{half}

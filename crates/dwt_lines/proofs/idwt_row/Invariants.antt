@@ -1,15 +1,10 @@
 -- `dwt_lines::idwt_row` meets its contract. Assumes nothing.
-use mathlib.Core.Path.{◌≡◌, ◌∙◌}
+use mathlib.Core.Path.{◌≡◌}
 use mathlib.Core.List.{◌++◌}
 use Prim.Native.Nat.{◌+◌, ◌*◌, ◌-◌, ◌≤◌}
-use native.Mathlib.Omega.{arith}
 use lib.IntN.{pos}
-use lib.ListN.{length, get_or, take, drop, length-set}
-use mir.Syntax.{w16}
-use mir.Val.{to_z, of_z}
-use borrow.Author.Rules.{rules}
+use lib.ListN.{length, get_or, take, drop}
 use Rattle.dwt_lines.specs.Line.{from, line}
-use Rattle.dwt_lines.proofs.Lines.{line_start, line_turn, line_done}
 use Rattle.dwt_lines.proofs.idwt_row.Given as goal
 
 abbrev pub invariant-loop-j : goal.invariant-loop-j

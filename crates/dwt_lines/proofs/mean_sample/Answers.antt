@@ -1,7 +1,6 @@
 -- `dwt_lines::mean_sample` meets its contract. Assumes nothing.
 use mathlib.Core.Path.{◌∙◌, ap}
 use mir.Syntax.{w16}
-use borrow.Author.Rules.{rules}
 use Rattle.fixed.specs.Fixed.{wrap_i16}
 use Rattle.fixed.proofs.Machine.{signed, exact, got}
 use Rattle.dwt_lines.specs.Line.{mean}

@@ -2,7 +2,6 @@
 use mathlib.Core.Path.{◌≡◌, refl, ◌∙◌, ap}
 use lib.IntN.{ℤ, pos, ◌+ℤ◌, ◌*ℤ◌}
 use mir.Syntax.{w16}
-use borrow.Author.Rules.{rules}
 use Rattle.fixed.specs.Fixed.{wrap_i16, half_toward_zero}
 use Rattle.fixed.proofs.Machine.{signed, exact, got}
 use Rattle.dwt_lines.specs.Line.{odd}

@@ -1,10 +1,8 @@
 -- `fixed::distance` meets its contract. Assumes nothing.
 use mathlib.Core.Path.{◌≡◌, ◌∙◌, ap, sym}
-use mathlib.Core.Bool.{Bool}
-use lib.IntN.{ℤ, pos, nat_abs, ◌-ℤ◌}
+use lib.IntN.{pos, nat_abs, ◌-ℤ◌}
 use mir.Syntax.{w16, w32}
 use mir.Facts.{to_z-of_z}
-use borrow.Author.Rules.{rules}
 use Rattle.fixed.specs.Fixed.{is_negative}
 use Rattle.fixed.proofs.Machine.{got, to_unsigned}
 use Rattle.fixed.proofs.Sign.{abs_pos, apart_below, apart_small}

@@ -6,7 +6,6 @@ use lib.IntN.{pos, nat_abs}
 use lib.Signed.{nat_abs-le}
 use mir.Facts.{to_z-of_z}
 use mir.Syntax.{w16, w32}
-use borrow.Author.Rules.{rules}
 use Rattle.fixed.proofs.Machine.{got, to_unsigned}
 use Rattle.fixed.proofs.Sign.{abs_pos, abs_neg}
 use Rattle.fixed.proofs.magnitude.Goals as goal

@@ -6,7 +6,6 @@ use lib.IntN.{◌-ℤ◌}
 use mir.Facts.{to_z-of_z}
 use mir.Syntax.{w16}
 use mir.Val.{to_z, of_z}
-use borrow.Author.Rules.{rules}
 use Rattle.fixed.specs.Fixed.{floor_shift, round_shift}
 use Rattle.fixed.proofs.Bounds.{Under}
 use Rattle.fixed.proofs.Machine.{exact, fits_eq, known}

@@ -11,7 +11,6 @@ use Rattle.fixed.specs.Fixed.{clamp_i16}
 use Rattle.fixed.proofs.Bounds.{under_shr}
 use Rattle.fixed.proofs.Machine.{signed, exact, got, known, shl_eq}
 use Rattle.fixed.proofs.Shift.{top_under, left_is, left_far}
-use borrow.Author.Rules.{rules}
 use Rattle.fixed.proofs.shift_left_clamp.Goals as goal
 
 pub returns-then-shift-gt15 : goal.returns-then-shift-gt15

@@ -3,7 +3,6 @@ use mathlib.Core.Path.{◌∙◌}
 use native.Mathlib.Omega.{arith}
 use Rattle.fixed.proofs.Machine.{exact}
 use Rattle.fixed.proofs.Shift.{floor_far}
-use borrow.Author.Rules.{rules}
 use Rattle.fixed.proofs.shift_right_floor.Goals as goal
 
 pub returns-then-shift-gt15 : goal.returns-then-shift-gt15

@@ -3,7 +3,6 @@ use mathlib.Core.Path.{◌∙◌, ap}
 use mir.Syntax.{w16}
 use Rattle.fixed.specs.Fixed.{clamp_i16}
 use Rattle.fixed.proofs.Machine.{signed, exact, got}
-use borrow.Author.Rules.{rules}
 use Rattle.fixed.proofs.sub_clamp.Goals as goal
 
 pub returns : goal.returns

@@ -4,7 +4,6 @@ use mir.Syntax.{w16}
 use Rattle.fixed.specs.Fixed.{clamp_i16}
 use Rattle.fixed.proofs.Machine.{signed, exact, got}
 use Rattle.fixed.proofs.Sign.{with_minus, with_plus}
-use borrow.Author.Rules.{rules}
 use Rattle.fixed.proofs.with_sign.Goals as goal
 
 pub returns-then-negative : goal.returns-then-negative

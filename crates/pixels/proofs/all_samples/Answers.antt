@@ -1,5 +1,4 @@
 -- `pixels::all_samples` meets its contract. Assumes nothing.
-use borrow.Author.Rules.{rules}
 use Rattle.pixels.proofs.Sampled.{sampled}
 use Rattle.pixels.proofs.all_samples.Goals as goal
 

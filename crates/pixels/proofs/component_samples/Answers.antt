@@ -1,5 +1,4 @@
 -- `pixels::component_samples` meets its contract. Assumes nothing.
-use borrow.Author.Rules.{rules}
 use Rattle.pixels.proofs.Sampled.{transformed}
 use Rattle.pixels.proofs.component_samples.Goals as goal
 

@@ -2,11 +2,10 @@
 use mathlib.Core.Path.{◌≡◌, sym, ◌∙◌}
 use mathlib.Core.Bool.{true, false}
 use native.Mathlib.Omega.{arith}
-use borrow.Author.Tests.{le-leb, lt-leb, not-true, not-false}
+use borrow.Author.Tests.{le-leb, lt-leb}
 use lib.Dec.{leb}
 use lib.ListN.{length}
 use Rattle.bands.specs.Positions.{row_in_domain}
-use borrow.Author.Rules.{rules}
 use Rattle.pixels.proofs.Sampled.{Shown, shown}
 use Rattle.pixels.proofs.reconstruct_to_rgba.Goals as goal
 

@@ -4,7 +4,6 @@ use mathlib.Core.List.{◌++◌}
 use Prim.Native.Nat.{ℕ, ◌*◌}
 use native.Mathlib.Omega.{arith}
 use lib.ListN.{drop}
-use borrow.Author.Rules.{rules}
 use Rattle.planes.specs.Planes.{component}
 use Rattle.planes.proofs.Joined.{parts_long}
 use Rattle.color.specs.Color.{picture}

@@ -1,12 +1,11 @@
 -- `places::store_row` meets its contract. Assumes nothing.
 use mathlib.Core.Path.{◌≡◌, refl, ap, ◌∙◌}
 use mathlib.Core.List.{map}
-use Prim.Native.Nat.{ℕ, ◌+◌, ◌-◌, ◌*◌, ◌≤◌}
+use Prim.Native.Nat.{ℕ, ◌+◌, ◌*◌}
 use native.Mathlib.Omega.{arith}
-use lib.ListN.{length, drop, length-set}
+use lib.ListN.{drop, length-set}
 use lib.Seq.{paste, paste-zero}
 use Rattle.places.proofs.Table.{row_next}
-use borrow.Author.Rules.{rules}
 use Rattle.places.proofs.store_row.Goals as goal
 
 pub loop-k-init : goal.loop-k-init

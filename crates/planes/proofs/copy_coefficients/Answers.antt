@@ -1,9 +1,8 @@
 -- `planes::copy_coefficients` meets its contract. Assumes nothing.
-use Prim.Native.Nat.{◌-◌}
 use native.Mathlib.Omega.{arith}
 use lib.IntN.{pos}
 use borrow.Author.Rules.{rules}
-use Rattle.planes.proofs.Copies.{Copying, copy_starts, copy_next, copy_ends}
+use Rattle.planes.proofs.Copies.{copy_starts, copy_next, copy_ends}
 use Rattle.planes.proofs.copy_coefficients.Goals as goal
 
 pub loop-i-init : goal.loop-i-init

@@ -1,5 +1,4 @@
 -- `planes::load_coefficients` meets its contract. Assumes nothing.
-use borrow.Author.Rules.{rules}
 use Rattle.planes.proofs.Copies.{takes_three}
 use Rattle.planes.proofs.load_coefficients.Goals as goal
 

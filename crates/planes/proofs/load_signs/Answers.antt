@@ -1,5 +1,4 @@
 -- `planes::load_signs` meets its contract. Assumes nothing.
-use borrow.Author.Rules.{rules}
 use Rattle.planes.proofs.Copies.{takes_three}
 use Rattle.planes.proofs.load_signs.Goals as goal
 

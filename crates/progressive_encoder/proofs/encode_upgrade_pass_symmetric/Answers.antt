@@ -1,5 +1,4 @@
 -- `progressive_encoder::encode_upgrade_pass_symmetric` meets its contract. Assumes nothing.
-use borrow.Author.Rules.{rules}
 use Rattle.progressive_encoder.proofs.encode_upgrade_pass_symmetric.Goals as goal
 
 pub returns : goal.returns

@@ -2,14 +2,12 @@
 use mathlib.Core.Path.{◌≡◌, sym, ◌∙◌}
 use mathlib.Core.Bool.{true, false}
 use native.Mathlib.Omega.{arith}
-use borrow.Author.Tests.{not-true, not-false}
 use Rattle.srl_decoder.specs.Decode.{state_ok, due_among, opened}
 use Rattle.srl_rules.specs.Rules.{width_ok}
 use Rattle.srl_rules.proofs.Widths.{width_ok_width}
 use Rattle.srl_decoder.proofs.States.{state_ok_sound}
 use Rattle.srl_decoder.proofs.Due.{width_free}
 use Rattle.srl_decoder.proofs.Missing.{width_free_read}
-use borrow.Author.Rules.{rules}
 use Rattle.srl_decoder.proofs.decode.Goals as goal
 
 pub returns-then-not-state_ok : goal.returns-then-not-state_ok

@@ -4,14 +4,13 @@ use mathlib.Core.Bool.{true, cond}
 use Prim.Native.Nat.{◌≤◌}
 use native.Mathlib.Omega.{arith}
 use lib.ListN.{length}
-use borrow.Author.Tests.{not-true, not-false, ltb-false}
+use borrow.Author.Tests.{ltb-false}
 use Rattle.srl_rules.specs.Rules.{width_ok}
 use Rattle.srl_encoder.specs.Encode.{writer_ok, call_bytes}
 use Rattle.srl_encoder.proofs.EncodedCalls.{writer_ok_good, refusal_state, refusal_width, refusal_rest, refusal_room, refused, accepted}
 use Rattle.answer.specs.Refusals.{invalid_bit_count, output_too_short, impossible_state}
 use Rattle.answer.proofs.Numbers.{first_of_some}
 use Rattle.srl_rules.proofs.Widths.{width_ok_width}
-use borrow.Author.Rules.{rules}
 use Rattle.srl_encoder.proofs.encode.Goals as goal
 
 pub returns-then-not-writer_ok : goal.returns-then-not-writer_ok

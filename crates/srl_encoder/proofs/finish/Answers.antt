@@ -3,14 +3,13 @@ use mathlib.Core.Path.{◌≡◌, sym, ap, ◌∙◌}
 use mathlib.Core.Bool.{true, false, cond}
 use Prim.Native.Nat.{◌≤◌}
 use lib.ListN.{length}
-use borrow.Author.Tests.{not-true, not-false, lt-ltb, le-ltb}
+use borrow.Author.Tests.{lt-ltb, le-ltb}
 use Rattle.bits.proofs.Packed.{sets_start}
 use Rattle.srl_encoder.specs.declared.Finished.TheVariants.{Stream}
 use Rattle.answer.specs.Refusals.{output_too_short, impossible_state, unless, first_of, no_room, stored}
 use Rattle.srl_encoder.specs.Encode.{writer_ok}
 use Rattle.srl_encoder.specs.Finish.{finish_bytes, finish_refusal, finished}
 use Rattle.srl_encoder.proofs.EncodedCalls.{writer_ok_good}
-use borrow.Author.Rules.{rules}
 use Rattle.srl_encoder.proofs.finish.Goals as goal
 
 pub returns-then-not-writer_ok : goal.returns-then-not-writer_ok

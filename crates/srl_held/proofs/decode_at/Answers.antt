@@ -1,6 +1,5 @@
 -- `srl_held::decode_at` meets its contract: the answer is that of `srl_decoder::decode`, taken apart. Assumes nothing.
 use mathlib.Core.Path.{sym, ap, ◌∙◌}
-use borrow.Author.Rules.{rules}
 use Rattle.srl_held.specs.Inner.{parts}
 use Rattle.srl_held.proofs.decode_at.Goals as goal
 

@@ -4,8 +4,7 @@ use mathlib.Core.Bool.{true, cond}
 use Prim.Native.Nat.{◌≤◌}
 use native.Mathlib.Omega.{arith}
 use lib.ListN.{length}
-use borrow.Author.Tests.{not-true, not-false, ltb-false}
-use borrow.Author.Rules.{rules}
+use borrow.Author.Tests.{ltb-false}
 use Rattle.srl_rules.specs.Rules.{width_ok}
 use Rattle.srl_rules.proofs.Widths.{width_ok_width}
 use Rattle.srl_encoder.specs.Encode.{fault}

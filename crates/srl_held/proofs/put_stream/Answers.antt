@@ -1,7 +1,6 @@
 -- `srl_held::put_stream` meets its contract: the values and the end in a row. Assumes nothing.
 use mathlib.Core.Path.{◌≡◌, ap, ◌∙◌}
 use native.Mathlib.Omega.{arith}
-use borrow.Author.Rules.{rules}
 use Rattle.bits.proofs.Words.{word_of_sound}
 use Rattle.srl_encoder.specs.Encode.{fresh_writer, sink}
 use Rattle.srl_encoder.specs.Inner.{call_start}

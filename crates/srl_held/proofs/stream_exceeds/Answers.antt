@@ -5,7 +5,6 @@ use native.Mathlib.Omega.{arith}
 use lib.Dec.{ltb}
 use lib.ListN.{length}
 use borrow.Author.Tests.{ltb-false}
-use borrow.Author.Rules.{rules}
 use Rattle.srl_encoder.specs.Encode.{fresh_writer, call_bytes, call_after}
 use Rattle.srl_encoder.specs.Finish.{finish_bytes}
 use Rattle.srl_held.proofs.WholeStreams.{fresh_good, last_good, values_exceed, end_exceeds}

@@ -1,7 +1,6 @@
 -- `srl_rules::max_magnitude` meets its contract: the shift loses nothing, since 2^15 fits. Assumes nothing.
 use native.Mathlib.Omega.{arith}
 use lib.Pow.{pow_pos}
-use borrow.Author.Rules.{rules}
 use Rattle.bits.proofs.Powers.{shl_one}
 use Rattle.srl_rules.proofs.max_magnitude.Goals as goal
 

@@ -1,7 +1,6 @@
 -- `srl_rules::run_size` meets its contract: kp / 8 is at most 31. Assumes nothing.
 use Prim.Native.Nat.{◌/◌}
 use native.Mathlib.Omega.{arith}
-use borrow.Author.Rules.{rules}
 use Rattle.bits.proofs.Powers.{shl_one}
 use Rattle.srl_rules.proofs.run_size.Goals as goal
 

@@ -1,5 +1,4 @@
 -- `tarjimp::tarjimp_band_of_place` meets its contract. Assumes nothing.
-use borrow.Author.Rules.{rules}
 use Rattle.tarjimp.proofs.tarjimp_band_of_place.Goals as goal
 
 pub returns : goal.returns

@@ -1,5 +1,4 @@
 -- `tarjimp::tarjimp_bands_of_places` meets its contract. Assumes nothing.
-use borrow.Author.Rules.{rules}
 use Rattle.tarjimp.proofs.tarjimp_bands_of_places.Goals as goal
 
 pub returns : goal.returns

@@ -1,6 +1,5 @@
 -- `tarjimp::tarjimp_decode_upgrade_pass` meets its contract: that of `progressive::decode_upgrade_pass`, with the answer as a number. Assumes nothing.
 use mathlib.Core.Path.{ap, ◌∙◌}
-use borrow.Author.Rules.{rules}
 use Rattle.answer.proofs.Numbers.{by_number}
 use Rattle.progressive_decoder.specs.Upgrade.{decode_pass_refusal}
 use Rattle.tarjimp.specs.Calls.{missing_numbers}

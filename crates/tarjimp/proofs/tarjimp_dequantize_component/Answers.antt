@@ -1,5 +1,4 @@
 -- `tarjimp::tarjimp_dequantize_component` meets its contract: that of `progressive::dequantize_component_ccq`, with the answer as a number. Assumes nothing.
-use borrow.Author.Rules.{rules}
 use Rattle.answer.proofs.Numbers.{by_number}
 use Rattle.dequantizer.specs.Dequantize.{dequantize_refusal}
 use Rattle.tarjimp.proofs.tarjimp_dequantize_component.Goals as goal

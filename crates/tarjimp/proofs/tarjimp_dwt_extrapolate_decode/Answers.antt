@@ -1,5 +1,4 @@
 -- `tarjimp::tarjimp_dwt_extrapolate_decode` meets its contract: that of `dwt_extrapolate::decode`, with the answer as a number. Assumes nothing.
-use borrow.Author.Rules.{rules}
 use Rattle.answer.proofs.Numbers.{by_number}
 use Rattle.dwt_extrapolate.specs.Transform.{inverse_refusal}
 use Rattle.tarjimp.proofs.tarjimp_dwt_extrapolate_decode.Goals as goal

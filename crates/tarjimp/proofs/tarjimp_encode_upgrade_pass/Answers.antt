@@ -1,6 +1,5 @@
 -- `tarjimp::tarjimp_encode_upgrade_pass` meets its contract: that of `progressive::encode_upgrade_pass`, with the answer as numbers. Assumes nothing.
 use mathlib.Core.Path.{◌∙◌, ap}
-use borrow.Author.Rules.{rules}
 use Rattle.progressive_encoder.specs.Encode.{written_number}
 use Rattle.tarjimp.specs.Calls.{written_counts}
 use Rattle.tarjimp.proofs.tarjimp_encode_upgrade_pass.Goals as goal

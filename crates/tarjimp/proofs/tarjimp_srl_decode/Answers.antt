@@ -1,8 +1,6 @@
 -- `tarjimp::tarjimp_srl_decode` meets its contract: that of `srl_decoder::decode` where the numbers fit their fields. Assumes nothing.
 use mathlib.Core.Bool.{true, false}
 use mathlib.Core.Path.{◌≡◌, sym, ◌∙◌}
-use borrow.Author.Tests.{not-true, not-false}
-use borrow.Author.Rules.{rules}
 use Rattle.tarjimp.specs.States.{reader_fits}
 use Rattle.tarjimp.proofs.tarjimp_srl_decode.Goals as goal
 

@@ -1,8 +1,6 @@
 -- `tarjimp::tarjimp_srl_encode` meets its contract: that of `srl_encoder::encode` where the numbers fit their fields. Assumes nothing.
 use mathlib.Core.Bool.{true, false}
 use mathlib.Core.Path.{◌≡◌, sym, ◌∙◌}
-use borrow.Author.Tests.{not-true, not-false}
-use borrow.Author.Rules.{rules}
 use Rattle.tarjimp.specs.States.{writer_fits}
 use Rattle.tarjimp.proofs.tarjimp_srl_encode.Goals as goal
 

@@ -4,7 +4,6 @@ use mathlib.Core.List.{List}
 use mathlib.Core.Path.{◌≡◌, refl, sym, ap, ◌∙◌}
 use Prim.Native.Nat.{ℕ}
 use lib.IntN.{ℤ}
-use borrow.Author.Rules.{rules}
 use Rattle.answer.proofs.Numbers.{refused_some}
 use Rattle.planes.specs.Planes.{joined, three, of}
 use Rattle.components.specs.Components.{pass_coefficients, pass_signs}

@@ -1,8 +1,6 @@
 -- `tarjimp::tarjimp_tile_reconstruct_to_rgba` meets its contract: that of `TileState::reconstruct_to_rgba`, with the answer as a number. Assumes nothing.
 use mathlib.Core.Bool.{true, false}
 use mathlib.Core.Path.{◌≡◌, sym, ◌∙◌}
-use borrow.Author.Tests.{not-true, not-false}
-use borrow.Author.Rules.{rules}
 use Rattle.answer.proofs.Numbers.{by_number}
 use Rattle.pixels.specs.Pixels.{pixels_refusal}
 use Rattle.zero_signs.specs.ZeroSigns.{are_right}

@@ -1,6 +1,5 @@
 -- `tarjimp::tarjimp_ycbcr_to_rgb` meets its contract. Assumes nothing.
 use mir.Facts.{to_z-of_z}
-use borrow.Author.Rules.{rules}
 use Rattle.tarjimp.proofs.tarjimp_ycbcr_to_rgb.Goals as goal
 
 pub returns : goal.returns

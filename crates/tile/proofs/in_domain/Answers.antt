@@ -1,7 +1,5 @@
 -- `tile::in_domain` meets its contract. Assumes nothing.
 use mathlib.Core.Path.{sym, ◌∙◌}
-use borrow.Author.Tests.{not-true, not-false}
-use borrow.Author.Rules.{rules}
 use Rattle.tile.proofs.in_domain.Goals as goal
 
 pub returns-then-not-rows_in_domain : goal.returns-then-not-rows_in_domain

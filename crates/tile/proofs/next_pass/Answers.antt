@@ -1,6 +1,5 @@
 -- `tile::next_pass` meets its contract. Assumes nothing.
 use native.Mathlib.Omega.{arith}
-use borrow.Author.Rules.{rules}
 use Rattle.tile.proofs.next_pass.Goals as goal
 
 pub returns-then-pass-lt65535 : goal.returns-then-pass-lt65535

@@ -1,6 +1,5 @@
 -- `tile::upgrade_in_place` meets its contract. Assumes nothing.
 use mathlib.Core.Path.{ap, ◌∙◌}
-use borrow.Author.Rules.{rules}
 use Rattle.zero_signs.specs.ZeroSigns.{zero_signs_of}
 use Rattle.tile.proofs.upgrade_in_place.Goals as goal
 

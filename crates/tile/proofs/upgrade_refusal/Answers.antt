@@ -1,8 +1,6 @@
 -- `tile::upgrade_refusal` meets its contract. Assumes nothing.
 use mathlib.Core.Bool.{true, false, ◌&&◌}
 use mathlib.Core.Path.{◌≡◌, sym, ◌∙◌}
-use borrow.Author.Tests.{not-true, not-false}
-use borrow.Author.Rules.{rules}
 use Rattle.bands.specs.Positions.{row_in_domain, rows_in_domain}
 use Rattle.zero_signs.specs.ZeroSigns.{are_right}
 use Rattle.tile.proofs.upgrade_refusal.Goals as goal

@@ -1,7 +1,6 @@
 -- `upgrade_steps::band_step` meets its contract. Assumes nothing.
 use mathlib.Core.Path.{ap}
 use Prim.Native.Nat.{ℕ}
-use borrow.Author.Rules.{rules}
 use Rattle.bands.specs.Bands.{is_bottom_band}
 use Rattle.upgrade_steps.proofs.band_step.Goals as goal
 

@@ -3,7 +3,6 @@ use mathlib.Core.Path.{sym, ap, ◌∙◌}
 use mathlib.Core.Bool.{false, cond}
 use Rattle.fixed.specs.Fixed.{is_zero}
 use Rattle.fixed.proofs.Machine.{exact}
-use borrow.Author.Rules.{rules}
 use Rattle.upgrade_steps.proofs.from_srl.Goals as goal
 
 pub returns-then-t : goal.returns-then-t

@@ -3,7 +3,6 @@ use mathlib.Core.Path.{◌≡◌, ap, ◌∙◌}
 use mathlib.Core.List.{List}
 use Prim.Native.Nat.{ℕ}
 use lib.ListN.{get_or}
-use borrow.Author.Rules.{rules}
 use Rattle.upgrade_steps.specs.Steps.{step_at, step_of}
 use Rattle.upgrade_steps.specs.Inner.{band_step}
 use Rattle.upgrade_steps.proofs.Stretches.{same_step}

@@ -1,6 +1,5 @@
 -- `zero_signs::are_right` meets its contract. Assumes nothing.
 use mathlib.Core.Path.{ap, ◌∙◌}
-use borrow.Author.Rules.{rules}
 use Rattle.bands.specs.Tables.{are_same}
 use Rattle.zero_signs.proofs.are_right.Goals as goal
 

@@ -1,5 +1,4 @@
 -- `zero_signs::count` meets its contract. Assumes nothing.
-use borrow.Author.Rules.{rules}
 use Rattle.zero_signs.proofs.count.Goals as goal
 
 pub returns : goal.returns

@@ -1,5 +1,4 @@
 -- `zero_signs::count_components` meets its contract. Assumes nothing.
-use borrow.Author.Rules.{rules}
 use Rattle.zero_signs.proofs.Counted.{three_rows}
 use Rattle.zero_signs.proofs.count_components.Goals as goal
 

@@ -1,13 +1,8 @@
 -- `zero_signs::same` meets its contract. Assumes nothing.
-use mathlib.Core.Path.{◌≡◌, sym, ap₂, ◌∙◌}
-use mathlib.Core.Bool.{true, false}
+use mathlib.Core.Path.{◌≡◌}
 use Prim.Native.Nat.{◌-◌, ◌≤◌}
-use native.Mathlib.Omega.{arith}
-use lib.ListN.{length, drop, drop_of_length-le}
-use borrow.Author.Tests.{eq-eqb, ne_eqb}
-use borrow.Author.Rules.{rules}
+use lib.ListN.{length, drop}
 use Rattle.bands.specs.Tables.{are_same}
-use Rattle.zero_signs.proofs.Counted.{same_next}
 use Rattle.zero_signs.proofs.same.Given as goal
 
 -- what is left decides

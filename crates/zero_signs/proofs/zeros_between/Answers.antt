@@ -1,8 +1,7 @@
 -- `zero_signs::zeros_between` meets its contract. Assumes nothing.
-use Prim.Native.Nat.{◌+◌, ◌-◌}
+use Prim.Native.Nat.{◌+◌}
 use native.Mathlib.Omega.{arith}
-use borrow.Author.Rules.{rules}
-use Rattle.zero_signs.proofs.Counted.{zeros_parts, Counting, count_starts}
+use Rattle.zero_signs.proofs.Counted.{zeros_parts, count_starts}
 use Rattle.zero_signs.proofs.zeros_between.Goals as goal
 
 pub loop-i-init : goal.loop-i-init

@@ -1,8 +1,6 @@
 -- `zero_signs::zeros_between` meets its contract. Assumes nothing.
-use Prim.Native.Nat.{◌+◌, ◌-◌}
-use native.Mathlib.Omega.{arith}
-use borrow.Author.Rules.{rules}
-use Rattle.zero_signs.proofs.Counted.{zeros_parts, Counting, count_starts}
+use Prim.Native.Nat.{◌-◌}
+use Rattle.zero_signs.proofs.Counted.{Counting}
 use Rattle.zero_signs.proofs.zeros_between.Given as goal
 
 abbrev pub invariant-loop-i : goal.invariant-loop-i

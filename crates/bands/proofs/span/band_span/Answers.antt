@@ -2,7 +2,6 @@
 use mathlib.Core.Path.{◌≡◌, ap}
 use Prim.Native.Nat.{◌+◌, ◌*◌, ◌≤◌}
 use native.Mathlib.Omega.{arith}
-use borrow.Author.Rules.{rules}
 use Rattle.bands.specs.Bands.{count_of, band_at}
 use Rattle.bands.specs.declared.BandInfo.{BandInfo}
 use Rattle.bands.proofs.Laid.{band_within}

@@ -1,7 +1,6 @@
 -- `bits::reader::ahead` meets its contract: the shift drops the bits before the place. Assumes nothing.
 use Prim.Native.Nat.{◌*◌}
 use Rattle.bits.proofs.Tops.{top_window}
-use borrow.Author.Rules.{rules}
 use Rattle.bits.proofs.reader.ahead.Goals as goal
 
 pub returns : goal.returns

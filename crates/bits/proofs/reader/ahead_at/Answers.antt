@@ -6,7 +6,6 @@ use Rattle.bits.specs.Bits.{bits_read}
 use Rattle.bits.specs.Inner.{Top}
 use Rattle.bits.specs.declared.reader.BitReader.{BitReader}
 use Rattle.bits.proofs.Places.{read_place}
-use borrow.Author.Rules.{rules}
 use Rattle.bits.proofs.reader.ahead_at.Goals as goal
 
 pub ahead-requires : goal.ahead-requires

@@ -1,6 +1,5 @@
 -- `bits::reader::byte_in` meets its contract: an element of the slice is a byte. Assumes nothing.
 use native.Mathlib.Omega.{arith}
-use borrow.Author.Rules.{rules}
 use Rattle.bits.proofs.reader.byte_in.Goals as goal
 
 pub returns : goal.returns

@@ -1,11 +1,9 @@
 -- `bits::reader::count_zeros` meets its contract: after each turn z bits are known to be zeros, and every turn but one that gives up began in the stream. Assumes nothing.
 use mathlib.Core.Path.{◌≡◌, refl, sym, ap, ◌∙◌}
-use Prim.Native.Nat.{ℕ, ◌+◌, ◌-◌, ◌*◌, ◌≤◌, ◌<◌, min}
+use Prim.Native.Nat.{ℕ, ◌+◌, ◌*◌, ◌≤◌, ◌<◌}
 use native.Mathlib.Omega.{arith}
-use borrow.Author.Rules.{rules}
 use lib.ListN.{length}
 use Rattle.bits.specs.Bits.{zeros, bits_read}
-use Rattle.bits.specs.Turns.{still_held, words_of}
 use Rattle.bits.specs.declared.reader.BitReader.{BitReader}
 use Rattle.bits.proofs.Ones.{zeros_end, zeros_stop, zeros_go, length_all, length_some}
 use Rattle.bits.proofs.Turns.{counts}

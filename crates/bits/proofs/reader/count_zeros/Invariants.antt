@@ -1,15 +1,8 @@
 -- `bits::reader::count_zeros` meets its contract: after each turn z bits are known to be zeros, and every turn but one that gives up began in the stream. Assumes nothing.
-use mathlib.Core.Path.{◌≡◌, refl, sym, ap, ◌∙◌}
-use Prim.Native.Nat.{ℕ, ◌+◌, ◌-◌, ◌*◌, ◌≤◌, ◌<◌, min}
-use native.Mathlib.Omega.{arith}
-use borrow.Author.Rules.{rules}
-use lib.ListN.{length}
+use mathlib.Core.Path.{◌≡◌}
+use Prim.Native.Nat.{◌-◌, ◌*◌, ◌≤◌, min}
 use Rattle.bits.specs.Bits.{zeros, bits_read}
 use Rattle.bits.specs.Turns.{still_held, words_of}
-use Rattle.bits.specs.declared.reader.BitReader.{BitReader}
-use Rattle.bits.proofs.Ones.{zeros_end, zeros_stop, zeros_go, length_all, length_some}
-use Rattle.bits.proofs.Turns.{counts}
-use Rattle.bits.proofs.Places.{read_place}
 use Rattle.bits.proofs.reader.count_zeros.Given as goal
 
 abbrev pub invariant-loop-z : goal.invariant-loop-z

@@ -1,7 +1,6 @@
 -- `bits::reader::eight_in` meets its contract: eight bytes in Horner form are 64 bits. Assumes nothing.
 use native.Mathlib.Omega.{arith}
 use Rattle.bits.proofs.Numbers.{num_eight}
-use borrow.Author.Rules.{rules}
 use Rattle.bits.proofs.reader.eight_in.Goals as goal
 
 pub returns : goal.returns

@@ -1,9 +1,8 @@
 -- `bits::reader::eight_or_zero` meets its contract: past the end all bits are 0, and each turn adds the 8 bits of a byte. Assumes nothing.
 use mathlib.Core.Path.{◌≡◌, sym, ap, ◌∙◌}
-use Prim.Native.Nat.{◌+◌, ◌-◌, ◌*◌, ◌≤◌, ◌<◌, ◌^◌}
+use Prim.Native.Nat.{◌+◌, ◌*◌, ◌<◌, ◌^◌}
 use native.Mathlib.Omega.{arith}
 use lib.Pow.{pow_mono}
-use borrow.Author.Rules.{rules}
 use Rattle.bits.specs.Bits.{num}
 use Rattle.bits.proofs.Numbers.{num_none, num_lt, num_past, num_byte}
 use Rattle.bits.proofs.reader.eight_or_zero.Goals as goal

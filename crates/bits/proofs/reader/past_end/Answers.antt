@@ -1,6 +1,5 @@
 -- `bits::reader::past_end` meets its contract. Assumes nothing.
 use native.Mathlib.Omega.{arith}
-use borrow.Author.Rules.{rules}
 use Rattle.bits.proofs.reader.past_end.Goals as goal
 
 -- in the stream

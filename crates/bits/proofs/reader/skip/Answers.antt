@@ -1,7 +1,6 @@
 -- `bits::reader::skip` meets its contract: the byte and the bit are those of the count. Assumes nothing.
 use native.Mathlib.Omega.{arith}
 use Rattle.bits.proofs.Places.{place_is}
-use borrow.Author.Rules.{rules}
 use Rattle.bits.proofs.reader.skip.Goals as goal
 
 pub returns : goal.returns

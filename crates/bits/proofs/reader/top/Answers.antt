@@ -3,7 +3,6 @@ use mathlib.Core.Path.{ap, ◌∙◌}
 use Prim.Native.Nat.{ℕ, ◌-◌, ◌/◌, ◌^◌}
 use native.Mathlib.Omega.{arith}
 use lib.Pow.{shr-shr}
-use borrow.Author.Rules.{rules}
 use Rattle.bits.proofs.reader.top.Goals as goal
 
 pub returns : goal.returns

@@ -2,7 +2,6 @@
 use mathlib.Core.Path.{◌∙◌}
 use native.Mathlib.Omega.{arith}
 use Rattle.bits.proofs.Tops.{top_zeros}
-use borrow.Author.Rules.{rules}
 use Rattle.bits.proofs.reader.zeros_ahead.Goals as goal
 
 pub returns : goal.returns

@@ -8,7 +8,6 @@ use Rattle.bits.specs.declared.reader.BitReader.{BitReader}
 use Rattle.bits.proofs.Ones.{zeros_min}
 use Rattle.bits.proofs.Tops.{top_skip, top_zeros}
 use Rattle.bits.proofs.Places.{read_place}
-use borrow.Author.Rules.{rules}
 use Rattle.bits.proofs.reader.zeros_behind_first.Goals as goal
 
 pub returns-then-z-part : goal.returns-then-z-part

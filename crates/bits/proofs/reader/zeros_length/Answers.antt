@@ -1,6 +1,5 @@
 -- `bits::reader::zeros_length` meets its contract: the test is that of the definition. Assumes nothing.
 use borrow.Author.Tests.{lt-ltb, le-ltb}
-use borrow.Author.Rules.{rules}
 use Rattle.bits.proofs.reader.zeros_length.Goals as goal
 
 pub returns-then-z-limit : goal.returns-then-z-limit

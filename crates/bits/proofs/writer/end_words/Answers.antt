@@ -1,7 +1,6 @@
 -- `bits::writer::end_words` meets its contract. Assumes nothing.
 use mathlib.Core.Path.{ap, ◌∙◌}
 use native.Mathlib.Omega.{arith}
-use borrow.Author.Rules.{rules}
 use Rattle.bits.specs.Inner.{pad_count, pad_out}
 use Rattle.bits.proofs.Words.{settled_at, settled_sound}
 use Rattle.bits.proofs.writer.end_words.Goals as goal

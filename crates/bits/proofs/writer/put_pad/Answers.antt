@@ -5,7 +5,6 @@ use native.Mathlib.Omega.{arith}
 use lib.ListN.{set}
 use lib.Pow.{shl_exact}
 use borrow.Author.Tests.{eq-eqb, ne_eqb}
-use borrow.Author.Rules.{rules}
 use Rattle.bits.proofs.writer.put_pad.Goals as goal
 
 pub returns-then-k-eq0 : goal.returns-then-k-eq0

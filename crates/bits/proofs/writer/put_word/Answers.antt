@@ -5,7 +5,6 @@ use Prim.Native.Nat.{◌+◌, ◌-◌, ◌*◌, ◌^◌, ◌%◌, ◌<◌}
 use native.Mathlib.Nat.{mod-lt, lt_of_lt_of_le}
 use native.Mathlib.Omega.{arith}
 use lib.Pow.{shl_exact, pow_pos, pow_mono}
-use borrow.Author.Rules.{rules}
 use Rattle.bits.specs.Written.{bits_of}
 use Rattle.bits.specs.Inner.{waiting}
 use Rattle.bits.proofs.Powers.{joined_small}

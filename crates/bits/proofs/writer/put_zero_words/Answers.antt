@@ -2,13 +2,11 @@
 use mathlib.Core.Path.{◌≡◌, refl, sym, ap, ◌∙◌}
 use mathlib.Core.Bool.{false}
 use mathlib.Core.List.{◌++◌}
-use Prim.Native.Nat.{◌+◌, ◌-◌, ◌^◌, ◌≤◌, ◌<◌}
+use Prim.Native.Nat.{◌+◌, ◌-◌, ◌^◌, ◌<◌}
 use native.Mathlib.Omega.{arith}
-use lib.ListN.{length, replicate, length-replicate}
+use lib.ListN.{replicate, length-replicate}
 use lib.Pow.{pow_pos}
-use borrow.Author.Rules.{rules}
 use Rattle.bits.specs.Written.{bits_of}
-use Rattle.bits.specs.Inner.{WroteWords}
 use Rattle.bits.proofs.Puts.{bits_zero, zeros_two}
 use Rattle.bits.proofs.Words.{words_none, words_then, words_renamed}
 use Rattle.bits.proofs.writer.put_zero_words.Goals as goal

@@ -1,16 +1,9 @@
 -- `bits::writer::put_zero_words` meets its contract. The invariant: what the turns so far wrote is so many zeros. Assumes nothing.
-use mathlib.Core.Path.{◌≡◌, refl, sym, ap, ◌∙◌}
+use mathlib.Core.Path.{◌≡◌}
 use mathlib.Core.Bool.{false}
-use mathlib.Core.List.{◌++◌}
-use Prim.Native.Nat.{◌+◌, ◌-◌, ◌^◌, ◌≤◌, ◌<◌}
-use native.Mathlib.Omega.{arith}
-use lib.ListN.{length, replicate, length-replicate}
-use lib.Pow.{pow_pos}
-use borrow.Author.Rules.{rules}
-use Rattle.bits.specs.Written.{bits_of}
+use Prim.Native.Nat.{◌-◌, ◌≤◌}
+use lib.ListN.{length, replicate}
 use Rattle.bits.specs.Inner.{WroteWords}
-use Rattle.bits.proofs.Puts.{bits_zero, zeros_two}
-use Rattle.bits.proofs.Words.{words_none, words_then, words_renamed}
 use Rattle.bits.proofs.writer.put_zero_words.Given as goal
 
 abbrev pub invariant-loop-left : goal.invariant-loop-left

@@ -1,7 +1,6 @@
 -- `bits::writer::store` meets its contract: past the end `set` changes nothing. Assumes nothing.
 use mathlib.Core.Path.{sym}
 use lib.Seq.{set_out}
-use borrow.Author.Rules.{rules}
 use Rattle.bits.proofs.writer.store.Goals as goal
 
 pub returns-else-at-out : goal.returns-else-at-out

@@ -1,9 +1,8 @@
 -- `bits::writer::store_bytes` meets its contract. The invariant: all bits are written as those that are left are from here. Assumes nothing.
-use mathlib.Core.Path.{◌≡◌, refl, sym, ap, ◌∙◌}
-use Prim.Native.Nat.{◌+◌, ◌-◌, ◌*◌, ◌≤◌}
+use mathlib.Core.Path.{refl, sym, ap, ◌∙◌}
+use Prim.Native.Nat.{◌+◌, ◌-◌}
 use native.Mathlib.Omega.{arith}
 use lib.ListN.{length, set, length-set}
-use borrow.Author.Rules.{rules}
 use Rattle.bits.specs.Written.{bits_of, writer}
 use Rattle.bits.specs.Inner.{write}
 use Rattle.bits.proofs.Puts.{waits, byte_then}

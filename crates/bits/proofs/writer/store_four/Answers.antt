@@ -3,7 +3,6 @@ use mathlib.Core.Path.{refl}
 use Prim.Native.Nat.{◌+◌}
 use native.Mathlib.Omega.{arith}
 use lib.ListN.{set, length-set}
-use borrow.Author.Rules.{rules}
 use Rattle.bits.proofs.writer.store_four.Goals as goal
 
 pub bounds-out-at-2 : goal.bounds-out-at-2

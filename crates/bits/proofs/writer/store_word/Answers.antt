@@ -1,6 +1,5 @@
 -- `bits::writer::store_word` meets its contract. Assumes nothing.
 use mathlib.Core.Path.{◌∙◌}
-use borrow.Author.Rules.{rules}
 use Rattle.bits.proofs.Words.{word_stored_lem}
 use Rattle.bits.proofs.writer.store_word.Goals as goal
 

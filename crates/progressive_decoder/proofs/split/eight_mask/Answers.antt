@@ -4,7 +4,6 @@ use native.Mathlib.Omega.{arith}
 use lib.IntN.{pos}
 use Rattle.fixed.specs.Fixed.{is_zero}
 use Rattle.places.proofs.Ones.{mask_not, mask_add}
-use borrow.Author.Rules.{rules}
 use Rattle.progressive_decoder.proofs.split.eight_mask.Goals as goal
 
 pub overflow_mul-result : goal.overflow_mul-result

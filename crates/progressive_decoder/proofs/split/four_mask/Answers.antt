@@ -1,6 +1,5 @@
 -- `progressive_decoder::split::four_mask` meets its contract. Assumes nothing.
 use Rattle.progressive_decoder.proofs.Places.{mask_four}
-use borrow.Author.Rules.{rules}
 use Rattle.progressive_decoder.proofs.split.four_mask.Goals as goal
 
 pub returns : goal.returns

@@ -1,13 +1,10 @@
 -- `progressive_decoder::split::split` meets its contract: eight places a turn, and then what is left. Assumes nothing.
 use mathlib.Core.Path.{◌≡◌, refl, ◌∙◌}
 use mathlib.Core.Bool.{Bool, true, false, cond}
-use Prim.Native.Nat.{ℕ, ◌+◌, ◌-◌, ◌≤◌}
+use Prim.Native.Nat.{ℕ, ◌+◌, ◌≤◌}
 use native.Mathlib.Omega.{arith}
-use lib.ListN.{length}
 use Rattle.upgrade_steps.specs.Inner.{band_step}
-use Rattle.progressive_decoder.specs.Inner.{Split}
 use Rattle.progressive_decoder.proofs.Places.{split_none}
-use borrow.Author.Rules.{rules}
 use Rattle.progressive_decoder.proofs.split.split.Goals as goal
 
 -- eights are taken where the band is not the bottom

@@ -1,7 +1,6 @@
 -- `progressive_decoder::split::split_eight` meets its contract. Assumes nothing.
 use native.Mathlib.Omega.{arith}
 use Rattle.progressive_decoder.proofs.Places.{split_eight_lem}
-use borrow.Author.Rules.{rules}
 use Rattle.progressive_decoder.proofs.split.split_eight.Goals as goal
 
 pub put_ones-requires-2 : goal.put_ones-requires-2

@@ -1,12 +1,11 @@
 -- `progressive_decoder::split::split_places` meets its contract: a place is stored in both lists, and counts in one. Assumes nothing.
 use mathlib.Core.Path.{◌≡◌, refl, ◌∙◌, subst}
-use Prim.Native.Nat.{ℕ, ◌+◌, ◌-◌, ◌≤◌}
+use Prim.Native.Nat.{ℕ, ◌+◌, ◌-◌}
 use native.Mathlib.Omega.{arith}
-use lib.ListN.{length, set, length-set}
+use lib.ListN.{set, length-set}
 use Rattle.upgrade_steps.specs.Inner.{band_step}
 use Rattle.progressive_decoder.specs.Inner.{Split}
 use Rattle.progressive_decoder.proofs.Places.{split_next}
-use borrow.Author.Rules.{rules}
 use Rattle.progressive_decoder.proofs.split.split_places.Goals as goal
 
 pub loop-i-init : goal.loop-i-init

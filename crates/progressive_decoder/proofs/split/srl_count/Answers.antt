@@ -4,7 +4,6 @@ use mathlib.Core.Bool.{Bool, false, cond}
 use lib.IntN.{pos}
 use lib.ListN.{get_or}
 use Rattle.fixed.specs.Fixed.{is_zero}
-use borrow.Author.Rules.{rules}
 use Rattle.progressive_decoder.proofs.split.srl_count.Goals as goal
 
 pub returns-then-t : goal.returns-then-t

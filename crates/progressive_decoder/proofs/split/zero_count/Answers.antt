@@ -7,7 +7,6 @@ use lib.ListN.{get_or}
 use mir.Syntax.{w8}
 use mir.ValLaws.{to_z-of_z}
 use Rattle.fixed.specs.Fixed.{is_zero}
-use borrow.Author.Rules.{rules}
 use Rattle.progressive_decoder.proofs.split.zero_count.Goals as goal
 
 pub returns-then-is_zero_sign : goal.returns-then-is_zero_sign

@@ -5,7 +5,6 @@ use mir.Syntax.{w8}
 use mir.Val.{to_z, of_z}
 use mir.Facts.{to_z-of_z}
 use Rattle.fixed.specs.Fixed.{is_one}
-use borrow.Author.Rules.{rules}
 use Rattle.progressive_decoder.proofs.upgrade.adds_raw.Goals as goal
 
 pub returns : goal.returns

@@ -7,7 +7,6 @@ use Rattle.bits.specs.Bits.{bits_read}
 use Rattle.bits.specs.declared.reader.BitReader.{BitReader}
 use Rattle.bits.proofs.Places.{read_place}
 use Rattle.progressive_decoder.specs.Upgrade.{missing_bits}
-use borrow.Author.Rules.{rules}
 use Rattle.progressive_decoder.proofs.upgrade.missing_by.Goals as goal
 
 pub past_end-raw-requires : goal.past_end-raw-requires

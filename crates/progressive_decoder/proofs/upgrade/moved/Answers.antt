@@ -4,7 +4,6 @@ use mir.Syntax.{w16}
 use Rattle.fixed.specs.Fixed.{add_scaled, sub_scaled}
 use Rattle.fixed.proofs.Machine.{exact, got}
 use Rattle.progressive_decoder.specs.Upgrade.{raw_coefficient}
-use borrow.Author.Rules.{rules}
 use Rattle.progressive_decoder.proofs.upgrade.moved.Goals as goal
 
 pub returns-then-adds : goal.returns-then-adds

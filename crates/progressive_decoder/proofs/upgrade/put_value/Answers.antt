@@ -7,7 +7,6 @@ use mir.Syntax.{w8, w16}
 use mir.ValLaws.{to_z-of_z}
 use Rattle.fixed.proofs.Machine.{got}
 use Rattle.progressive_decoder.specs.Upgrade.{raw_coefficient}
-use borrow.Author.Rules.{rules}
 use Rattle.progressive_decoder.proofs.upgrade.put_value.Goals as goal
 
 pub returns : goal.returns

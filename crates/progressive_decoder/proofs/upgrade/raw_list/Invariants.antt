@@ -1,26 +1,13 @@
 -- `progressive_decoder::upgrade::raw_list` meets its contract: the places up to j are behind, and the word holds the next bits. Assumes nothing.
-use mathlib.Core.Path.{◌≡◌, refl, sym, ap, ◌∙◌}
+use mathlib.Core.Path.{◌≡◌}
 use mathlib.Core.List.{List}
-use Prim.Native.Nat.{ℕ, ◌+◌, ◌-◌, ◌*◌, ◌≤◌, ◌<◌}
-use native.Mathlib.Omega.{arith}
-use lib.IntN.{ℤ, pos}
-use lib.ListN.{length, get_or, set, take, drop, length-set}
-use mir.Syntax.{w8, w16}
-use mir.Val.{to_z, of_z}
-use mir.ValLaws.{to_z-of_z}
-use Rattle.fixed.proofs.Machine.{got}
-use Rattle.bits.specs.Bits.{num}
+use Prim.Native.Nat.{ℕ, ◌+◌, ◌-◌, ◌*◌, ◌≤◌}
+use lib.ListN.{length, take, drop}
 use Rattle.bits.specs.Inner.{Top}
-use Rattle.bits.proofs.Numbers.{num_lt, num_none}
-use Rattle.bits.proofs.Tops.{top_take, top_skip}
 use Rattle.srl_decoder.specs.Srl.{Reader}
-use Rattle.srl_rules.proofs.Widths.{pow_high}
 use Rattle.upgrade_steps.specs.Steps.{raw}
 use Rattle.upgrade_steps.specs.Inner.{band_step}
-use Rattle.progressive_decoder.specs.Upgrade.{adds, raw_coefficient}
 use Rattle.progressive_decoder.specs.Inner.{walked, over}
-use Rattle.progressive_decoder.proofs.Listed.{turn_raw, turn_end}
-use borrow.Author.Rules.{rules}
 use Rattle.progressive_decoder.proofs.upgrade.raw_list.Given as goal
 
 abbrev pub invariant-loop-j : goal.invariant-loop-j

@@ -1,11 +1,10 @@
 -- `progressive_decoder::upgrade::srl_list` meets its contract: a turn reads code words and a nonzero value behind them, and what is left of the list stays the same. Assumes nothing.
 use mathlib.Core.Path.{◌≡◌, refl, sym, ap, ◌∙◌}
 use mathlib.Core.Bool.{false, not}
-use mathlib.Core.List.{List}
 use Prim.Native.Nat.{ℕ, ◌+◌, ◌-◌, ◌*◌, ◌%◌, ◌≤◌, ◌<◌}
 use native.Mathlib.Omega.{arith}
 use lib.IntN.{pos}
-use lib.ListN.{length, get_or, set, take}
+use lib.ListN.{get_or, set, take}
 use Rattle.bits.specs.Bits.{bit_at, zeros, bits_read}
 use Rattle.bits.specs.declared.reader.BitReader.{BitReader}
 use Rattle.bits.proofs.Places.{read_place}
@@ -19,7 +18,6 @@ use Rattle.progressive_decoder.specs.Upgrade.{srl_coefficient, srl_sign, raw_coe
 use Rattle.progressive_decoder.specs.Inner.{walked, over, sign_by}
 use Rattle.progressive_decoder.proofs.Steps.{moved_by, sign_by_lem}
 use Rattle.progressive_decoder.proofs.Listed.{left, turn_start, turn_codes, turn_value, turn_end}
-use borrow.Author.Rules.{rules}
 use Rattle.progressive_decoder.proofs.upgrade.srl_list.Goals as goal
 
 pub loop-j-init : goal.loop-j-init

@@ -1,25 +1,13 @@
 -- `progressive_decoder::upgrade::srl_list` meets its contract: a turn reads code words and a nonzero value behind them, and what is left of the list stays the same. Assumes nothing.
-use mathlib.Core.Path.{◌≡◌, refl, sym, ap, ◌∙◌}
-use mathlib.Core.Bool.{false, not}
+use mathlib.Core.Path.{◌≡◌}
 use mathlib.Core.List.{List}
-use Prim.Native.Nat.{ℕ, ◌+◌, ◌-◌, ◌*◌, ◌%◌, ◌≤◌, ◌<◌}
-use native.Mathlib.Omega.{arith}
-use lib.IntN.{pos}
-use lib.ListN.{length, get_or, set, take}
-use Rattle.bits.specs.Bits.{bit_at, zeros, bits_read}
-use Rattle.bits.specs.declared.reader.BitReader.{BitReader}
-use Rattle.bits.proofs.Places.{read_place}
-use Rattle.bits.proofs.Tops.{front_skip}
-use Rattle.srl_decoder.specs.Srl.{reader, most_zeros, nonzero}
-use Rattle.srl_decoder.specs.Inner.{Brought}
-use Rattle.srl_decoder.proofs.Chains.{zeros_brought}
+use Prim.Native.Nat.{ℕ, ◌+◌, ◌-◌, ◌*◌, ◌≤◌}
+use lib.ListN.{length, take}
+use Rattle.srl_decoder.specs.Srl.{reader}
 use Rattle.upgrade_steps.specs.Steps.{srl}
 use Rattle.upgrade_steps.specs.Inner.{band_step}
-use Rattle.progressive_decoder.specs.Upgrade.{srl_coefficient, srl_sign, raw_coefficient}
-use Rattle.progressive_decoder.specs.Inner.{walked, over, sign_by}
-use Rattle.progressive_decoder.proofs.Steps.{moved_by, sign_by_lem}
-use Rattle.progressive_decoder.proofs.Listed.{left, turn_start, turn_codes, turn_value, turn_end}
-use borrow.Author.Rules.{rules}
+use Rattle.progressive_decoder.specs.Inner.{walked, over}
+use Rattle.progressive_decoder.proofs.Listed.{left}
 use Rattle.progressive_decoder.proofs.upgrade.srl_list.Given as goal
 
 abbrev pub invariant-loop-j : goal.invariant-loop-j

@@ -8,7 +8,6 @@ use Rattle.srl_decoder.specs.Srl.{Reader, start, reader_after}
 use Rattle.upgrade_steps.specs.Steps.{steps, srl_widths}
 use Rattle.progressive_decoder.specs.Upgrade.{missing_bits}
 use Rattle.progressive_decoder.proofs.Missing.{srl_missing_lem, raw_missing_lem, srl_far, raw_far}
-use borrow.Author.Rules.{rules}
 use Rattle.progressive_decoder.proofs.upgrade.upgrade_all.Goals as goal
 
 pub missing_by-requires : goal.missing_by-requires

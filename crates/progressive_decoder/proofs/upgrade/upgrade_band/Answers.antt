@@ -13,7 +13,6 @@ use Rattle.progressive_decoder.specs.Inner.{Walked, walked, walk, over, walked_b
 use Rattle.progressive_decoder.proofs.Listed.{Near, walk_listed, walk_near}
 use Rattle.progressive_decoder.proofs.Walks.{walk_skipped, early_on}
 use Rattle.progressive_decoder.proofs.Places.{split_whole, list_within}
-use borrow.Author.Rules.{rules}
 use Rattle.progressive_decoder.proofs.upgrade.upgrade_band.Goals as goal
 
 pub returns-then-t-eq0 : goal.returns-then-t-eq0

@@ -4,7 +4,7 @@ use mathlib.Core.List.{List}
 use Prim.Native.Nat.{ℕ, ◌+◌, ◌-◌, ◌*◌, ◌≤◌}
 use native.Mathlib.Omega.{arith}
 use borrow.Rule.Slice.PartMut.{mid_of, mid_len}
-use lib.ListN.{length, get_or, take, replicate}
+use lib.ListN.{length, get_or, replicate}
 use lib.Seq.{take_all}
 use Rattle.bits.specs.Bits.{bits_read}
 use Rattle.bands.proofs.Spread.{place_whole, one_of_ten}

@@ -1,22 +1,10 @@
 -- `progressive_decoder::upgrade::upgrade_bands` meets its contract: when a turn begins, both slices and both readers are those of a walk over the first i places. Assumes nothing.
-use mathlib.Core.Path.{◌≡◌, refl, sym, ap, ◌∙◌, subst}
-use mathlib.Core.List.{List}
-use Prim.Native.Nat.{ℕ, ◌+◌, ◌-◌, ◌*◌, ◌≤◌}
-use native.Mathlib.Omega.{arith}
-use borrow.Rule.Slice.PartMut.{mid_of, mid_len}
-use lib.ListN.{length, get_or, take, replicate}
-use lib.Seq.{take_all}
-use Rattle.bits.specs.Bits.{bits_read}
-use Rattle.bands.proofs.Spread.{place_whole, one_of_ten}
+use mathlib.Core.Path.{◌≡◌}
+use Prim.Native.Nat.{◌-◌, ◌*◌, ◌≤◌}
+use lib.ListN.{length, take}
 use Rattle.srl_decoder.specs.Srl.{start}
-use Rattle.srl_decoder.specs.Decode.{opened}
-use Rattle.srl_decoder.specs.declared.SrlState.{SrlState}
-use Rattle.upgrade_steps.specs.Steps.{step_of, steps}
-use Rattle.upgrade_steps.specs.Inner.{band_step, SameStep}
-use Rattle.progressive_decoder.specs.Inner.{Walked, walk, walked_by, Early}
-use Rattle.progressive_decoder.proofs.Bandwise.{band_turn}
-use Rattle.progressive_decoder.proofs.Walks.{walk_coefficients, walk_signs, walk_reader, walk_count}
-use borrow.Author.Rules.{rules}
+use Rattle.upgrade_steps.specs.Steps.{steps}
+use Rattle.progressive_decoder.specs.Inner.{walk, walked_by, Early}
 use Rattle.progressive_decoder.proofs.upgrade.upgrade_bands.Given as goal
 
 abbrev pub invariant-loop-i : goal.invariant-loop-i

@@ -6,7 +6,6 @@ use Rattle.bits.specs.Bits.{bit_at, zeros, bits_read}
 use Rattle.bits.specs.declared.reader.BitReader.{BitReader}
 use Rattle.bits.proofs.Places.{read_place}
 use Rattle.srl_decoder.specs.Srl.{most_zeros, behind}
-use borrow.Author.Rules.{rules}
 use Rattle.progressive_decoder.proofs.upgrade.value_behind.Goals as goal
 
 pub decode_nonzero-requires : goal.decode_nonzero-requires

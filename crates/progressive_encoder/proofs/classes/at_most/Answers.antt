@@ -1,5 +1,4 @@
 -- `progressive_encoder::classes::at_most` meets its contract. Assumes nothing.
-use borrow.Author.Rules.{rules}
 use Rattle.progressive_encoder.proofs.Classed.{eight_or}
 use Rattle.progressive_encoder.proofs.classes.at_most.Goals as goal
 

@@ -1,9 +1,8 @@
 -- `progressive_encoder::classes::class_of` meets its contract. Assumes nothing.
-use mathlib.Core.Path.{◌≡◌, ap, ◌∙◌}
+use mathlib.Core.Path.{ap, ◌∙◌}
 use mathlib.Core.Bool.{cond}
 use mir.Syntax.{w8, w16}
 use mir.ValLaws.{to_z-of_z}
-use borrow.Author.Rules.{rules}
 use Rattle.fixed.specs.Fixed.{is_zero}
 use Rattle.upgrade_steps.specs.Inner.{band_step, from_srl}
 use Rattle.progressive_encoder.specs.Inner.{rule_of}

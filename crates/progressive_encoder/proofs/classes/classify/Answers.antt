@@ -1,9 +1,8 @@
 -- `progressive_encoder::classes::classify` meets its contract: after each turn the places so far have their classes. Assumes nothing.
-use mathlib.Core.Path.{◌≡◌, sym, ap, ◌∙◌}
-use Prim.Native.Nat.{ℕ, ◌-◌, ◌≤◌, ◌<◌}
+use mathlib.Core.Path.{◌≡◌, ◌∙◌}
 use native.Mathlib.Omega.{arith}
 use lib.IntN.{pos}
-use lib.ListN.{length, get_or, length-set}
+use lib.ListN.{get_or, length-set}
 use mir.Syntax.{w8, w16}
 use mir.ValLaws.{to_z-of_z}
 use borrow.Author.Rules.{rules}

@@ -1,15 +1,10 @@
 -- `progressive_encoder::classes::classify` meets its contract: after each turn the places so far have their classes. Assumes nothing.
-use mathlib.Core.Path.{◌≡◌, sym, ap, ◌∙◌}
+use mathlib.Core.Path.{◌≡◌}
 use Prim.Native.Nat.{ℕ, ◌-◌, ◌≤◌, ◌<◌}
-use native.Mathlib.Omega.{arith}
 use lib.IntN.{pos}
-use lib.ListN.{length, get_or, length-set}
-use mir.Syntax.{w8, w16}
-use mir.ValLaws.{to_z-of_z}
-use borrow.Author.Rules.{rules}
+use lib.ListN.{length, get_or}
 use Rattle.upgrade_steps.specs.Inner.{band_step}
 use Rattle.progressive_encoder.specs.Inner.{rule_of, class_of}
-use Rattle.progressive_encoder.proofs.Classed.{fills_next}
 use Rattle.progressive_encoder.proofs.classes.classify.Given as goal
 
 abbrev pub invariant-loop-i : goal.invariant-loop-i

@@ -2,7 +2,6 @@
 use mathlib.Core.Path.{◌≡◌}
 use Prim.Native.Nat.{◌+◌, ◌≤◌}
 use native.Mathlib.Omega.{arith}
-use borrow.Author.Rules.{rules}
 use Rattle.progressive_encoder.specs.Inner.{sum_from}
 use Rattle.progressive_encoder.proofs.Classed.{sum_eight, sum_few}
 use Rattle.progressive_encoder.proofs.classes.zeros_of_eight.Goals as goal

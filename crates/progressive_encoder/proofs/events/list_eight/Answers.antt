@@ -1,6 +1,5 @@
 -- `progressive_encoder::events::list_eight` meets its contract: either the zeros of the eight places are counted, or they are listed one by one. Assumes nothing.
 use native.Mathlib.Omega.{arith}
-use borrow.Author.Rules.{rules}
 use Rattle.upgrade_steps.specs.Inner.{band_step}
 use Rattle.progressive_encoder.specs.Inner.{rule_of}
 use Rattle.progressive_encoder.proofs.ListedEvents.{lists_quiet}

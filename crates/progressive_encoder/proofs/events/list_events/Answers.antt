@@ -1,11 +1,10 @@
 -- `progressive_encoder::events::list_events` meets its contract: after each turn the places so far are listed, eight at a time. Assumes nothing.
-use mathlib.Core.Path.{◌≡◌, refl, ◌∙◌}
-use Prim.Native.Nat.{◌+◌, ◌-◌, ◌≤◌}
+use mathlib.Core.Path.{refl, ◌∙◌}
+use Prim.Native.Nat.{◌+◌}
 use native.Mathlib.Omega.{arith}
 use lib.ListN.{length}
-use borrow.Author.Rules.{rules}
 use Rattle.upgrade_steps.specs.Inner.{band_step}
-use Rattle.progressive_encoder.specs.Inner.{rule_of, listed_of, listed_by, TakesEvents}
+use Rattle.progressive_encoder.specs.Inner.{rule_of, listed_of, listed_by}
 use Rattle.progressive_encoder.proofs.ListedEvents.{lists_none, lists_then}
 use Rattle.progressive_encoder.proofs.events.list_events.Goals as goal
 

@@ -1,15 +1,12 @@
 -- `progressive_encoder::events::list_place` meets its contract: the place is counted by its class, or its value is listed. Assumes nothing.
 use mathlib.Core.Path.{◌≡◌, sym, ap, ◌∙◌}
-use mathlib.Core.Bool.{Bool}
-use Prim.Native.Nat.{ℕ, ◌+◌, ◌≤◌, ◌<◌}
 use native.Mathlib.Omega.{arith}
-use lib.IntN.{ℤ, nat_abs}
+use lib.IntN.{nat_abs}
 use mir.Syntax.{w16}
 use mir.ValLaws.{to_z-of_z}
-use borrow.Author.Rules.{rules}
 use Rattle.fixed.specs.Fixed.{with_sign}
 use Rattle.upgrade_steps.specs.Inner.{band_step}
-use Rattle.progressive_encoder.specs.Inner.{rule_of, class_of}
+use Rattle.progressive_encoder.specs.Inner.{rule_of}
 use Rattle.progressive_encoder.proofs.ListedEvents.{place_quiet, place_event, class_two}
 use Rattle.progressive_encoder.proofs.events.list_place.Goals as goal
 

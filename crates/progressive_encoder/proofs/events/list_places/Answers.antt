@@ -1,12 +1,11 @@
 -- `progressive_encoder::events::list_places` meets its contract: after each turn the places so far are listed. Assumes nothing.
 use mathlib.Core.Path.{◌≡◌, refl, subst, ◌∙◌}
-use Prim.Native.Nat.{◌+◌, ◌-◌, ◌≤◌}
+use Prim.Native.Nat.{◌+◌}
 use native.Mathlib.Omega.{arith}
 use lib.IntN.{pos}
-use lib.ListN.{length, get_or}
+use lib.ListN.{get_or}
 use mir.Syntax.{w16}
 use mir.ValLaws.{to_z-of_z}
-use borrow.Author.Rules.{rules}
 use Rattle.upgrade_steps.specs.Inner.{band_step}
 use Rattle.progressive_encoder.specs.Inner.{rule_of, listed_of, listed_by, TakesEvents}
 use Rattle.progressive_encoder.proofs.ListedEvents.{read_place, lists_none, lists_one, lists_then}

@@ -1,7 +1,6 @@
 -- `progressive_encoder::look::look_band` meets its contract: a skipped band gives nothing, and of another both lists are made. Assumes nothing.
 use native.Mathlib.Omega.{arith}
 use lib.ListN.{length}
-use borrow.Author.Rules.{rules}
 use Rattle.upgrade_steps.specs.Inner.{band_step}
 use Rattle.progressive_encoder.specs.Inner.{rule_of, band_lists, listed_of, looked_by, Looks, FewFound}
 use Rattle.progressive_encoder.proofs.Placewise.{band_skip}

@@ -1,15 +1,9 @@
 -- `progressive_encoder::look::look_bands` meets its contract: at each turn the places before the band that is next are looked at. Assumes nothing.
-use mathlib.Core.Path.{◌≡◌, refl, ◌∙◌}
+use mathlib.Core.Path.{◌≡◌}
 use Prim.Native.Nat.{◌-◌, ◌≤◌}
-use native.Mathlib.Omega.{arith}
 use lib.ListN.{length}
-use Rattle.bands.proofs.Spread.{one_of_ten}
-use Rattle.upgrade_steps.specs.Steps.{steps}
-use Rattle.upgrade_steps.specs.Inner.{band_step, SameStep}
-use Rattle.progressive_encoder.specs.Inner.{rule_of, pass_lists, looked_by, nothing_found, Looks, FewFound}
-use Rattle.progressive_encoder.proofs.Placewise.{WentTo, walk_begins, next_part, next_room, walk_on, walk_ends}
-use Rattle.progressive_encoder.proofs.BothLists.{looks_placewise, none_found, found_all}
-use borrow.Author.Rules.{rules}
+use Rattle.progressive_encoder.specs.Inner.{rule_of, looked_by, nothing_found, Looks, FewFound}
+use Rattle.progressive_encoder.proofs.Placewise.{WentTo}
 use Rattle.progressive_encoder.proofs.look.look_bands.Given as goal
 
 abbrev pub invariant-loop-i : goal.invariant-loop-i

@@ -1,5 +1,5 @@
 -- `progressive_encoder::measure::measure_event` meets its contract. Assumes nothing.
-use mathlib.Core.Path.{◌≡◌, refl, ap, sym, ◌∙◌}
+use mathlib.Core.Path.{refl, ap, ◌∙◌}
 use mathlib.Core.Bool.{Bool, true, ◌||◌}
 use Prim.Native.Nat.{◌+◌, ◌-◌, ◌^◌, ◌≤◌}
 use native.Mathlib.Omega.{arith}
@@ -7,9 +7,8 @@ use lib.Dec.{ltb}
 use lib.ListN.{length}
 use Rattle.srl_encoder.specs.Inner.{plan_bits}
 use Rattle.srl_encoder.proofs.Nonzeros.{sign_length, planned_le}
-use Rattle.progressive_encoder.specs.Inner.{event_magnitude, event_negative, event_width, event_zeros}
+use Rattle.progressive_encoder.specs.Inner.{event_negative}
 use Rattle.progressive_encoder.proofs.StreamLengths.{event_planned, planned_kp}
-use borrow.Author.Rules.{rules}
 use Rattle.progressive_encoder.proofs.measure.measure_event.Goals as goal
 
 pub max_magnitude-most-requires : goal.max_magnitude-most-requires

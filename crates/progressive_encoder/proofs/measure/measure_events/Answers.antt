@@ -1,13 +1,11 @@
 -- `progressive_encoder::measure::measure_events` meets its contract: after each turn the events so far are measured. Assumes nothing.
 use mathlib.Core.Path.{◌≡◌, subst}
-use Prim.Native.Nat.{◌+◌, ◌-◌, ◌≤◌}
 use native.Mathlib.Omega.{arith}
-use lib.ListN.{length, get_or, take}
+use lib.ListN.{get_or, take}
 use lib.Seq.{length-take-le}
 use Rattle.progressive_encoder.specs.Inner.{Event, MeasuresEvents}
 use Rattle.progressive_encoder.proofs.Held.{each_at}
 use Rattle.progressive_encoder.proofs.StreamLengths.{measured_none, measured_more}
-use borrow.Author.Rules.{rules}
 use Rattle.progressive_encoder.proofs.measure.measure_events.Goals as goal
 
 pub loop-j-init : goal.loop-j-init

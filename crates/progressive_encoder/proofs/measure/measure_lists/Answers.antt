@@ -1,13 +1,12 @@
 -- `progressive_encoder::measure::measure_lists` meets its contract. Assumes nothing.
-use mathlib.Core.Path.{◌≡◌, refl, ap, sym, ◌∙◌}
-use Prim.Native.Nat.{◌+◌, ◌/◌, ◌≤◌}
+use mathlib.Core.Path.{refl, ap, sym, ◌∙◌}
+use Prim.Native.Nat.{◌+◌, ◌/◌}
 use native.Mathlib.Omega.{arith}
-use lib.ListN.{length, take}
+use lib.ListN.{length}
 use lib.Seq.{length-take-le}
 use Rattle.srl_encoder.specs.Finish.{flush}
 use Rattle.progressive_encoder.specs.Inner.{looked_by, srl_length}
 use Rattle.progressive_encoder.proofs.StreamLengths.{srl_length_is, raw_length_is}
-use borrow.Author.Rules.{rules}
 use Rattle.progressive_encoder.proofs.measure.measure_lists.Goals as goal
 
 pub measure_events-measured-requires : goal.measure_events-measured-requires

@@ -1,11 +1,10 @@
 -- `progressive_encoder::measure::number_bits` meets its contract: after each turn the numbers so far are measured. Assumes nothing.
 use mathlib.Core.Path.{◌≡◌, refl, ap, sym, ◌∙◌}
-use Prim.Native.Nat.{◌+◌, ◌-◌, ◌*◌, ◌≤◌}
+use Prim.Native.Nat.{◌+◌}
 use native.Mathlib.Omega.{arith}
 use lib.ListN.{length, take}
 use Rattle.progressive_encoder.specs.Inner.{number_bits}
 use Rattle.progressive_encoder.proofs.StreamLengths.{number_length}
-use borrow.Author.Rules.{rules}
 use Rattle.progressive_encoder.proofs.measure.number_bits.Goals as goal
 
 pub loop-j-init : goal.loop-j-init

@@ -1,11 +1,8 @@
 -- `progressive_encoder::measure::number_bits` meets its contract: after each turn the numbers so far are measured. Assumes nothing.
-use mathlib.Core.Path.{◌≡◌, refl, ap, sym, ◌∙◌}
-use Prim.Native.Nat.{◌+◌, ◌-◌, ◌*◌, ◌≤◌}
-use native.Mathlib.Omega.{arith}
+use mathlib.Core.Path.{◌≡◌}
+use Prim.Native.Nat.{◌-◌, ◌*◌, ◌≤◌}
 use lib.ListN.{length, take}
 use Rattle.progressive_encoder.specs.Inner.{number_bits}
-use Rattle.progressive_encoder.proofs.StreamLengths.{number_length}
-use borrow.Author.Rules.{rules}
 use Rattle.progressive_encoder.proofs.measure.number_bits.Given as goal
 
 abbrev pub invariant-loop-j : goal.invariant-loop-j

@@ -1,10 +1,7 @@
 -- `progressive_encoder::measure::srl_length` meets its contract. Assumes nothing.
-use mathlib.Core.Path.{◌≡◌, ap, sym, ◌∙◌}
-use mathlib.Core.List.{List}
+use mathlib.Core.Path.{◌≡◌, ap, ◌∙◌}
 use Prim.Native.Nat.{ℕ, zero, suc, ◌+◌, ◌/◌, ◌≤◌}
 use native.Mathlib.Omega.{arith}
-use lib.ListN.{length}
-use Rattle.srl_encoder.specs.Finish.{flush}
 use Rattle.srl_encoder.proofs.Runs.{length_flush}
 use Rattle.progressive_encoder.specs.Inner.{srl_length}
 use borrow.Author.Rules.{rules}

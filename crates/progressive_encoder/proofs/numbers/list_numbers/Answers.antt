@@ -1,5 +1,4 @@
 -- `progressive_encoder::numbers::list_numbers` meets its contract. Assumes nothing.
-use borrow.Author.Rules.{rules}
 use Rattle.upgrade_steps.specs.Inner.{band_step}
 use Rattle.progressive_encoder.specs.Inner.{rule_of, words_of}
 use Rattle.progressive_encoder.proofs.ListedNumbers.{takes_band}

@@ -1,16 +1,9 @@
 -- `progressive_encoder::numbers::number_places` meets its contract: after each turn the places so far have their numbers. Assumes nothing.
-use mathlib.Core.Path.{◌≡◌, ap, ◌∙◌}
+use mathlib.Core.Path.{◌≡◌}
 use Prim.Native.Nat.{ℕ, ◌-◌, ◌%◌, ◌^◌, ◌≤◌, ◌<◌}
-use native.Mathlib.Omega.{arith}
 use lib.IntN.{pos}
-use lib.ListN.{length, get_or, length-set}
-use mir.Syntax.{w16}
-use mir.ValLaws.{to_z-of_z}
-use borrow.Author.Rules.{rules}
-use Rattle.progressive_encoder.specs.Encode.{cut_number}
+use lib.ListN.{length, get_or}
 use Rattle.progressive_encoder.specs.Inner.{rule_of}
-use Rattle.progressive_encoder.proofs.Rules.{number_rule}
-use Rattle.progressive_encoder.proofs.Classed.{fills_next}
 use Rattle.progressive_encoder.proofs.numbers.number_places.Given as goal
 
 abbrev pub invariant-loop-i : goal.invariant-loop-i

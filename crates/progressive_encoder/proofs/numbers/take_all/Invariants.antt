@@ -1,12 +1,9 @@
 -- `progressive_encoder::numbers::take_all` meets its contract: after each turn the places so far are listed, eight at a time. Assumes nothing.
-use mathlib.Core.Path.{◌≡◌, refl, ◌∙◌}
-use Prim.Native.Nat.{◌+◌, ◌-◌, ◌≤◌}
-use native.Mathlib.Omega.{arith}
+use mathlib.Core.Path.{◌≡◌}
+use Prim.Native.Nat.{◌-◌, ◌≤◌}
 use lib.ListN.{length}
-use borrow.Author.Rules.{rules}
 use Rattle.upgrade_steps.specs.Inner.{band_step}
 use Rattle.progressive_encoder.specs.Inner.{words_of, TakesNumbers}
-use Rattle.progressive_encoder.proofs.ListedNumbers.{takes_none, takes_then}
 use Rattle.progressive_encoder.proofs.numbers.take_all.Given as goal
 
 abbrev pub invariant-loop-i : goal.invariant-loop-i

@@ -1,6 +1,5 @@
 -- `progressive_encoder::numbers::take_eight` meets its contract: either no place of the eight gives a number, or they are listed one by one. Assumes nothing.
 use native.Mathlib.Omega.{arith}
-use borrow.Author.Rules.{rules}
 use Rattle.upgrade_steps.specs.Inner.{band_step}
 use Rattle.progressive_encoder.specs.Inner.{words_of}
 use Rattle.progressive_encoder.proofs.ListedNumbers.{takes_zeros}

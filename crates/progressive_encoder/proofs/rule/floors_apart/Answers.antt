@@ -4,7 +4,6 @@ use lib.IntN.{ℤ, nat_abs, ◌-ℤ◌}
 use mir.Val.{to_z, of_z}
 use mir.Syntax.{w16}
 use mir.ValLaws.{to_z-of_z}
-use borrow.Author.Rules.{rules}
 use Rattle.fixed.specs.Fixed.{floor_shift, is_negative}
 use Rattle.fixed.proofs.Machine.{got}
 use Rattle.progressive_encoder.proofs.Rules.{below_none, above_abs}

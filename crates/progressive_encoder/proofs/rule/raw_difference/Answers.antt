@@ -5,7 +5,6 @@ use native.Mathlib.Omega.{arith}
 use lib.IntN.{nat_abs}
 use mir.Syntax.{w16}
 use mir.ValLaws.{to_z-of_z}
-use borrow.Author.Rules.{rules}
 use Rattle.progressive_encoder.specs.Encode.{raw_difference}
 use Rattle.progressive_encoder.proofs.rule.raw_difference.Goals as goal
 

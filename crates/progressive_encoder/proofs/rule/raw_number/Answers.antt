@@ -3,7 +3,6 @@ use mathlib.Core.Path.{ap, sym, ◌∙◌}
 use mathlib.Core.Bool.{Bool}
 use mir.Syntax.{w16}
 use mir.ValLaws.{to_z-of_z}
-use borrow.Author.Rules.{rules}
 use Rattle.progressive_encoder.specs.Encode.{raw_difference, floors_apart, cut_number}
 use Rattle.progressive_encoder.proofs.rule.raw_number.Goals as goal
 

@@ -4,7 +4,6 @@ use lib.IntN.{◌-ℤ◌}
 use mir.Val.{to_z, of_z}
 use mir.Syntax.{w16}
 use mir.ValLaws.{to_z-of_z}
-use borrow.Author.Rules.{rules}
 use Rattle.fixed.specs.Fixed.{clamp_i16, floor_shift}
 use Rattle.fixed.proofs.Machine.{got}
 use Rattle.progressive_encoder.proofs.rule.srl_difference.Goals as goal

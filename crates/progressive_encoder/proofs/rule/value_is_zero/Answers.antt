@@ -8,7 +8,6 @@ use mir.Val.{to_z, of_z}
 use mir.Syntax.{w16}
 use mir.ValLaws.{to_z-of_z}
 use borrow.Author.Tests.{eqb-true, eqb-false}
-use borrow.Author.Rules.{rules}
 use Rattle.fixed.specs.Fixed.{floor_shift, is_zero, is_negative}
 use Rattle.fixed.proofs.Machine.{got}
 use Rattle.progressive_encoder.specs.Encode.{srl_difference, cut_difference}

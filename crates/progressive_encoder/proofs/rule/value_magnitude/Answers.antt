@@ -5,7 +5,6 @@ use Prim.Native.Nat.{◌/◌, ◌^◌}
 use lib.IntN.{nat_abs, ◌-ℤ◌}
 use mir.Syntax.{w16}
 use mir.ValLaws.{to_z-of_z}
-use borrow.Author.Rules.{rules}
 use Rattle.fixed.specs.Fixed.{is_negative}
 use Rattle.fixed.proofs.Machine.{got}
 use Rattle.progressive_encoder.specs.Encode.{srl_difference}

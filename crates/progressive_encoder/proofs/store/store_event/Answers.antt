@@ -3,7 +3,6 @@ use mathlib.Core.Path.{refl, ◌∙◌}
 use native.Mathlib.Omega.{arith}
 use Rattle.bits.proofs.Words.{words_renamed}
 use Rattle.progressive_encoder.proofs.StreamLengths.{event_planned, planned_kp}
-use borrow.Author.Rules.{rules}
 use Rattle.progressive_encoder.proofs.store.store_event.Goals as goal
 
 pub put_planned-sink-requires : goal.put_planned-sink-requires

@@ -1,15 +1,14 @@
 -- `progressive_encoder::store::store_events` meets its contract: after each turn the events so far are stored. Assumes nothing.
-use mathlib.Core.Path.{◌≡◌, refl, subst, sym, ◌∙◌}
-use Prim.Native.Nat.{◌+◌, ◌-◌, ◌^◌, ◌≤◌, ◌<◌}
+use mathlib.Core.Path.{◌≡◌, refl, subst, ◌∙◌}
+use Prim.Native.Nat.{◌+◌, ◌^◌, ◌<◌}
 use native.Mathlib.Omega.{arith}
-use lib.ListN.{length, get_or, take}
+use lib.ListN.{get_or, take}
 use lib.Seq.{length-take-le}
 use Rattle.srl_encoder.specs.Inner.{call_of}
 use Rattle.srl_encoder.specs.declared.encoder.CallState.{CallState}
 use Rattle.progressive_encoder.specs.Inner.{Event, StoresEvent, StoresEvents}
 use Rattle.progressive_encoder.proofs.Held.{each_at}
 use Rattle.progressive_encoder.proofs.StoredStreams.{events_none, events_more, words_near}
-use borrow.Author.Rules.{rules}
 use Rattle.progressive_encoder.proofs.store.store_events.Goals as goal
 
 pub loop-j-init : goal.loop-j-init

@@ -5,7 +5,6 @@ use lib.ListN.{length}
 use lib.Seq.{sets}
 use Rattle.bits.specs.Written.{pack}
 use Rattle.progressive_encoder.specs.declared.Written.TheVariants.{Bytes}
-use borrow.Author.Rules.{rules}
 use Rattle.progressive_encoder.proofs.store.store_lists.Goals as goal
 
 pub store_srl-n-requires : goal.store_srl-n-requires

@@ -1,14 +1,11 @@
 -- `progressive_encoder::store::store_raw` meets its contract: after each turn the numbers so far are stored. Assumes nothing.
-use mathlib.Core.Path.{◌≡◌, refl, subst, sym, ◌∙◌}
-use Prim.Native.Nat.{◌+◌, ◌-◌, ◌*◌, ◌^◌, ◌≤◌, ◌<◌}
+use mathlib.Core.Path.{◌≡◌, refl, subst, ◌∙◌}
 use native.Mathlib.Omega.{arith}
-use lib.ListN.{length, get_or, take}
-use Rattle.bits.specs.Inner.{WroteWords}
-use Rattle.progressive_encoder.specs.Inner.{number_bits, NumberWord, StoresRaw, fresh_sink}
+use lib.ListN.{get_or, take}
+use Rattle.progressive_encoder.specs.Inner.{number_bits, NumberWord, StoresRaw}
 use Rattle.progressive_encoder.proofs.Held.{each_at}
 use Rattle.progressive_encoder.proofs.StreamLengths.{number_length}
 use Rattle.progressive_encoder.proofs.StoredStreams.{numbers_none, numbers_more, words_near, raw_stored}
-use borrow.Author.Rules.{rules}
 use Rattle.progressive_encoder.proofs.store.store_raw.Goals as goal
 
 pub loop-j-init : goal.loop-j-init

@@ -1,14 +1,9 @@
 -- `progressive_encoder::store::store_raw` meets its contract: after each turn the numbers so far are stored. Assumes nothing.
-use mathlib.Core.Path.{◌≡◌, refl, subst, sym, ◌∙◌}
-use Prim.Native.Nat.{◌+◌, ◌-◌, ◌*◌, ◌^◌, ◌≤◌, ◌<◌}
-use native.Mathlib.Omega.{arith}
-use lib.ListN.{length, get_or, take}
+use mathlib.Core.Path.{◌≡◌}
+use Prim.Native.Nat.{◌-◌, ◌*◌, ◌≤◌}
+use lib.ListN.{length, take}
 use Rattle.bits.specs.Inner.{WroteWords}
-use Rattle.progressive_encoder.specs.Inner.{number_bits, NumberWord, StoresRaw, fresh_sink}
-use Rattle.progressive_encoder.proofs.Held.{each_at}
-use Rattle.progressive_encoder.proofs.StreamLengths.{number_length}
-use Rattle.progressive_encoder.proofs.StoredStreams.{numbers_none, numbers_more, words_near, raw_stored}
-use borrow.Author.Rules.{rules}
+use Rattle.progressive_encoder.specs.Inner.{number_bits, fresh_sink}
 use Rattle.progressive_encoder.proofs.store.store_raw.Given as goal
 
 abbrev pub invariant-loop-j : goal.invariant-loop-j

@@ -4,7 +4,6 @@ use native.Mathlib.Omega.{arith}
 use lib.Seq.{length-take-le}
 use Rattle.progressive_encoder.specs.Inner.{looked_by}
 use Rattle.progressive_encoder.proofs.StoredStreams.{words_near, srl_none, srl_stored}
-use borrow.Author.Rules.{rules}
 use Rattle.progressive_encoder.proofs.store.store_srl.Goals as goal
 
 pub returns-then-found-eq0 : goal.returns-then-found-eq0

@@ -2,7 +2,6 @@
 use native.Mathlib.Omega.{arith}
 use Rattle.upgrade_steps.specs.Steps.{steps}
 use Rattle.progressive_encoder.specs.Inner.{rule_of, pass_lists}
-use borrow.Author.Rules.{rules}
 use Rattle.progressive_encoder.proofs.writer.measure_pass.Goals as goal
 
 pub look_bands-found-requires : goal.look_bands-found-requires

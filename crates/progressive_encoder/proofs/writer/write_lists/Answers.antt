@@ -9,7 +9,6 @@ use lib.ListN.{length}
 use Rattle.answer.specs.Refusals.{magnitude_out_of_range, output_too_short, first_of}
 use Rattle.progressive_encoder.specs.Encode.{srl_stream, raw_stream}
 use Rattle.progressive_encoder.proofs.BothStreams.{refusal_is, refused, accepted}
-use borrow.Author.Rules.{rules}
 use Rattle.progressive_encoder.proofs.writer.write_lists.Goals as goal
 
 -- no room for the raw stream, whatever the other has

@@ -1,21 +1,20 @@
 -- `srl_decoder::decoder::any_due` meets its contract: after each turn the dry run from the start is the turns so far and the dry run of the values left. Assumes nothing.
 use mathlib.Core.Path.{◌≡◌, sym, ap, ◌∙◌}
 use mathlib.Core.Bool.{true}
-use Prim.Native.Nat.{ℕ, suc, ◌+◌, ◌-◌, ◌*◌, ◌≤◌, ◌<◌}
+use Prim.Native.Nat.{suc, ◌+◌, ◌-◌, ◌<◌}
 use native.Mathlib.Nat.{zero-add}
 use native.Mathlib.Omega.{arith}
 use lib.ListN.{length}
-use borrow.Author.Rules.{rules}
 use Rattle.bits.specs.Bits.{bits_read}
 use Rattle.bits.proofs.Places.{read_place}
-use Rattle.srl_decoder.specs.Srl.{Reader, reader, code_word}
+use Rattle.srl_decoder.specs.Srl.{Reader, code_word}
 use Rattle.srl_decoder.specs.Decode.{opened}
 use Rattle.srl_decoder.specs.Turns.{turned, dry_run}
 use Rattle.srl_decoder.specs.declared.SrlState.{SrlState}
 use Rattle.srl_decoder.specs.declared.decoder.DryRun.{DryRun}
 use Rattle.srl_decoder.proofs.Codes.{code_near, code_moves}
 use Rattle.srl_decoder.proofs.Values.{opened_shut}
-use Rattle.srl_decoder.proofs.Turns.{found, dry_due, dry_few, dry_spent, dry_step, dry_stop}
+use Rattle.srl_decoder.proofs.Turns.{dry_due, dry_few, dry_spent, dry_step, dry_stop}
 use Rattle.srl_decoder.proofs.decoder.any_due.Goals as goal
 use Rattle.srl_decoder.proofs.decoder.any_due.Invariants.{after}
 

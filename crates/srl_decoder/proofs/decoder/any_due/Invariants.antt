@@ -1,21 +1,11 @@
 -- `srl_decoder::decoder::any_due` meets its contract: after each turn the dry run from the start is the turns so far and the dry run of the values left. Assumes nothing.
-use mathlib.Core.Path.{◌≡◌, sym, ap, ◌∙◌}
-use mathlib.Core.Bool.{true}
-use Prim.Native.Nat.{ℕ, suc, ◌+◌, ◌-◌, ◌*◌, ◌≤◌, ◌<◌}
-use native.Mathlib.Nat.{zero-add}
-use native.Mathlib.Omega.{arith}
+use mathlib.Core.Path.{◌≡◌}
+use Prim.Native.Nat.{ℕ, ◌+◌, ◌-◌, ◌*◌, ◌≤◌}
 use lib.ListN.{length}
-use borrow.Author.Rules.{rules}
 use Rattle.bits.specs.Bits.{bits_read}
-use Rattle.bits.proofs.Places.{read_place}
-use Rattle.srl_decoder.specs.Srl.{Reader, reader, code_word}
 use Rattle.srl_decoder.specs.Decode.{opened}
-use Rattle.srl_decoder.specs.Turns.{turned, dry_run}
-use Rattle.srl_decoder.specs.declared.SrlState.{SrlState}
+use Rattle.srl_decoder.specs.Turns.{dry_run}
 use Rattle.srl_decoder.specs.declared.decoder.DryRun.{DryRun}
-use Rattle.srl_decoder.proofs.Codes.{code_near, code_moves}
-use Rattle.srl_decoder.proofs.Values.{opened_shut}
-use Rattle.srl_decoder.proofs.Turns.{found, dry_due, dry_few, dry_spent, dry_step, dry_stop}
 use Rattle.srl_decoder.proofs.decoder.any_due.Given as goal
 
 -- what a dry run finds after some turns

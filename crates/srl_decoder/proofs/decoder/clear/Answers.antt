@@ -1,13 +1,10 @@
 -- `srl_decoder::decoder::clear` meets its contract. Assumes nothing.
-use mathlib.Core.Path.{◌≡◌, refl, ◌∙◌}
-use Prim.Native.Nat.{◌-◌, ◌≤◌}
+use mathlib.Core.Path.{refl, ◌∙◌}
 use native.Mathlib.Omega.{arith}
 use lib.IntN.{pos}
-use lib.ListN.{length, drop, length-set}
+use lib.ListN.{length-set}
 use lib.Seq.{drop-set-lt}
-use Rattle.srl_decoder.specs.Inner.{Clear}
 use Rattle.srl_decoder.proofs.Filled.{clear_next}
-use borrow.Author.Rules.{rules}
 use Rattle.srl_decoder.proofs.decoder.clear.Goals as goal
 
 pub loop-i-init : goal.loop-i-init

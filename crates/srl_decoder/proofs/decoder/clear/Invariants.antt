@@ -1,13 +1,8 @@
 -- `srl_decoder::decoder::clear` meets its contract. Assumes nothing.
-use mathlib.Core.Path.{◌≡◌, refl, ◌∙◌}
+use mathlib.Core.Path.{◌≡◌}
 use Prim.Native.Nat.{◌-◌, ◌≤◌}
-use native.Mathlib.Omega.{arith}
-use lib.IntN.{pos}
-use lib.ListN.{length, drop, length-set}
-use lib.Seq.{drop-set-lt}
+use lib.ListN.{length, drop}
 use Rattle.srl_decoder.specs.Inner.{Clear}
-use Rattle.srl_decoder.proofs.Filled.{clear_next}
-use borrow.Author.Rules.{rules}
 use Rattle.srl_decoder.proofs.decoder.clear.Given as goal
 
 abbrev pub invariant-loop-i : goal.invariant-loop-i

@@ -4,7 +4,6 @@ use Prim.Native.Nat.{◌-◌}
 use native.Mathlib.Omega.{arith}
 use Rattle.bits.specs.Bits.{bits_read}
 use Rattle.srl_decoder.specs.Inner.{shut}
-use borrow.Author.Rules.{rules}
 use Rattle.srl_decoder.proofs.decoder.code_word.Goals as goal
 
 pub returns : goal.returns

@@ -12,7 +12,6 @@ use Rattle.bits.proofs.Tops.{top_skip, top_take, top_one}
 use Rattle.srl_decoder.specs.Srl.{reader}
 use Rattle.srl_decoder.specs.Inner.{Same}
 use Rattle.srl_decoder.proofs.Chains.{brought, brought_is, below_small, same_chain, one_code}
-use borrow.Author.Rules.{rules}
 use Rattle.srl_decoder.proofs.decoder.code_words.Goals as goal
 
 pub returns-then-c-gt20 : goal.returns-then-c-gt20

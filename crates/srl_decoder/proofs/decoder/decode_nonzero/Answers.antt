@@ -9,7 +9,6 @@ use Rattle.bits.proofs.Tops.{first_bit}
 use Rattle.srl_decoder.specs.Srl.{most_zeros}
 use Rattle.srl_rules.proofs.Widths.{pow_low, pow_high}
 use Rattle.srl_decoder.proofs.Codes.{few_zeros_lem, behind_near}
-use borrow.Author.Rules.{rules}
 use Rattle.srl_decoder.proofs.decoder.decode_nonzero.Goals as goal
 
 pub overflow_sub-limit : goal.overflow_sub-limit

@@ -1,5 +1,4 @@
 -- `srl_decoder::decoder::ended` meets its contract. Assumes nothing.
-use borrow.Author.Rules.{rules}
 use Rattle.srl_decoder.proofs.decoder.ended.Goals as goal
 
 pub returns : goal.returns

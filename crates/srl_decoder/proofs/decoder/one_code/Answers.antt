@@ -7,7 +7,6 @@ use Rattle.bits.specs.Inner.{Top}
 use Rattle.bits.proofs.Tops.{top_skip, top_take, first_zero, first_one}
 use Rattle.srl_decoder.specs.Srl.{reader}
 use Rattle.srl_decoder.proofs.Codes.{code_zero, code_one}
-use borrow.Author.Rules.{rules}
 use Rattle.srl_decoder.proofs.decoder.one_code.Goals as goal
 
 pub returns-then-a-lt9223372036854775808 : goal.returns-then-a-lt9223372036854775808

@@ -15,7 +15,6 @@ use Rattle.srl_decoder.specs.declared.SrlState.{SrlState}
 use Rattle.srl_decoder.specs.declared.Decoded.TheVariants.{Values}
 use Rattle.srl_decoder.proofs.Missing.{values_read_alike}
 use Rattle.srl_decoder.proofs.Values.{opened_shut, reader_held, held_readers, values_alike, length_values}
-use borrow.Author.Rules.{rules}
 use Rattle.srl_decoder.proofs.decoder.store_if_room.Goals as goal
 
 pub returns-then-out-num_values : goal.returns-then-out-num_values

@@ -16,13 +16,12 @@ use Rattle.bits.proofs.Places.{read_place}
 use Rattle.bits.proofs.Tops.{front_skip}
 use Rattle.srl_decoder.specs.Srl.{Reader, reader, most_zeros, nonzero, behind, values, reader_after}
 use Rattle.srl_decoder.specs.Decode.{opened}
-use Rattle.srl_decoder.specs.Inner.{shut, held_reader, Clear, Brought}
+use Rattle.srl_decoder.specs.Inner.{shut, held_reader, Brought}
 use Rattle.srl_decoder.specs.declared.SrlState.{SrlState}
 use Rattle.srl_decoder.specs.declared.decoder.Stored.{Stored}
 use Rattle.srl_decoder.proofs.Codes.{nonzero_is}
 use Rattle.srl_decoder.proofs.Missing.{missing_past}
-use Rattle.srl_decoder.proofs.Filled.{Filled, filled, fill, fill_is, rest, rest_start, Turned, turn_codes, turn_value, rest_bound, rest_end}
-use borrow.Author.Rules.{rules}
+use Rattle.srl_decoder.proofs.Filled.{Filled, filled, fill_is, rest, rest_start, Turned, turn_codes, turn_value, rest_bound, rest_end}
 use Rattle.srl_decoder.proofs.decoder.store_values.Goals as goal
 use Rattle.srl_decoder.proofs.decoder.store_values.Goals.{then-due, else-due}
 

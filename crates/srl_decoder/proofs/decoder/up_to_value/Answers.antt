@@ -6,7 +6,6 @@ use native.Mathlib.Omega.{arith}
 use Rattle.srl_decoder.specs.Srl.{reader}
 use Rattle.srl_decoder.specs.Inner.{Same}
 use Rattle.srl_decoder.proofs.Chains.{same_refl}
-use borrow.Author.Rules.{rules}
 use Rattle.srl_decoder.proofs.decoder.up_to_value.Goals as goal
 
 pub returns-then-pending : goal.returns-then-pending

@@ -7,7 +7,6 @@ use Rattle.bits.specs.Written.{pack}
 use Rattle.srl_encoder.specs.Finish.{flush}
 use Rattle.bits.proofs.Packed.{length_pack}
 use Rattle.srl_encoder.proofs.Runs.{length_flush}
-use borrow.Author.Rules.{rules}
 use Rattle.srl_encoder.proofs.encoder.end_length.Goals as goal
 
 pub overflow_add-result : goal.overflow_add-result

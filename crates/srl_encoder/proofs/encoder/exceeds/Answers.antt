@@ -6,7 +6,6 @@ use borrow.Author.Tests.{le-ltb}
 use Rattle.srl_encoder.specs.Inner.{call_count}
 use Rattle.srl_encoder.proofs.EncodedCalls.{call_count_lem}
 use Rattle.srl_encoder.proofs.Sizes.{surely}
-use borrow.Author.Rules.{rules}
 use Rattle.srl_encoder.proofs.encoder.exceeds.Goals as goal
 
 pub returns-then-surely_fits : goal.returns-then-surely_fits

@@ -2,7 +2,6 @@
 use mathlib.Core.Path.{sym, ap, ◌∙◌}
 use lib.ListN.{length}
 use Rattle.srl_encoder.proofs.Runs.{flush_some}
-use borrow.Author.Rules.{rules}
 use Rattle.srl_encoder.proofs.encoder.flush_length.Goals as goal
 
 pub returns-then-zeros-ne0 : goal.returns-then-zeros-ne0

@@ -6,7 +6,6 @@ use Prim.Native.Nat.{suc, ◌+◌, ◌-◌, ◌≤◌}
 use native.Mathlib.Omega.{arith}
 use lib.ListN.{length}
 use lib.IntN.{pos}
-use borrow.Author.Rules.{rules}
 use Rattle.bits.specs.Inner.{counted}
 use Rattle.bits.proofs.Packed.{counted_none}
 use Rattle.srl_encoder.specs.Encode.{run_bits, nonzero_bits, value_bits, value_kp, value_zeros}

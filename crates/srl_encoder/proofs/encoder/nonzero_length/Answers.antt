@@ -1,7 +1,6 @@
 -- `srl_encoder::encoder::nonzero_length` meets its contract. Assumes nothing.
 use mathlib.Core.Path.{sym}
 use mathlib.Core.Bool.{true}
-use borrow.Author.Rules.{rules}
 use Rattle.srl_encoder.proofs.Nonzeros.{length_nonzero}
 use Rattle.srl_encoder.proofs.encoder.nonzero_length.Goals as goal
 

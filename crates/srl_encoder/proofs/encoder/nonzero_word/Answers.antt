@@ -3,7 +3,6 @@ use mathlib.Core.Path.{◌≡◌, ap, ◌∙◌}
 use Prim.Native.Nat.{◌+◌, ◌-◌, ◌*◌, ◌%◌, ◌^◌, ◌<◌}
 use native.Mathlib.Omega.{arith}
 use lib.Pow.{shl_exact}
-use borrow.Author.Rules.{rules}
 use Rattle.bits.proofs.Powers.{shl_small}
 use Rattle.bits.proofs.Numbers.{bit_le}
 use Rattle.srl_encoder.proofs.encoder.nonzero_word.Goals as goal

@@ -1,14 +1,10 @@
 -- `srl_encoder::encoder::plan_run` meets its contract. The invariant: the run is `steps` zeros and then what is left of it. Assumes nothing.
-use mathlib.Core.Path.{◌≡◌, refl, sym, ap, ◌∙◌}
+use mathlib.Core.Path.{◌≡◌}
 use mathlib.Core.Bool.{Bool, false}
-use mathlib.Core.List.{List, ◌∷◌, ◌++◌}
-use Prim.Native.Nat.{ℕ, suc, ◌+◌, ◌-◌, ◌/◌, ◌^◌, ◌≤◌, ◌<◌, min}
-use native.Mathlib.Omega.{arith}
+use mathlib.Core.List.{List, ◌++◌}
+use Prim.Native.Nat.{ℕ, suc, ◌+◌, ◌/◌, ◌^◌, ◌≤◌}
 use lib.ListN.{replicate}
-use lib.Pow.{pow_pos}
-use borrow.Author.Rules.{rules}
 use Rattle.srl_encoder.specs.Encode.{run_bits, run_kp}
-use Rattle.srl_encoder.proofs.Runs.{run_more, run_last, plan_step}
 use Rattle.srl_encoder.proofs.encoder.plan_run.Given as goal
 
 -- the bits of a run of z zeros at kp p, and kp after it

@@ -4,7 +4,6 @@ use mathlib.Core.Bool.{true}
 use Prim.Native.Nat.{◌+◌, ◌-◌}
 use native.Mathlib.Omega.{arith}
 use lib.ListN.{length, length-append}
-use borrow.Author.Rules.{rules}
 use Rattle.srl_encoder.specs.Encode.{nonzero_bits}
 use Rattle.srl_encoder.specs.Inner.{plan_bits}
 use Rattle.srl_encoder.proofs.Nonzeros.{nonzero_le}

@@ -1,6 +1,5 @@
 -- `srl_encoder::encoder::put_call` meets its contract: the values are written, and the whole bytes that wait are stored. Assumes nothing.
 use native.Mathlib.Omega.{arith}
-use borrow.Author.Rules.{rules}
 use Rattle.bits.proofs.Words.{word_of_sound}
 use Rattle.srl_encoder.specs.Encode.{sink}
 use Rattle.srl_encoder.proofs.EncodedCalls.{wrote_from, call_count_lem, call_wrote}

@@ -1,6 +1,5 @@
 -- `srl_encoder::encoder::put_end` meets its contract. Assumes nothing.
 use native.Mathlib.Omega.{arith}
-use borrow.Author.Rules.{rules}
 use Rattle.bits.proofs.Words.{word_of_sound}
 use Rattle.srl_encoder.specs.Encode.{sink}
 use Rattle.srl_encoder.proofs.EncodedCalls.{end_out}

@@ -1,7 +1,6 @@
 -- `srl_encoder::encoder::put_flush` meets its contract. Assumes nothing.
 use mathlib.Core.Path.{◌≡◌, sym, ap, ◌∙◌}
 use native.Mathlib.Omega.{arith}
-use borrow.Author.Rules.{rules}
 use Rattle.bits.proofs.Words.{words_none, words_renamed}
 use Rattle.srl_encoder.specs.Finish.{flush}
 use Rattle.srl_encoder.proofs.Runs.{flush_some}

@@ -3,7 +3,6 @@ use mathlib.Core.Path.{◌≡◌, ap, ◌∙◌}
 use Prim.Native.Nat.{◌+◌, ◌<◌, ◌^◌}
 use native.Mathlib.Omega.{arith}
 use lib.ListN.{set}
-use borrow.Author.Rules.{rules}
 use Rattle.bits.specs.Inner.{settled, pad_count, pad_out}
 use Rattle.bits.proofs.Packed.{pad_le}
 use Rattle.bits.proofs.Words.{settled_at}

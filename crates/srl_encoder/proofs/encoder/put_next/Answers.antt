@@ -4,7 +4,6 @@ use native.Mathlib.Omega.{arith}
 use lib.IntN.{nat_abs}
 use mir.Syntax.{w16}
 use mir.ValLaws.{to_z-of_z}
-use borrow.Author.Rules.{rules}
 use Rattle.fixed.specs.Fixed.{is_negative}
 use Rattle.srl_encoder.specs.Inner.{call_of, WroteNonzero}
 use Rattle.srl_encoder.proofs.EncodedCalls.{wrote_zero, wrote_nonzero}

@@ -3,7 +3,6 @@ use mathlib.Core.Path.{◌≡◌, ap, ◌∙◌}
 use mathlib.Core.Bool.{true}
 use Prim.Native.Nat.{◌+◌, ◌-◌, ◌/◌, ◌≤◌}
 use native.Mathlib.Omega.{arith}
-use borrow.Author.Rules.{rules}
 use Rattle.bits.specs.Written.{bits_of}
 use Rattle.bits.proofs.Words.{words_then, words_renamed}
 use Rattle.srl_encoder.specs.Encode.{nonzero_bits}

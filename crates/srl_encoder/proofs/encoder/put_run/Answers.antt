@@ -6,7 +6,6 @@ use Prim.Native.Nat.{◌+◌, ◌/◌, ◌^◌, ◌≤◌}
 use native.Mathlib.Omega.{arith}
 use lib.ListN.{replicate, length-replicate}
 use lib.Pow.{pow_mono}
-use borrow.Author.Rules.{rules}
 use Rattle.bits.specs.Written.{bits_of}
 use Rattle.bits.proofs.Words.{words_then, words_renamed}
 use Rattle.srl_encoder.proofs.Runs.{plan_small, plan_end}

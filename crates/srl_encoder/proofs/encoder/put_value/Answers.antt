@@ -3,7 +3,6 @@ use mathlib.Core.Path.{refl, sym, ap, ◌∙◌}
 use mathlib.Core.List.{◌++◌}
 use Prim.Native.Nat.{◌-◌}
 use native.Mathlib.Omega.{arith}
-use borrow.Author.Rules.{rules}
 use Rattle.bits.proofs.Words.{words_renamed}
 use Rattle.srl_encoder.specs.Encode.{nonzero_bits}
 use Rattle.srl_encoder.proofs.encoder.put_value.Goals as goal

@@ -1,19 +1,8 @@
 -- `srl_encoder::encoder::put_values` meets its contract. The invariant: the first i values are written. Assumes nothing.
-use mathlib.Core.Path.{◌≡◌, refl, sym, ap, ◌∙◌, subst}
-use mathlib.Core.List.{[], ◌∷◌, ◌++◌}
+use mathlib.Core.Path.{◌≡◌}
 use Prim.Native.Nat.{◌+◌, ◌-◌, ◌≤◌}
-use native.Mathlib.Numerals.{add-one}
-use native.Mathlib.Omega.{arith}
-use lib.ListN.{length, take, get_or}
-use lib.Seq.{take-suc, take_all}
-use lib.IntN.{ℤ, pos}
-use mir.Val.{to_z, of_z}
-use mir.Syntax.{w16}
-use mir.ValLaws.{to_z-of_z}
-use borrow.Author.Rules.{rules}
+use lib.ListN.{length, take}
 use Rattle.srl_encoder.specs.Inner.{call_of, WroteValues}
-use Rattle.srl_encoder.proofs.EncodedCalls.{wrote_none, wrote_then, call_part}
-use Rattle.srl_encoder.proofs.EncodedValues.{value_kp_lem, value_zeros_lem}
 use Rattle.srl_encoder.proofs.encoder.put_values.Given as goal
 
 abbrev pub invariant-loop-i : goal.invariant-loop-i

@@ -1,7 +1,6 @@
 -- `srl_encoder::encoder::run_length` meets its contract. Assumes nothing.
 use mathlib.Core.Path.{sym}
 use Rattle.srl_encoder.proofs.Runs.{length_plan}
-use borrow.Author.Rules.{rules}
 use Rattle.srl_encoder.proofs.encoder.run_length.Goals as goal
 
 pub returns : goal.returns

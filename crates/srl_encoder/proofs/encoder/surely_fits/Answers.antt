@@ -6,7 +6,6 @@ use borrow.Author.Tests.{leb-true}
 use Rattle.bits.proofs.Powers.{shl_one}
 use Rattle.srl_encoder.proofs.Sizes.{most_fits}
 use Rattle.srl_rules.proofs.Widths.{pow_high}
-use borrow.Author.Rules.{rules}
 use Rattle.srl_encoder.proofs.encoder.surely_fits.Goals as goal
 
 pub returns-then-count : goal.returns-then-count

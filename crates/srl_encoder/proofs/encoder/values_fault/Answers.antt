@@ -2,7 +2,6 @@
 use mathlib.Core.Path.{sym}
 use native.Mathlib.Omega.{arith}
 use Rattle.srl_encoder.proofs.Sizes.{no_fault}
-use borrow.Author.Rules.{rules}
 use Rattle.srl_encoder.proofs.encoder.values_fault.Goals as goal
 
 pub returns-then-largest_magnitude-max_magnitude : goal.returns-then-largest_magnitude-max_magnitude

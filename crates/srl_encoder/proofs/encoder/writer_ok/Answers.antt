@@ -4,7 +4,6 @@ use native.Mathlib.Omega.{arith}
 use lib.Dec.{ltb}
 use borrow.Author.Tests.{le-leb, lt-leb}
 use Rattle.bits.proofs.Powers.{shl_one}
-use borrow.Author.Rules.{rules}
 use Rattle.srl_encoder.proofs.encoder.writer_ok.Goals as goal
 
 pub returns-then-st-gt-MAX_KP : goal.returns-then-st-gt-MAX_KP

@@ -1,7 +1,6 @@
 -- `srl_encoder::encoder::zeros_after` meets its contract. Assumes nothing.
 use mathlib.Core.Path.{refl, sym, ap}
 use lib.IntN.{pos}
-use borrow.Author.Rules.{rules}
 use Rattle.srl_encoder.specs.Encode.{value_zeros}
 use Rattle.srl_encoder.proofs.EncodedValues.{nonzero_value}
 use Rattle.srl_encoder.proofs.encoder.zeros_after.Goals as goal

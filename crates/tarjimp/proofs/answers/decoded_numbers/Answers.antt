@@ -1,5 +1,4 @@
 -- `tarjimp::answers::decoded_numbers` meets its contract. Assumes nothing.
-use borrow.Author.Rules.{rules}
 use Rattle.tarjimp.proofs.answers.decoded_numbers.Goals as goal
 
 pub returns-in-Values : goal.returns-in-Values

@@ -1,5 +1,4 @@
 -- `tarjimp::answers::encoded_numbers` meets its contract. Assumes nothing.
-use borrow.Author.Rules.{rules}
 use Rattle.tarjimp.proofs.answers.encoded_numbers.Goals as goal
 
 pub returns-in-Bytes : goal.returns-in-Bytes

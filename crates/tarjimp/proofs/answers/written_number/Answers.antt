@@ -1,6 +1,5 @@
 -- `tarjimp::answers::written_number` meets its contract. Assumes nothing.
 use mathlib.Core.Path.{refl}
-use borrow.Author.Rules.{rules}
 use Rattle.tarjimp.proofs.answers.written_number.Goals as goal
 
 pub returns-in-Refused : goal.returns-in-Refused

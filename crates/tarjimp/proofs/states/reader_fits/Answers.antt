@@ -1,6 +1,5 @@
 -- `tarjimp::states::reader_fits` meets its contract: the tests are those of `reader_fits`. Assumes nothing.
 use borrow.Author.Tests.{le-leb, lt-leb}
-use borrow.Author.Rules.{rules}
 use Rattle.tarjimp.proofs.Fitting.{third_test}
 use Rattle.tarjimp.proofs.states.reader_fits.Goals as goal
 

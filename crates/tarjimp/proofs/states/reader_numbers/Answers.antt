@@ -3,7 +3,6 @@ use mathlib.Core.Bool.{Bool, true, false, cond}
 use mathlib.Core.Path.{◌≡◌, refl, ap}
 use mathlib.Core.List.{◌∷◌, []}
 use mir.Val.{bool_byte}
-use borrow.Author.Rules.{rules}
 use Rattle.tarjimp.proofs.states.reader_numbers.Goals as goal
 
 -- the flag as a number

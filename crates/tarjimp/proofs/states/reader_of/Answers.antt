@@ -1,6 +1,5 @@
 -- `tarjimp::states::reader_of` meets its contract. Assumes nothing.
 use native.Mathlib.Omega.{arith}
-use borrow.Author.Rules.{rules}
 use Rattle.tarjimp.proofs.Fitting.{reader_bytes}
 use Rattle.tarjimp.proofs.states.reader_of.Goals as goal
 

@@ -1,6 +1,5 @@
 -- `tarjimp::states::writer_fits` meets its contract: the tests are those of `writer_fits`. Assumes nothing.
 use borrow.Author.Tests.{le-leb, lt-leb}
-use borrow.Author.Rules.{rules}
 use Rattle.tarjimp.proofs.Fitting.{third_test}
 use Rattle.tarjimp.proofs.states.writer_fits.Goals as goal
 

@@ -1,6 +1,5 @@
 -- `tarjimp::states::writer_of` meets its contract. Assumes nothing.
 use native.Mathlib.Omega.{arith}
-use borrow.Author.Rules.{rules}
 use Rattle.tarjimp.proofs.Fitting.{writer_bytes}
 use Rattle.tarjimp.proofs.states.writer_of.Goals as goal
 

@@ -1,6 +1,5 @@
 -- `tile::TileState::decode_upgrade` meets its contract. Assumes nothing.
 use mathlib.Core.Path.{◌≡◌, sym, ◌∙◌}
-use borrow.Author.Rules.{rules}
 use Rattle.planes.specs.Planes.{three}
 use Rattle.tile.specs.Tile.{upgrade_refusal}
 use Rattle.tile.proofs.Accepted.{refused, accepted, positions_low}

@@ -6,8 +6,7 @@ use Prim.Native.Nat.{ℕ, ◌<◌, ◌≤◌}
 use native.Mathlib.Omega.{arith}
 use lib.Dec.{leb}
 use lib.ListN.{length, get_or}
-use borrow.Author.Tests.{leb-true, not-true, not-false}
-use borrow.Author.Rules.{rules}
+use borrow.Author.Tests.{leb-true}
 use Rattle.bands.specs.Positions.{every, rows_in_domain}
 use Rattle.bands.proofs.Every.{at}
 use Rattle.answer.specs.Refusals.{long_enough}

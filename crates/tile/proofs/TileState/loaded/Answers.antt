@@ -1,5 +1,4 @@
 -- `tile::TileState::loaded` meets its contract. Assumes nothing.
-use borrow.Author.Rules.{rules}
 use Rattle.tile.specs.Tile.{fresh, loaded}
 use Rattle.tile.proofs.TileState.loaded.Goals as goal
 

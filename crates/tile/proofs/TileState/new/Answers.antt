@@ -1,5 +1,4 @@
 -- `tile::TileState::new` meets its contract. Assumes nothing.
-use borrow.Author.Rules.{rules}
 use Rattle.tile.specs.Tile.{fresh}
 use Rattle.tile.proofs.TileState.new.Goals as goal
 

@@ -1,8 +1,6 @@
 -- `tile::TileState::reconstruct_to_rgba` meets its contract. Assumes nothing.
 use mathlib.Core.Bool.{true, false}
 use mathlib.Core.Path.{◌≡◌, sym, ◌∙◌}
-use borrow.Author.Tests.{not-true, not-false}
-use borrow.Author.Rules.{rules}
 use Rattle.zero_signs.specs.ZeroSigns.{are_right}
 use Rattle.tile.proofs.TileState.reconstruct_to_rgba.Goals as goal
 

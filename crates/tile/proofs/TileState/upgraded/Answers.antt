@@ -1,5 +1,4 @@
 -- `tile::TileState::upgraded` meets its contract. Assumes nothing.
-use borrow.Author.Rules.{rules}
 use Rattle.tile.specs.Tile.{upgraded}
 use Rattle.tile.proofs.TileState.upgraded.Goals as goal
 

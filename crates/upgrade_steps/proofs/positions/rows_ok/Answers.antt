@@ -1,9 +1,7 @@
 -- `upgrade_steps::positions::rows_ok` meets its contract. Assumes nothing.
 use mathlib.Core.Path.{sym, ap, ◌∙◌}
 use mathlib.Core.Bool.{◌&&◌}
-use borrow.Author.Tests.{not-true, not-false}
 use Rattle.bands.specs.Positions.{row_in_domain}
-use borrow.Author.Rules.{rules}
 use Rattle.upgrade_steps.proofs.positions.rows_ok.Goals as goal
 
 pub returns-then-not-row_in_domain : goal.returns-then-not-row_in_domain
