@@ -2,7 +2,7 @@
 use mathlib.Core.Path.{ap, ◌∙◌}
 use mir.Syntax.{w16}
 use mir.ValLaws.{to_z-of_z}
-use borrow.Author.Rules.{rules}
+use Rattle.std.proofs.Common.{rules}
 use Rattle.fixed.specs.Fixed.{floor_shift, shift_left_clamp}
 use Rattle.fixed.proofs.Machine.{got}
 use Rattle.panel_picture.proofs.cut.down.Goals as goal
