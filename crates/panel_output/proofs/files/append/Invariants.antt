@@ -1,6 +1,6 @@
 -- `panel_output::files::append` meets its contract. Assumes nothing.
 use mathlib.Core.Path.{◌≡◌}
-use Rattle.std.proofs.Common.{arith, length, length-set, rules, ◌-◌, ◌≤◌}
+use Rattle.std.proofs.Common.{length, ◌-◌, ◌≤◌}
 use Rattle.panel_output.proofs.files.append.Given as goal
 
 abbrev pub invariant-loop-i : goal.invariant-loop-i

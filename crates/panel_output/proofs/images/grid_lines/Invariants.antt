@@ -1,5 +1,5 @@
 -- `panel_output::images::grid_lines` is safe and ends. Assumes nothing.
-use Rattle.std.proofs.Common.{rules, ◌-◌, ◌≤◌}
+use Rattle.std.proofs.Common.{◌-◌, ◌≤◌}
 use Rattle.panel_output.proofs.images.grid_lines.Given as goal
 
 abbrev pub invariant-loop-y : goal.invariant-loop-y

@@ -1,5 +1,5 @@
 -- `panel_output::report::pad` is safe and ends. Assumes nothing.
-use Rattle.std.proofs.Common.{rules, ◌-◌}
+use Rattle.std.proofs.Common.{◌-◌}
 use Rattle.panel_output.proofs.report.pad.Given as goal
 
 abbrev pub invariant-loop-n : goal.invariant-loop-n

@@ -1,5 +1,5 @@
 -- `panel_output::report::positions` is safe and ends. Assumes nothing.
-use Rattle.std.proofs.Common.{rules, ◌-◌, ◌≤◌}
+use Rattle.std.proofs.Common.{◌-◌, ◌≤◌}
 use Rattle.panel_output.proofs.report.positions.Given as goal
 
 abbrev pub invariant-loop-b : goal.invariant-loop-b
