@@ -2,7 +2,7 @@
 use mathlib.Core.Path.{◌≡◌, sym, ap}
 use native.Mathlib.Nat.{mod-eq_of_lt}
 use lib.Pow.{pow_pos, pow_mono}
-use Rattle.std.proofs.Common.{arith, rules, ℕ, ◌%◌, ◌*◌, ◌^◌, ◌≤◌}
+use Rattle.std.proofs.Common.{arith, ℕ, ◌%◌, ◌*◌, ◌^◌, ◌≤◌}
 use Rattle.fixed.proofs.Shift.{power_small}
 use Rattle.panel_picture.proofs.cut.low_bits.Goals as goal
 

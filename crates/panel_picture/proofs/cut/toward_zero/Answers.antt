@@ -6,7 +6,7 @@ use lib.IntN.{ℤ, nat_abs}
 use lib.Signed.{mag}
 use mir.Syntax.{w16}
 use mir.Val.{to_z, of_z}
-use Rattle.std.proofs.Common.{arith, rules, ℕ, ◌%◌, ◌-◌, ◌<◌, ◌^◌}
+use Rattle.std.proofs.Common.{arith, ℕ, ◌%◌, ◌-◌, ◌<◌, ◌^◌}
 use Rattle.fixed.specs.Fixed.{clamp_i16, is_negative, with_sign}
 use Rattle.fixed.specs.Cut.{toward_zero}
 use Rattle.fixed.proofs.Cuts.{toward_clamped}

@@ -1,6 +1,5 @@
 -- `panel_picture::forward::copy` is safe and ends. Assumes nothing.
-use mathlib.Core.Path.{◌≡◌}
-use Rattle.std.proofs.Common.{arith, length, length-set, rules, ◌-◌, ◌≤◌}
+use Rattle.std.proofs.Common.{arith, length-set}
 use Rattle.panel_picture.proofs.forward.copy.Goals as goal
 
 pub loop-i-preserved : goal.loop-i-preserved

@@ -1,7 +1,7 @@
 -- `panel_picture::forward::gather` is safe and ends. Assumes nothing.
 use mathlib.Core.Path.{◌≡◌}
 use native.Mathlib.Nat.{add-mul}
-use Rattle.std.proofs.Common.{arith, length, rules, ℕ, ◌*◌, ◌+◌, ◌-◌, ◌<◌, ◌≤◌}
+use Rattle.std.proofs.Common.{arith, ℕ, ◌*◌, ◌+◌, ◌-◌, ◌<◌, ◌≤◌}
 use Rattle.panel_picture.proofs.forward.gather.Goals as goal
 
 scale : (a b c k : ℕ) → a ≡ b + c → a * k ≡ b * k + c * k

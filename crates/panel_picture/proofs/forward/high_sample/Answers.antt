@@ -2,7 +2,6 @@
 use mathlib.Core.Path.{◌≡◌, refl, ap, ◌∙◌}
 use lib.IntN.{ℤ, ◌+ℤ◌, ◌-ℤ◌}
 use mir.Syntax.{w16}
-use Rattle.std.proofs.Common.{rules}
 use Rattle.fixed.specs.Fixed.{wrap_i16, half_toward_zero}
 use Rattle.fixed.proofs.Machine.{signed, exact, got}
 use Rattle.panel_picture.specs.Forward.{high}

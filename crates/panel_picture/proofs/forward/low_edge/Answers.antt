@@ -1,7 +1,6 @@
 -- `panel_picture::forward::low_edge` meets its contract. Assumes nothing.
 use mathlib.Core.Path.{ap, ◌∙◌}
 use mir.Syntax.{w16}
-use Rattle.std.proofs.Common.{rules}
 use Rattle.fixed.specs.Fixed.{wrap_i16}
 use Rattle.fixed.proofs.Machine.{signed, exact, got}
 use Rattle.panel_picture.specs.Forward.{low_edge}

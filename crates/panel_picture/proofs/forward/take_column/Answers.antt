@@ -1,6 +1,5 @@
 -- `panel_picture::forward::take_column` is safe and ends. Assumes nothing.
-use mathlib.Core.Path.{◌≡◌}
-use Rattle.std.proofs.Common.{arith, length, length-set, rules, ◌-◌, ◌≤◌}
+use Rattle.std.proofs.Common.{arith, length-set}
 use Rattle.panel_picture.proofs.forward.take_column.Goals as goal
 
 pub loop-i-preserved : goal.loop-i-preserved

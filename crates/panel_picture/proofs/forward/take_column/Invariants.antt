@@ -1,6 +1,6 @@
 -- `panel_picture::forward::take_column` is safe and ends. Assumes nothing.
 use mathlib.Core.Path.{◌≡◌}
-use Rattle.std.proofs.Common.{arith, length, length-set, rules, ◌-◌, ◌≤◌}
+use Rattle.std.proofs.Common.{length, ◌-◌, ◌≤◌}
 use Rattle.panel_picture.proofs.forward.take_column.Given as goal
 
 abbrev pub invariant-loop-i : goal.invariant-loop-i

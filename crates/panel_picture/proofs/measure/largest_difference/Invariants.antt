@@ -1,5 +1,5 @@
 -- `panel_picture::measure::largest_difference` is safe and ends. Assumes nothing.
-use Rattle.std.proofs.Common.{length, rules, ◌-◌, ◌≤◌}
+use Rattle.std.proofs.Common.{length, ◌-◌, ◌≤◌}
 use Rattle.panel_picture.proofs.measure.largest_difference.Given as goal
 
 abbrev pub invariant-loop-i : goal.invariant-loop-i

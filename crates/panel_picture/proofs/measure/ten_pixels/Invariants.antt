@@ -1,5 +1,5 @@
 -- `panel_picture::measure::ten_pixels` is safe and ends. Assumes nothing.
-use Rattle.std.proofs.Common.{rules, ◌*◌, ◌-◌, ◌≤◌}
+use Rattle.std.proofs.Common.{◌*◌, ◌-◌, ◌≤◌}
 use Rattle.panel_picture.proofs.measure.ten_pixels.Given as goal
 
 abbrev pub invariant-loop-i : goal.invariant-loop-i

@@ -1,6 +1,6 @@
 -- `replay_kinds::cut_streams::fill_values` is safe and ends. Assumes nothing.
 use mathlib.Core.Path.{◌≡◌}
-use Rattle.std.proofs.Common.{arith, length, length-set, rules, ◌-◌, ◌≤◌}
+use Rattle.std.proofs.Common.{length, ◌-◌, ◌≤◌}
 use Rattle.replay_kinds.proofs.cut_streams.fill_values.Given as goal
 
 abbrev pub invariant-loop-i : goal.invariant-loop-i

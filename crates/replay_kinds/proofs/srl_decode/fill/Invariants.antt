@@ -1,6 +1,6 @@
 -- `replay_kinds::srl_decode::fill` is safe and ends. Assumes nothing.
 use mathlib.Core.Path.{◌≡◌}
-use Rattle.std.proofs.Common.{arith, length, length-set, rules, ◌-◌, ◌≤◌}
+use Rattle.std.proofs.Common.{length, ◌-◌, ◌≤◌}
 use Rattle.replay_kinds.proofs.srl_decode.fill.Given as goal
 
 abbrev pub invariant-loop-i : goal.invariant-loop-i

@@ -1,5 +1,5 @@
 -- `replay_pixels::colours::row` is safe and ends. Assumes nothing.
-use Rattle.std.proofs.Common.{rules, ◌-◌, ◌≤◌}
+use Rattle.std.proofs.Common.{◌-◌, ◌≤◌}
 use Rattle.replay_pixels.proofs.colours.row.Given as goal
 
 abbrev pub invariant-loop-y : goal.invariant-loop-y
