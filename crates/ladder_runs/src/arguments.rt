@@ -1,6 +1,8 @@
 // Numbers among the arguments: one to nine digits.
 ghost use Rattle.std.specs.Prelude.{◌≤◌, length};
 
+use std::env::{Env, FillError};
+
 // The largest number of nine digits.
 pub const MOST: u64 = 999999999;
 
@@ -37,15 +39,17 @@ fn parsed(digits: &[u8]) -> u64 {
     value
 }
 
+// Whether there is an argument with a number.
+pub fn is_there(rt: &impl Env, i: usize) -> bool {
+    !matches!(rt.arg(i, &mut []), Err(FillError::NotPresent))
+}
+
 // The argument with a number; a default where there is none, and more than `MOST` where it is no number.
-pub fn number(i: usize, default: u64) -> u64 {
-    if os::arg_count() <= i {
-        return default;
-    }
+pub fn number(rt: &impl Env, i: usize, default: u64) -> u64 {
     let mut word = [0u8; 16];
-    let n = os::arg(i, &mut word);
-    if os::errno() != 0 {
-        return NONE;
+    match rt.arg(i, &mut word) {
+        Ok(n) => parsed(&word[..n]),
+        Err(FillError::NotPresent) => default,
+        Err(FillError::TooLong) => NONE,
     }
-    parsed(&word[..n])
 }

@@ -1,23 +1,24 @@
 // What the program writes.
 use crate::counts;
-use libc::{STDERR_FILENO, STDOUT_FILENO};
+use std::{io, str};
 
-pub fn text(bytes: &[u8]) {
-    io::write_all(STDOUT_FILENO, bytes);
+pub fn text(rt: &impl Print, bytes: &[u8]) -> io::Result<()> {
+    rt.write_all(bytes)
 }
 
-pub fn number(n: u64) {
-    io::print_decimal(STDOUT_FILENO, n);
+pub fn number(rt: &impl Print, n: u64) -> io::Result<()> {
+    rt.print(n)
 }
 
-pub fn error(bytes: &[u8]) {
-    io::write_all(STDERR_FILENO, bytes);
+pub fn error(rt: &impl Eprint, bytes: &[u8]) -> io::Result<()> {
+    rt.eprint(str::from_utf8(bytes).unwrap_or("(not UTF-8)"))
 }
 
-pub fn usage() {
+pub fn usage(rt: &impl Eprint) -> io::Result<()> {
     error(
+        rt,
         b"usage: ladder_runs [SEED [CASES]]\nSEED and CASES are whole numbers of one to nine digits, CASES not 0; without them 1 and 1000\n",
-    );
+    )
 }
 
 // Which ladder a line speaks of: 1 or 2 of a case, or 3 for both. A line is written of the symmetric rule only, by which none is expected.
@@ -29,115 +30,131 @@ pub struct Which {
     pub ladder: u64,
 }
 
-fn name(w: Which) {
-    text(b"seed ");
-    number(w.seed);
-    text(b", case ");
-    number(w.case);
+fn name(rt: &impl Print, w: Which) -> io::Result<()> {
+    text(rt, b"seed ")?;
+    number(rt, w.seed)?;
+    text(rt, b", case ")?;
+    number(rt, w.case)?;
     if w.ladder > 2 {
-        text(b", ladder 2 beside 1: ");
-        return;
+        text(rt, b", ladder 2 beside 1: ")?;
+        return Ok(());
     }
-    text(b", ladder ");
-    number(w.ladder);
-    text(b": ");
+    text(rt, b", ladder ")?;
+    number(rt, w.ladder)?;
+    text(rt, b": ")
 }
 
-fn signed(value: i16) {
+fn signed(rt: &impl Print, value: i16) -> io::Result<()> {
     if fixed::is_negative(value) {
-        text(b"-");
+        text(rt, b"-")?;
     }
-    number(fixed::magnitude(value) as u64);
+    number(rt, fixed::magnitude(value) as u64)
 }
 
-fn component(k: usize) {
+fn component(rt: &impl Print, k: usize) -> io::Result<()> {
     match k {
-        0 => text(b"Y, "),
-        1 => text(b"Cb, "),
-        _ => text(b"Cr, "),
+        0 => text(rt, b"Y, ")?,
+        1 => text(rt, b"Cb, ")?,
+        _ => text(rt, b"Cr, ")?,
     }
+    Ok(())
 }
 
 // A coefficient or a sign that differs, at a place of the tile.
-pub fn difference(w: Which, what: &[u8], place: usize, expected: i16, found: i16) {
+pub fn difference(
+    rt: &impl Print,
+    w: Which,
+    what: &[u8],
+    place: usize,
+    expected: i16,
+    found: i16,
+) -> io::Result<()> {
     if !w.symmetric {
-        return;
+        return Ok(());
     }
-    text(b"difference: ");
-    name(w);
-    component(place / 4096);
-    text(what);
-    text(b" at place ");
-    number((place % 4096) as u64);
-    text(b": expected ");
-    signed(expected);
-    text(b", found ");
-    signed(found);
-    text(b"\n");
+    text(rt, b"difference: ")?;
+    name(rt, w)?;
+    component(rt, place / 4096)?;
+    text(rt, what)?;
+    text(rt, b" at place ")?;
+    number(rt, (place % 4096) as u64)?;
+    text(rt, b": expected ")?;
+    signed(rt, expected)?;
+    text(rt, b", found ")?;
+    signed(rt, found)?;
+    text(rt, b"\n")
 }
 
 // Something else that differs.
-pub fn unlike(w: Which, what: &[u8]) {
+pub fn unlike(rt: &impl Print, w: Which, what: &[u8]) -> io::Result<()> {
     if !w.symmetric {
-        return;
+        return Ok(());
     }
-    text(b"difference: ");
-    name(w);
-    text(what);
-    text(b"\n");
+    text(rt, b"difference: ")?;
+    name(rt, w)?;
+    text(rt, what)?;
+    text(rt, b"\n")
 }
 
 // A ladder with a pass that is refused, after so many that are not.
-pub fn refused(w: Which, refusal: u8, passes: u16) {
+pub fn refused(rt: &impl Print, w: Which, refusal: u8, passes: u16) -> io::Result<()> {
     if !w.symmetric {
-        return;
+        return Ok(());
     }
-    text(b"refused: ");
-    name(w);
-    text(b"after ");
-    number(passes as u64);
-    text(b" passes, with ");
-    number(refusal as u64);
-    text(b"\n");
+    text(rt, b"refused: ")?;
+    name(rt, w)?;
+    text(rt, b"after ")?;
+    number(rt, passes as u64)?;
+    text(rt, b" passes, with ")?;
+    number(rt, refusal as u64)?;
+    text(rt, b"\n")
 }
 
 // ---- what all of it came to
 
-fn symmetric(seed: u64, cases: u64, c: counts::Counts) {
-    text(b"seed ");
-    number(seed);
-    text(b": ");
-    number(cases);
-    text(b" targets, ");
-    number(c.ladders);
-    text(b" ladders of 1 to 8 passes, ");
-    number(c.passes);
-    text(b" passes: ");
-    number(counts::sum(c.refused_by_5, c.refused));
-    text(b" refusals, ");
-    number(c.differences);
-    text(b" differences\n");
+fn symmetric(rt: &impl Print, seed: u64, cases: u64, c: counts::Counts) -> io::Result<()> {
+    text(rt, b"seed ")?;
+    number(rt, seed)?;
+    text(rt, b": ")?;
+    number(rt, cases)?;
+    text(rt, b" targets, ")?;
+    number(rt, c.ladders)?;
+    text(rt, b" ladders of 1 to 8 passes, ")?;
+    number(rt, c.passes)?;
+    text(rt, b" passes: ")?;
+    number(rt, counts::sum(c.refused_by_5, c.refused))?;
+    text(rt, b" refusals, ")?;
+    number(rt, c.differences)?;
+    text(rt, b" differences\n")
 }
 
-fn source(c: counts::Counts) {
-    text(b"The same ladders by the source's rule: ");
-    number(c.refused_by_5);
-    text(b" refused with 5, ");
-    number(c.refused);
-    text(b" with another number, ");
-    number(c.elsewhere);
-    text(b" end elsewhere, ");
-    number(c.good);
-    text(b" end at the cut.\n");
+fn source(rt: &impl Print, c: counts::Counts) -> io::Result<()> {
+    text(rt, b"The same ladders by the source's rule: ")?;
+    number(rt, c.refused_by_5)?;
+    text(rt, b" refused with 5, ")?;
+    number(rt, c.refused)?;
+    text(rt, b" with another number, ")?;
+    number(rt, c.elsewhere)?;
+    text(rt, b" end elsewhere, ")?;
+    number(rt, c.good)?;
+    text(rt, b" end at the cut.\n")
 }
 
-pub fn all(seed: u64, cases: u64, by_symmetric: counts::Counts, by_source: counts::Counts) {
+pub fn all(
+    rt: &impl Print,
+    seed: u64,
+    cases: u64,
+    by_symmetric: counts::Counts,
+    by_source: counts::Counts,
+) -> io::Result<()> {
     text(
+        rt,
         b"Two ladders for each target, from the same cut of it to the same last rows. Each is to end at the target cut at these rows, which\nis the target itself where they are 0, in a fourth of the cases; and both at the same tile.\n",
-    );
-    symmetric(seed, cases, by_symmetric);
-    source(by_source);
+    )?;
+    symmetric(rt, seed, cases, by_symmetric)?;
+    source(rt, by_source)?;
     text(
+        rt,
         b"That rule cuts by floor, so its ladders are expected to fail. That they do shows that this run sees a failure.\n",
-    );
+    )
 }

@@ -4,6 +4,8 @@ ghost use Rattle.std.specs.Prelude.{◌≡◌, ◌<◌, ◌≤◌, length};
 use crate::{ladders, passes};
 use panel_output::{files, images, places, refusals, report};
 use panel_picture::{drawing, measure};
+use std::io;
+use std::rt::Files;
 
 // Where a run stands: whether it goes on, its tile, the bits so far, and the figures of its last stage.
 #[derive(Clone, Copy)]
@@ -91,6 +93,7 @@ fn measured(
 
 // Shows a stage: its pixels, its image and its line.
 fn show(
+    rt: &(impl Files + Print + Eprint),
     t: tile::TileState,
     bits: u64,
     all_bits: u64,
@@ -102,30 +105,31 @@ fn show(
     folder: &[u8],
     reference: &[u8],
     pictures: &mut [u8],
-) -> Run
+) -> io::Result<Run>
     requires { (picture < 8) × (length file.now ≤ 64) × (length folder.now ≤ 3072) × (length reference.now ≡ 16384)
         × (length pictures.old ≡ 131072) }
 {
     let refusal = paint(t, pictures, picture);
     if refusal != 0 {
-        refusals::say(refusal);
-        return ended(t);
+        refusals::say(rt, refusal)?;
+        return Ok(ended(t));
     }
-    if !images::save_stage(folder, file, pictures, picture) {
-        return ended(t);
+    if !images::save_stage(rt, folder, file, pictures, picture)? {
+        return Ok(ended(t));
     }
     let f = measured(t, pictures, picture, reference, bits, all_bits, missing);
-    report::stage(run, name, f, file);
-    Run {
+    report::stage(rt, run, name, f, file)?;
+    Ok(Run {
         is_good: true,
         tile: t,
         bits: all_bits,
         figures: f,
-    }
+    })
 }
 
 // The first stage: the tile with the first cut. No bit of it is counted, since the first pass is outside the port.
 fn first(
+    rt: &(impl Files + Print + Eprint),
     full: &[i16],
     run: &[u8],
     file: &[u8],
@@ -133,7 +137,7 @@ fn first(
     folder: &[u8],
     reference: &[u8],
     pictures: &mut [u8],
-) -> Run
+) -> io::Result<Run>
     requires { (picture < 8) × (length full.now ≡ 12288) × (length file.now ≤ 64) × (length folder.now ≤ 3072)
         × (length reference.now ≡ 16384) × (length pictures.old ≡ 131072) }
 {
@@ -142,10 +146,11 @@ fn first(
     let t = done.tile;
     let refusal = answer::number_of(answer);
     if refusal != 0 {
-        refusals::say(refusal);
-        return ended(t);
+        refusals::say(rt, refusal)?;
+        return Ok(ended(t));
     }
     show(
+        rt,
         t,
         0,
         0,
@@ -162,6 +167,7 @@ fn first(
 
 // A later stage: a pass more, of which all bytes arrive or the first half.
 fn next(
+    rt: &(impl Files + Print + Eprint),
     before: Run,
     full: &[i16],
     stage: usize,
@@ -173,22 +179,23 @@ fn next(
     folder: &[u8],
     reference: &[u8],
     pictures: &mut [u8],
-) -> Run
+) -> io::Result<Run>
     requires { (picture < 8) × (length full.now ≡ 12288) × (length file.now ≤ 64) × (length folder.now ≤ 3072)
         × (length reference.now ≡ 16384) × (length pictures.old ≡ 131072) }
 {
     if !before.is_good {
-        return before;
+        return Ok(before);
     }
     let t = before.tile;
     let made = passes::pass(full, t, passes::positions(stage), is_cut);
     let tile = made.tile;
     if made.refusal != 0 {
-        refusals::say(made.refusal);
-        return ended(tile);
+        refusals::say(rt, made.refusal)?;
+        return Ok(ended(tile));
     }
     let all_bits = std::num::wrapping_add_u64(before.bits, made.bits);
     show(
+        rt,
         tile,
         made.bits,
         all_bits,
@@ -206,6 +213,7 @@ fn next(
 // ---- the two runs. Both begin with the first cut and the first pass
 
 fn opening(
+    rt: &(impl Files + Print + Eprint),
     full: &[i16],
     run: &[u8],
     cut_file: &[u8],
@@ -214,12 +222,15 @@ fn opening(
     folder: &[u8],
     reference: &[u8],
     pictures: &mut [u8],
-) -> Run
+) -> io::Result<Run>
     requires { (picture < 7) × (length cut_file.now ≤ 64) × (length pass_file.now ≤ 64) × (length full.now ≡ 12288)
         × (length folder.now ≤ 3072) × (length reference.now ≡ 16384) × (length pictures.old ≡ 131072) }
 {
-    let a = first(full, run, cut_file, picture, folder, reference, pictures);
+    let a = first(
+        rt, full, run, cut_file, picture, folder, reference, pictures,
+    )?;
     next(
+        rt,
         a,
         full,
         1,
@@ -235,7 +246,14 @@ fn opening(
 }
 
 // The second and the third pass of the whole stream.
-fn closing(before: Run, full: &[i16], folder: &[u8], reference: &[u8], pictures: &mut [u8]) -> Run
+fn closing(
+    rt: &(impl Files + Print + Eprint),
+    before: Run,
+    full: &[i16],
+    folder: &[u8],
+    reference: &[u8],
+    pictures: &mut [u8],
+) -> io::Result<Run>
     requires { (length full.now ≡ 12288) × (length folder.now ≤ 3072) × (length reference.now ≡ 16384)
         × (length pictures.old ≡ 131072) }
 {
@@ -243,26 +261,38 @@ fn closing(before: Run, full: &[i16], folder: &[u8], reference: &[u8], pictures:
     let f2 = b"whole-2.png";
     let f3 = b"whole-3.png";
     let c = next(
-        before, full, 2, false, run, b"pass 2", f2, 2, folder, reference, pictures,
-    );
+        rt, before, full, 2, false, run, b"pass 2", f2, 2, folder, reference, pictures,
+    )?;
     next(
-        c, full, 3, false, run, b"pass 3", f3, 3, folder, reference, pictures,
+        rt, c, full, 3, false, run, b"pass 3", f3, 3, folder, reference, pictures,
     )
 }
 
 // All three passes arrive.
-fn whole(full: &[i16], folder: &[u8], reference: &[u8], pictures: &mut [u8]) -> Run
+fn whole(
+    rt: &(impl Files + Print + Eprint),
+    full: &[i16],
+    folder: &[u8],
+    reference: &[u8],
+    pictures: &mut [u8],
+) -> io::Result<Run>
     requires { (length full.now ≡ 12288) × (length folder.now ≤ 3072) × (length reference.now ≡ 16384)
         × (length pictures.old ≡ 131072) }
 {
     let f0 = b"whole-0-first-cut.png";
     let f1 = b"whole-1.png";
-    let b = opening(full, b"whole", f0, f1, 0, folder, reference, pictures);
-    closing(b, full, folder, reference, pictures)
+    let b = opening(rt, full, b"whole", f0, f1, 0, folder, reference, pictures)?;
+    closing(rt, b, full, folder, reference, pictures)
 }
 
 // The stream ends half-way in the second pass.
-fn cut(full: &[i16], folder: &[u8], reference: &[u8], pictures: &mut [u8]) -> Run
+fn cut(
+    rt: &(impl Files + Print + Eprint),
+    full: &[i16],
+    folder: &[u8],
+    reference: &[u8],
+    pictures: &mut [u8],
+) -> io::Result<Run>
     requires { (length full.now ≡ 12288) × (length folder.now ≤ 3072) × (length reference.now ≡ 16384)
         × (length pictures.old ≡ 131072) }
 {
@@ -270,8 +300,9 @@ fn cut(full: &[i16], folder: &[u8], reference: &[u8], pictures: &mut [u8]) -> Ru
     let f0 = b"cut-0-first-cut.png";
     let f1 = b"cut-1.png";
     let f2 = b"cut-2.png";
-    let b = opening(full, run, f0, f1, 4, folder, reference, pictures);
+    let b = opening(rt, full, run, f0, f1, 4, folder, reference, pictures)?;
     next(
+        rt,
         b,
         full,
         2,
@@ -289,92 +320,121 @@ fn cut(full: &[i16], folder: &[u8], reference: &[u8], pictures: &mut [u8]) -> Ru
 // ---- all of it
 
 // The pixels of the uncut panel, with which each stage is compared; false where the port refuses.
-fn uncut(full: &[i16], reference: &mut [u8]) -> bool
+fn uncut(rt: &impl Eprint, full: &[i16], reference: &mut [u8]) -> io::Result<bool>
     requires { length full.now ≡ 12288 }
 {
     let done = passes::loaded(full, [0; 10]);
     let t = done.tile;
     let refusal = answer::number_of(t.reconstruct_to_rgba(reference));
     if refusal != 0 {
-        refusals::say(refusal);
-        return false;
+        refusals::say(rt, refusal)?;
+        return Ok(false);
     }
-    true
+    Ok(true)
 }
 
 // What both runs came to, other ladders beside the whole stream's, and the bands.
-fn closing_report(whole: Run, cut: report::Figures, full: &[i16], folder: &[u8], pictures: &[u8])
+fn closing_report(
+    rt: &(impl Files + Print + Eprint),
+    whole: Run,
+    cut: report::Figures,
+    full: &[i16],
+    folder: &[u8],
+    pictures: &[u8],
+) -> io::Result<()>
     requires { (length full.now ≡ 12288) × (length folder.now ≤ 3072) × (length pictures.now ≡ 131072) }
 {
-    report::summary(whole.figures, cut, folder);
+    report::summary(rt, whole.figures, cut, folder)?;
     let t = whole.tile;
-    if !ladders::others(full, t, whole.bits, pictures) {
-        return;
+    if !ladders::others(rt, full, t, whole.bits, pictures)? {
+        return Ok(());
     }
-    if places::save(folder, b"bands.png") {
-        places::legend(folder);
+    if places::save(rt, folder, b"bands.png")? {
+        places::legend(rt, folder)?;
     }
+    Ok(())
 }
 
 // The cut run, the image of both runs, and the end of the report.
-fn after_whole(whole: Run, full: &[i16], folder: &[u8], reference: &[u8], pictures: &mut [u8])
+fn after_whole(
+    rt: &(impl Files + Print + Eprint),
+    whole: Run,
+    full: &[i16],
+    folder: &[u8],
+    reference: &[u8],
+    pictures: &mut [u8],
+) -> io::Result<()>
     requires { (length full.now ≡ 12288) × (length folder.now ≤ 3072) × (length reference.now ≡ 16384)
         × (length pictures.old ≡ 131072) }
 {
-    let b = cut(full, folder, reference, pictures);
+    let b = cut(rt, full, folder, reference, pictures)?;
     if !b.is_good {
-        return;
+        return Ok(());
     }
-    if !images::save_grid(folder, b"sharpening.png", pictures) {
-        return;
+    if !images::save_grid(rt, folder, b"sharpening.png", pictures)? {
+        return Ok(());
     }
-    closing_report(whole, b.figures, full, folder, pictures);
+    closing_report(rt, whole, b.figures, full, folder, pictures)
 }
 
-fn both_runs(full: &[i16], folder: &[u8], reference: &[u8], pictures: &mut [u8])
+fn both_runs(
+    rt: &(impl Files + Print + Eprint),
+    full: &[i16],
+    folder: &[u8],
+    reference: &[u8],
+    pictures: &mut [u8],
+) -> io::Result<()>
     requires { (length full.now ≡ 12288) × (length folder.now ≤ 3072) × (length reference.now ≡ 16384)
         × (length pictures.old ≡ 131072) }
 {
-    let a = whole(full, folder, reference, pictures);
+    let a = whole(rt, full, folder, reference, pictures)?;
     if !a.is_good {
-        return;
+        return Ok(());
     }
-    after_whole(a, full, folder, reference, pictures);
+    after_whole(rt, a, full, folder, reference, pictures)
 }
 
 // Eight pictures, the last of which is ground only, and both runs.
-fn with_reference(full: &[i16], folder: &[u8], reference: &[u8])
+fn with_reference(
+    rt: &(impl Files + Print + Eprint),
+    full: &[i16],
+    folder: &[u8],
+    reference: &[u8],
+) -> io::Result<()>
     requires { (length full.now ≡ 12288) × (length folder.now ≤ 3072) × (length reference.now ≡ 16384) }
 {
     let mut pictures = [0u8; 131072];
     images::ground(reference, &mut pictures);
-    both_runs(full, folder, reference, &mut pictures);
+    both_runs(rt, full, folder, reference, &mut pictures)
 }
 
 // The pixels of the uncut panel come first: with them every stage is compared.
-fn with_panel(full: &[i16], folder: &[u8])
+fn with_panel(rt: &(impl Files + Print + Eprint), full: &[i16], folder: &[u8]) -> io::Result<()>
     requires { (length full.now ≡ 12288) × (length folder.now ≤ 3072) }
 {
     let mut reference = [0u8; bands::PIXEL_BYTES];
-    if !uncut(full, &mut reference) {
-        return;
+    if !uncut(rt, full, &mut reference)? {
+        return Ok(());
     }
-    report::introduce([
-        passes::positions(0),
-        passes::positions(1),
-        passes::positions(2),
-        passes::positions(3),
-    ]);
-    with_reference(full, folder, &reference);
+    report::introduce(
+        rt,
+        [
+            passes::positions(0),
+            passes::positions(1),
+            passes::positions(2),
+            passes::positions(3),
+        ],
+    )?;
+    with_reference(rt, full, folder, &reference)
 }
 
-pub fn demo(folder: &[u8])
+pub fn demo(rt: &(impl Files + Print + Eprint), folder: &[u8]) -> io::Result<()>
     requires { length folder.now ≤ 3072 }
 {
-    if !files::make_folder(folder) {
-        return;
+    if !files::make_folder(rt, folder)? {
+        return Ok(());
     }
     let mut full = [0i16; bands::COEFFICIENTS_PER_TILE];
     panel_picture::panel(&mut full);
-    with_panel(&full, folder);
+    with_panel(rt, &full, folder)
 }

@@ -3,6 +3,7 @@ ghost use Rattle.std.specs.Prelude.{◌≡◌, ◌≤◌, length};
 
 use crate::passes;
 use panel_output::{ladder, refusals};
+use std::io;
 use tile_passes::compare;
 
 // Where a ladder ends: a refusal or 0, the bits of its passes, and its tile.
@@ -74,36 +75,48 @@ fn compare_tiles(
 }
 
 // Makes a ladder of some passes from the first cut and says how it ends beside the whole stream; false where the port refuses.
-fn show(full: &[i16], whole: tile::TileState, picture: &[u8], passes: u8) -> bool
+fn show(
+    rt: &(impl Print + Eprint),
+    full: &[i16],
+    whole: tile::TileState,
+    picture: &[u8],
+    passes: u8,
+) -> io::Result<bool>
     requires { (length full.now ≡ 12288) × (length picture.now ≡ 16384) × (passes ≤ 7) }
 {
     let first = passes::loaded(full, passes::positions(0)).tile;
     let end = climb(full, first, passes);
     if end.refusal != 0 {
-        refusals::say(end.refusal);
-        return false;
+        refusals::say(rt, end.refusal)?;
+        return Ok(false);
     }
     let t = end.tile;
     let mut pixels = [0u8; bands::PIXEL_BYTES];
     let refusal = answer::number_of(t.reconstruct_to_rgba(&mut pixels));
     if refusal != 0 {
-        refusals::say(refusal);
-        return false;
+        refusals::say(rt, refusal)?;
+        return Ok(false);
     }
     let unlike = compare_tiles(whole, picture, t, &pixels);
-    ladder::line(passes, end.bits, unlike);
-    true
+    ladder::line(rt, passes, end.bits, unlike)?;
+    Ok(true)
 }
 
 // A ladder of one pass and one of six, beside the whole stream's three.
-pub fn others(full: &[i16], whole: tile::TileState, bits: u64, pictures: &[u8]) -> bool
+pub fn others(
+    rt: &(impl Print + Eprint),
+    full: &[i16],
+    whole: tile::TileState,
+    bits: u64,
+    pictures: &[u8],
+) -> io::Result<bool>
     requires { (length full.now ≡ 12288) × (length pictures.now ≡ 131072) }
 {
-    ladder::heading(bits);
+    ladder::heading(rt, bits)?;
     let from = bands::PIXEL_BYTES * 3;
     let to = from + bands::PIXEL_BYTES;
-    if !show(full, whole, &pictures[from..to], 1) {
-        return false;
+    if !show(rt, full, whole, &pictures[from..to], 1)? {
+        return Ok(false);
     }
-    show(full, whole, &pictures[from..to], 6)
+    show(rt, full, whole, &pictures[from..to], 6)
 }

@@ -4,48 +4,48 @@
 // whole stream. FOLDER is where the images go, the folder `pictures` if none is named; it is made where it is not there.
 #![tactic(auto)]
 
-use check::same;
 use panel_output::report;
+use std::env::{Env, FillError};
+use std::io;
+use std::rt::Files;
 
 mod demo;
 mod ladders;
 mod passes;
 
+// Whether there is an argument with a number.
+fn has_argument(rt: &impl Env, i: usize) -> bool {
+    !matches!(rt.arg(i, &mut []), Err(FillError::NotPresent))
+}
+
 // Whether the first argument is the word `demo`.
-fn is_demo() -> bool {
+fn is_demo(rt: &impl Env) -> bool {
     let mut word = [0u8; 8];
-    let n = os::arg(1, &mut word);
-    same(&word[..n], b"demo")
+    match rt.arg(1, &mut word) {
+        Ok(n) => &word[..n] == b"demo".as_slice(),
+        Err(_) => false,
+    }
 }
 
 // Runs the demo in the folder that the second argument names.
-fn demo_in_folder() {
+fn demo_in_folder(rt: &(impl Env + Files + Print + Eprint)) -> io::Result<()> {
     let mut folder = [0u8; 3072];
-    let n = os::arg(2, &mut folder);
-    if os::errno() != 0 {
-        os::fail(b"panel: FOLDER");
-        return;
+    match rt.arg(2, &mut folder) {
+        Ok(0) => report::error(rt, b"panel: FOLDER is empty\n"),
+        Ok(n) => demo::demo(rt, &folder[..n]),
+        Err(_) => report::error(rt, b"panel: FOLDER: File name too long\n"),
     }
-    if n == 0 {
-        report::error(b"panel: FOLDER is empty\n");
-        return;
-    }
-    demo::demo(&folder[..n]);
 }
 
-fn main() {
-    let count = os::arg_count();
-    if count < 2 || count > 3 {
-        report::usage();
-        return;
+fn main(rt: HostRuntime) -> io::Result<()> {
+    if !has_argument(&rt, 1) || has_argument(&rt, 3) {
+        return report::usage(&rt);
     }
-    if !is_demo() {
-        report::usage();
-        return;
+    if !is_demo(&rt) {
+        return report::usage(&rt);
     }
-    if count == 3 {
-        demo_in_folder();
-        return;
+    if has_argument(&rt, 2) {
+        return demo_in_folder(&rt);
     }
-    demo::demo(b"pictures");
+    demo::demo(&rt, b"pictures")
 }

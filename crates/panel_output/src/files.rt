@@ -1,6 +1,12 @@
 // Files that appear whole or not at all: written under a temporary name, and renamed once all of it is there.
 ghost use Rattle.std.specs.Prelude.{◌≡◌, ◌+◌, ◌≤◌, length};
 
+use crate::report;
+use std::fs::OpenFile;
+use std::io::ErrorKind;
+use std::rt::Files;
+use std::{fs, io, str};
+
 // Puts bytes into a path from a place on, and answers the place after them.
 fn append(path: &mut [u8], at: usize, bytes: &[u8]) -> usize
     requires { at + length bytes.now ≤ length path.old }
@@ -25,60 +31,99 @@ fn join(folder: &[u8], name: &[u8], ending: &[u8], path: &mut [u8]) -> usize
     append(path, c, ending)
 }
 
-// Makes a folder, unless it is there; false once the reason is reported.
-pub fn make_folder(folder: &[u8]) -> bool {
-    if os::mkdir(folder) >= 0 {
-        return true;
+// A path as text, which is all that std takes.
+fn text(path: &[u8]) -> io::Result<&str> {
+    match str::from_utf8(path) {
+        Ok(text) => Ok(text),
+        Err(_) => Err(io::Error::from(ErrorKind::InvalidFilename)),
     }
-    if os::errno() == libc::EEXIST {
-        return true;
-    }
-    os::fail(folder);
-    false
 }
 
-// Opens a file in a folder for writing, under its temporary name: a descriptor, or a negative number once the reason is reported.
-pub fn open(folder: &[u8], name: &[u8]) -> i32
+fn create_folder(rt: &impl Files, folder: &[u8]) -> io::Result<()> {
+    fs::create_dir(rt, text(folder)?)
+}
+
+// Makes a folder, unless it is there; false once the reason is reported.
+pub fn make_folder(rt: &(impl Files + Eprint), folder: &[u8]) -> io::Result<bool> {
+    match create_folder(rt, folder) {
+        Ok(()) => Ok(true),
+        Err(e) if e.kind() == ErrorKind::AlreadyExists => Ok(true),
+        Err(e) => {
+            report::failure(rt, folder, &e)?;
+            Ok(false)
+        }
+    }
+}
+
+fn create<R: Files>(rt: &R, path: &[u8]) -> io::Result<R::File> {
+    fs::create(rt, text(path)?)
+}
+
+// Opens a file in a folder for writing, under its temporary name; none once the reason is reported.
+pub fn open<R: Files + Eprint>(rt: &R, folder: &[u8], name: &[u8]) -> io::Result<Option<R::File>>
     requires { (length folder.now ≤ 3072) × (length name.now ≤ 64) }
 {
-    let mut part = io::buffer();
+    let mut part = [0u8; 4096];
     let n = join(folder, name, b".part", &mut part);
-    let fd = os::open_overwrite(&part[..n]);
-    if fd < 0 {
-        os::fail(&part[..n]);
+    match create(rt, &part[..n]) {
+        Ok(file) => Ok(Some(file)),
+        Err(e) => {
+            report::failure(rt, &part[..n], &e)?;
+            Ok(None)
+        }
     }
-    fd
 }
 
-// Reports why a file could not be written, and removes what there is of it.
-fn give_up(path: &[u8], part: &[u8]) -> bool {
-    os::fail(path);
-    os::unlink(part);
-    false
+// Removes what there is of a file. Where that fails too, there is nothing left to do.
+fn remove(rt: &impl Files, part: &[u8]) {
+    if let Ok(path) = text(part) {
+        let _ = fs::remove_file(rt, path);
+    }
+}
+
+// Closes a file of which all was written, once the system has it, and gives it its name.
+fn finish<F: OpenFile + Drop>(
+    rt: &impl Files,
+    file: F,
+    path: &[u8],
+    part: &[u8],
+) -> io::Result<()> {
+    file.sync_all()?;
+    drop(file);
+    fs::rename(rt, text(part)?, text(path)?)
+}
+
+// Finishes a file; where something failed, the reason is reported, and what there is of the file removed. Whether the file is there now.
+fn close_paths<R: Files + Eprint>(
+    rt: &R,
+    written: io::Result<R::File>,
+    path: &[u8],
+    part: &[u8],
+) -> io::Result<bool> {
+    let finished = match written {
+        Ok(file) => finish(rt, file, path, part),
+        Err(e) => Err(e),
+    };
+    let Err(e) = finished else {
+        return Ok(true);
+    };
+    remove(rt, part);
+    report::failure(rt, path, &e)?;
+    Ok(false)
 }
 
 // Closes a file that was opened so, and gives it its name where all of it was written; whether the file is there now.
-fn close_paths(fd: i32, is_whole: bool, path: &[u8], part: &[u8]) -> bool {
-    if !is_whole {
-        let gone = give_up(path, part);
-        libc::close(fd);
-        return gone;
-    }
-    if libc::close(fd) < 0 {
-        return give_up(path, part);
-    }
-    if os::rename(part, path) < 0 {
-        return give_up(path, part);
-    }
-    true
-}
-
-pub fn close(folder: &[u8], name: &[u8], fd: i32, is_whole: bool) -> bool
+pub fn close<R: Files + Eprint>(
+    rt: &R,
+    folder: &[u8],
+    name: &[u8],
+    written: io::Result<R::File>,
+) -> io::Result<bool>
     requires { (length folder.now ≤ 3072) × (length name.now ≤ 64) }
 {
-    let mut path = io::buffer();
-    let mut part = io::buffer();
+    let mut path = [0u8; 4096];
+    let mut part = [0u8; 4096];
     let n = join(folder, name, b"", &mut path);
     let m = join(folder, name, b".part", &mut part);
-    close_paths(fd, is_whole, &path[..n], &part[..m])
+    close_paths(rt, written, &path[..n], &part[..m])
 }

@@ -4,6 +4,9 @@ ghost use Rattle.std.specs.Prelude.{◌≡◌, ◌+◌, ◌*◌, ◌≤◌, ◌<
 
 use crate::files;
 use panel_png::writer;
+use std::io;
+use std::io::Write;
+use std::rt::Files;
 
 // Copies red, green and blue.
 pub fn pixel(source: &[u8], from: usize, out: &mut [u8], to: usize)
@@ -50,7 +53,12 @@ fn doubled(pictures: &[u8], from: usize, out: &mut [u8], at: usize)
 // ---- one stage. A line begins with a byte 0: it has no filter
 
 // Writes a line of the image, from the 64 pixels from a byte on.
-fn stage_line(png: writer::Png, pictures: &[u8], from: usize, is_last: bool) -> writer::Png
+fn stage_line<W: Write + Drop>(
+    png: writer::Png<W>,
+    pictures: &[u8],
+    from: usize,
+    is_last: bool,
+) -> io::Result<writer::Png<W>>
     requires { from + 256 ≤ length pictures.now }
 {
     let mut twice = [0u8; 384];
@@ -61,28 +69,43 @@ fn stage_line(png: writer::Png, pictures: &[u8], from: usize, is_last: bool) -> 
 }
 
 // Writes the lines of the image of a picture.
-fn stage_lines(png: writer::Png, pictures: &[u8], picture: usize) -> writer::Png
+fn stage_lines<W: Write + Drop>(
+    png: writer::Png<W>,
+    pictures: &[u8],
+    picture: usize,
+) -> io::Result<writer::Png<W>>
     requires { (picture < 8) × (length pictures.now ≡ 131072) }
 {
     let mut image = png;
     let mut y: usize = 0;
     while y < 256 {
-        image = stage_line(image, pictures, 16384 * picture + 256 * (y / 4), y == 255);
+        image = stage_line(image, pictures, 16384 * picture + 256 * (y / 4), y == 255)?;
         y += 1;
     }
-    image
+    Ok(image)
+}
+
+// Writes the image of a picture, and hands back what it was written to.
+fn stage_image<W: Write + Drop>(out: W, pictures: &[u8], picture: usize) -> io::Result<W>
+    requires { (picture < 8) × (length pictures.now ≡ 131072) }
+{
+    writer::end(stage_lines(writer::begin(out, 256, 256)?, pictures, picture)?)
 }
 
 // Writes the image of a picture; whether it is there now.
-pub fn save_stage(folder: &[u8], name: &[u8], pictures: &[u8], picture: usize) -> bool
+pub fn save_stage<R: Files + Eprint>(
+    rt: &R,
+    folder: &[u8],
+    name: &[u8],
+    pictures: &[u8],
+    picture: usize,
+) -> io::Result<bool>
     requires { (picture < 8) × (length folder.now ≤ 3072) × (length name.now ≤ 64) × (length pictures.now ≡ 131072) }
 {
-    let fd = files::open(folder, name);
-    if fd < 0 {
-        return false;
-    }
-    let image = stage_lines(writer::begin(fd, 256, 256), pictures, picture);
-    files::close(folder, name, fd, writer::end(image))
+    let Some(file) = files::open(rt, folder, name)? else {
+        return Ok(false);
+    };
+    files::close(rt, folder, name, stage_image(file, pictures, picture))
 }
 
 // ---- all stages
@@ -110,7 +133,11 @@ fn four_pictures(pictures: &[u8], from: usize, line: &mut [u8])
 }
 
 // Writes a line of the grid: white, and pictures where it is not in a gap.
-fn grid_line(png: writer::Png, pictures: &[u8], y: usize) -> writer::Png
+fn grid_line<W: Write + Drop>(
+    png: writer::Png<W>,
+    pictures: &[u8],
+    y: usize,
+) -> io::Result<writer::Png<W>>
     requires { (y < 280) × (length pictures.now ≡ 131072) }
 {
     let mut line = [255u8; 1657];
@@ -127,26 +154,36 @@ fn grid_line(png: writer::Png, pictures: &[u8], y: usize) -> writer::Png
     writer::row(png, &line, false)
 }
 
-fn grid_lines(png: writer::Png, pictures: &[u8]) -> writer::Png
+fn grid_lines<W: Write + Drop>(png: writer::Png<W>, pictures: &[u8]) -> io::Result<writer::Png<W>>
     requires { length pictures.now ≡ 131072 }
 {
     let mut image = png;
     let mut y: usize = 0;
     while y < 280 {
-        image = grid_line(image, pictures, y);
+        image = grid_line(image, pictures, y)?;
         y += 1;
     }
-    image
+    Ok(image)
+}
+
+// Writes the image of all eight pictures, and hands back what it was written to.
+fn grid_image<W: Write + Drop>(out: W, pictures: &[u8]) -> io::Result<W>
+    requires { length pictures.now ≡ 131072 }
+{
+    writer::end(grid_lines(writer::begin(out, 552, 280)?, pictures)?)
 }
 
 // Writes the image of all eight pictures, two rows of four; whether it is there now.
-pub fn save_grid(folder: &[u8], name: &[u8], pictures: &[u8]) -> bool
+pub fn save_grid<R: Files + Eprint>(
+    rt: &R,
+    folder: &[u8],
+    name: &[u8],
+    pictures: &[u8],
+) -> io::Result<bool>
     requires { (length folder.now ≤ 3072) × (length name.now ≤ 64) × (length pictures.now ≡ 131072) }
 {
-    let fd = files::open(folder, name);
-    if fd < 0 {
-        return false;
-    }
-    let image = grid_lines(writer::begin(fd, 552, 280), pictures);
-    files::close(folder, name, fd, writer::end(image))
+    let Some(file) = files::open(rt, folder, name)? else {
+        return Ok(false);
+    };
+    files::close(rt, folder, name, grid_image(file, pictures))
 }

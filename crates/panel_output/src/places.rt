@@ -4,6 +4,9 @@ ghost use Rattle.std.specs.Prelude.{◌≡◌, ◌+◌, ◌≤◌, ◌<◌, leng
 
 use crate::{files, images, report};
 use panel_png::writer;
+use std::io;
+use std::io::Write;
+use std::rt::Files;
 
 // The red, green and blue of a band, by its number; white for any other number.
 fn colour(band: u8) -> [u8; 3] {
@@ -23,12 +26,13 @@ fn colour(band: u8) -> [u8; 3] {
 }
 
 // Says which colour a band has, and where the image is.
-pub fn legend(folder: &[u8]) {
+pub fn legend(rt: &impl Print, folder: &[u8]) -> io::Result<()> {
     report::text(
+        rt,
         b"\nbands: HL1 red, LH1 green, HH1 blue, HL2 orange, LH2 purple, HH2 yellow, HL3 cyan, LH3 pink, HH3 brown, LL3 black\nThe 4096 places of a component by band, 64 a row, reduce-extrapolate left and standard right: ",
-    );
-    report::text(folder);
-    report::text(b"/bands.png\n");
+    )?;
+    report::text(rt, folder)?;
+    report::text(rt, b"/bands.png\n")
 }
 
 // Writes the colour of a band at a byte.
@@ -62,7 +66,12 @@ fn enlarged(bands: &[u8], row: usize, line: &mut [u8], at: usize)
 }
 
 // Writes a line of the image: white in the margins of eight pixels, and places of both layouts.
-fn image_line(png: writer::Png, left: &[u8], right: &[u8], y: usize) -> writer::Png
+fn image_line<W: Write + Drop>(
+    png: writer::Png<W>,
+    left: &[u8],
+    right: &[u8],
+    y: usize,
+) -> io::Result<writer::Png<W>>
     requires { (y < 272) × (length left.now ≡ 4096) × (length right.now ≡ 4096) }
 {
     let mut line = [255u8; 1609];
@@ -79,28 +88,37 @@ fn image_line(png: writer::Png, left: &[u8], right: &[u8], y: usize) -> writer::
     writer::row(png, &line, false)
 }
 
-fn image_lines(png: writer::Png, left: &[u8], right: &[u8]) -> writer::Png
+fn image_lines<W: Write + Drop>(
+    png: writer::Png<W>,
+    left: &[u8],
+    right: &[u8],
+) -> io::Result<writer::Png<W>>
     requires { (length left.now ≡ 4096) × (length right.now ≡ 4096) }
 {
     let mut image = png;
     let mut y: usize = 0;
     while y < 272 {
-        image = image_line(image, left, right, y);
+        image = image_line(image, left, right, y)?;
         y += 1;
     }
-    image
+    Ok(image)
+}
+
+// Writes the image by the bands of both layouts, and hands back what it was written to.
+fn image<W: Write + Drop>(out: W, left: &[u8], right: &[u8]) -> io::Result<W>
+    requires { (length left.now ≡ 4096) × (length right.now ≡ 4096) }
+{
+    writer::end(image_lines(writer::begin(out, 536, 272)?, left, right)?)
 }
 
 // Writes the image; whether it is there now.
-pub fn save(folder: &[u8], name: &[u8]) -> bool
+pub fn save<R: Files + Eprint>(rt: &R, folder: &[u8], name: &[u8]) -> io::Result<bool>
     requires { (length folder.now ≤ 3072) × (length name.now ≤ 64) }
 {
     let extrapolate = bands::bands_of_places(true);
     let standard = bands::bands_of_places(false);
-    let fd = files::open(folder, name);
-    if fd < 0 {
-        return false;
-    }
-    let image = image_lines(writer::begin(fd, 536, 272), &extrapolate, &standard);
-    files::close(folder, name, fd, writer::end(image))
+    let Some(file) = files::open(rt, folder, name)? else {
+        return Ok(false);
+    };
+    files::close(rt, folder, name, image(file, &extrapolate, &standard))
 }

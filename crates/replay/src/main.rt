@@ -2,8 +2,11 @@
 // compares; writes a line for each kind with the number of cases and of differences, and shows the first case of each kind that differs.
 #![tactic(auto)]
 
-use libc::STDIN_FILENO;
+ghost use Rattle.std.specs.Prelude.{◌≤◌, length};
+
 use replay_input::{number, report, sizes};
+use std::io;
+use std::io::Read;
 
 mod cuts;
 mod kinds;
@@ -26,117 +29,154 @@ enum Found {
 }
 
 // Replays one case, which is counted.
-fn replay_case(kind: u8, case: &[u8], cases: &mut [u64; 256], differences: &mut [u64; 256]) {
+fn replay_case(
+    rt: &impl Print,
+    kind: u8,
+    case: &[u8],
+    cases: &mut [u64; 256],
+    differences: &mut [u64; 256],
+) -> io::Result<()> {
     let k = kind as usize;
     cases[k] = std::num::wrapping_add_u64(cases[k], 1);
     if kinds::agrees(kind, case) {
-        return;
+        return Ok(());
     }
     if differences[k] == 0 {
-        report::difference(kind, cases[k], case);
+        report::difference(rt, kind, cases[k], case)?;
     }
     differences[k] = std::num::wrapping_add_u64(differences[k], 1);
+    Ok(())
 }
 
 // Replays the cases of a payload, which lie one after another unless it is one case; false where bytes are left over.
 fn replay_cases(
+    rt: &impl Print,
     kind: u8,
     payload: &[u8],
     cases: &mut [u64; 256],
     differences: &mut [u64; 256],
-) -> bool {
+) -> io::Result<bool> {
     if sizes::is_one_case(kind) {
-        replay_case(kind, payload, cases, differences);
-        return true;
+        replay_case(rt, kind, payload, cases, differences)?;
+        return Ok(true);
     }
     let size = sizes::case_size(kind);
     if size == 0 {
-        return false;
+        return Ok(false);
     }
     let mut at: usize = 0;
     while at < payload.len() {
         if payload.len() - at < size {
-            return false;
+            return Ok(false);
         }
         let end = at + size;
-        replay_case(kind, &payload[at..end], cases, differences);
+        replay_case(rt, kind, &payload[at..end], cases, differences)?;
         at = end;
     }
-    true
+    Ok(true)
+}
+
+// Reads until `buffer` is full, the input ends or a read fails: how many bytes it then holds.
+fn read_full(input: &mut impl Read, buffer: &mut [u8]) -> usize
+    ensures { result ≤ length buffer.new }
+{
+    let mut done: usize = 0;
+    while done < buffer.len() {
+        let Ok(n) = input.read(&mut buffer[done..]) else {
+            return done;
+        };
+        if n == 0 {
+            return done;
+        }
+        done += n;
+    }
+    done
 }
 
 // Reads a payload of `len` bytes into `buffer` and replays it; false where the input has fewer bytes, or some are left over.
 fn replay_payload(
+    rt: &impl Print,
+    input: &mut impl Read,
     kind: u8,
     buffer: &mut [u8],
     len: usize,
     cases: &mut [u64; 256],
     differences: &mut [u64; 256],
-) -> bool {
+) -> io::Result<bool> {
     if len > buffer.len() {
-        return false;
+        return Ok(false);
     }
-    if io::read_full(STDIN_FILENO, &mut buffer[..len]) != len {
-        return false;
+    if read_full(input, &mut buffer[..len]) != len {
+        return Ok(false);
     }
-    replay_cases(kind, &buffer[..len], cases, differences)
+    replay_cases(rt, kind, &buffer[..len], cases, differences)
 }
 
 // Reads one record into `buffer` and replays it.
 fn replay_record(
+    rt: &impl Print,
+    input: &mut impl Read,
     buffer: &mut [u8; 65536],
     cases: &mut [u64; 256],
     differences: &mut [u64; 256],
-) -> Found {
+) -> io::Result<Found> {
     let mut head = [0u8; 5];
-    let got = io::read_full(STDIN_FILENO, &mut head);
+    let got = read_full(input, &mut head);
     if got < 5 {
-        return Found::Cut;
+        return Ok(Found::Cut);
     }
     let kind = head[0];
     if kind == 0 {
-        return Found::End;
+        return Ok(Found::End);
     }
     let len = number::u32_at(&head, 1);
     if !sizes::is_known(kind) {
-        return Found::Unknown;
+        return Ok(Found::Unknown);
     }
     if len > 65536 {
-        return Found::Long;
+        return Ok(Found::Long);
     }
-    if replay_payload(kind, buffer, len as usize, cases, differences) {
-        return Found::Record;
+    if replay_payload(rt, input, kind, buffer, len as usize, cases, differences)? {
+        return Ok(Found::Record);
     }
-    Found::Cut
+    Ok(Found::Cut)
 }
 
 // Replays records up to the end of the input, or up to what cannot be replayed. A proved loop has to end, so it counts its turns down from
 // a number that no run uses up.
-fn replay_all(cases: &mut [u64; 256], differences: &mut [u64; 256]) -> Found {
-    let mut buffer = io::large_buffer();
+fn replay_all(
+    rt: &impl Print,
+    input: &mut impl Read,
+    cases: &mut [u64; 256],
+    differences: &mut [u64; 256],
+) -> io::Result<Found> {
+    let mut buffer = [0u8; 65536];
     let mut turns = u64::MAX;
     while turns > 0 {
-        let found = replay_record(&mut buffer, cases, differences);
+        let found = replay_record(rt, input, &mut buffer, cases, differences)?;
         let Found::Record = found else {
-            return found;
+            return Ok(found);
         };
         turns -= 1;
     }
-    Found::Record
+    Ok(Found::Record)
 }
 
-fn main() {
+// How the run ended, in words.
+fn ending(found: Found) -> &'static [u8] {
+    match found {
+        Found::End => b"the recording was read to its end\n",
+        Found::Record => b"the recording goes on\n",
+        Found::Cut => b"the recording is cut\n",
+        Found::Unknown => b"a record of an unknown kind: nothing after it was read\n",
+        Found::Long => b"a record of more than 65536 bytes: nothing after it was read\n",
+    }
+}
+
+fn main(rt: HostRuntime) -> io::Result<()> {
     let mut cases = [0u64; 256];
     let mut differences = [0u64; 256];
-    let found = replay_all(&mut cases, &mut differences);
-    report::kinds(&cases, &differences);
-    match found {
-        Found::End => report::line(b"the recording was read to its end\n"),
-        Found::Record => report::line(b"the recording goes on\n"),
-        Found::Cut => report::line(b"the recording is cut\n"),
-        Found::Unknown => report::line(b"a record of an unknown kind: nothing after it was read\n"),
-        Found::Long => report::line(
-            b"a record of more than 65536 bytes: nothing after it was read\n",
-        ),
-    }
+    let found = replay_all(&rt, &mut rt.reader(), &mut cases, &mut differences)?;
+    report::kinds(&rt, &cases, &differences)?;
+    report::line(&rt, ending(found))
 }

@@ -2,10 +2,10 @@
 ghost use Rattle.std.specs.Prelude.{◌≤◌, length};
 
 use crate::sizes;
-use libc::STDOUT_FILENO;
+use std::io;
 
-pub fn line(text: &[u8]) {
-    io::write_all(STDOUT_FILENO, text);
+pub fn line(rt: &impl Print, text: &[u8]) -> io::Result<()> {
+    rt.write_all(text)
 }
 
 // The first space at or after a place, or the text's end.
@@ -40,67 +40,67 @@ fn word_start(text: &[u8], number: u8) -> usize
     at
 }
 
-fn word(text: &[u8], number: u8) {
+fn word(rt: &impl Print, text: &[u8], number: u8) -> io::Result<()> {
     let start = word_start(text, number);
     let end = space_from(text, start);
-    line(&text[start..end]);
+    line(rt, &text[start..end])
 }
 
 // A kind's name: the names stand at the kinds' numbers.
-fn name(kind: u8) {
+fn name(rt: &impl Print, kind: u8) -> io::Result<()> {
     word(
+        rt,
         b"- clamp_i16 clamp_u8 t round_shift_right shift_left_clamp shift_right_floor add_scaled sub_scaled sub_clamp magnitude with_sign sign_of halves widen sign_use - - - - band ll3_offset band_of_place - - - - - - - - wrong_answer srl_decode srl_encode srl_exhaustive wrong_case decode_upgrade encode_upgrade dequantize tile_load upgrade_ladder dwt_decode dwt_impulse ycbcr_to_rgb ycbcr_row tile_pixels cut_everywhere encode_symmetric",
         kind,
-    );
+    )
 }
 
 // The counts, after a name.
-fn counts(cases: u64, differences: u64) {
-    line(b": ");
-    io::print_decimal(STDOUT_FILENO, cases);
-    line(b" cases, ");
-    io::print_decimal(STDOUT_FILENO, differences);
-    line(b" differences\n");
+fn counts(rt: &impl Print, cases: u64, differences: u64) -> io::Result<()> {
+    print!(rt; ": {cases} cases, {differences} differences\n")
 }
 
 // A byte in hexadecimal, after a space.
-fn byte(b: u8) {
-    line(b" ");
-    io::print_hex(STDOUT_FILENO, b as u64, 2);
+fn byte(rt: &impl Print, b: u8) -> io::Result<()> {
+    print!(rt; " {b:02x}")
 }
 
-fn bytes(s: &[u8]) {
+fn bytes(rt: &impl Print, s: &[u8]) -> io::Result<()> {
     let mut i: usize = 0;
     while i < s.len() {
-        byte(s[i]);
+        byte(rt, s[i])?;
         i += 1;
     }
+    Ok(())
 }
 
 // A case's kind, and its number within the kind.
-fn case_number(kind: u8, number: u64) {
-    name(kind);
-    line(b", case ");
-    io::print_decimal(STDOUT_FILENO, number);
-    line(b":");
+fn case_number(rt: &impl Print, kind: u8, number: u64) -> io::Result<()> {
+    name(rt, kind)?;
+    print!(rt; ", case {number}:")
 }
 
 // A case in which the port does not agree, with its bytes.
-pub fn difference(kind: u8, number: u64, case: &[u8]) {
-    line(b"difference: ");
-    case_number(kind, number);
-    bytes(case);
-    line(b"\n");
+pub fn difference(rt: &impl Print, kind: u8, number: u64, case: &[u8]) -> io::Result<()> {
+    line(rt, b"difference: ")?;
+    case_number(rt, kind, number)?;
+    bytes(rt, case)?;
+    line(rt, b"\n")
 }
 
 // One kind's line.
-fn kind_line(kind: u8, cases: &[u64; 256], differences: &[u64; 256]) {
+fn kind_line(
+    rt: &impl Print,
+    kind: u8,
+    cases: &[u64; 256],
+    differences: &[u64; 256],
+) -> io::Result<()> {
     let k = kind as usize;
     if !sizes::is_known(kind) {
-        return;
+        return Ok(());
     }
-    name(kind);
-    counts(cases[k], differences[k]);
+    name(rt, kind)?;
+    counts(rt, cases[k], differences[k])
 }
 
 fn total(numbers: &[u64; 256]) -> u64 {
@@ -114,12 +114,12 @@ fn total(numbers: &[u64; 256]) -> u64 {
 }
 
 // A line for each kind, and one for all.
-pub fn kinds(cases: &[u64; 256], differences: &[u64; 256]) {
+pub fn kinds(rt: &impl Print, cases: &[u64; 256], differences: &[u64; 256]) -> io::Result<()> {
     let mut kind: u8 = 0;
     while kind < 255 {
-        kind_line(kind, cases, differences);
+        kind_line(rt, kind, cases, differences)?;
         kind += 1;
     }
-    line(b"all");
-    counts(total(cases), total(differences));
+    line(rt, b"all")?;
+    counts(rt, total(cases), total(differences))
 }

@@ -3,7 +3,7 @@ use Rattle.std.proofs.Common.{◌-◌, ◌≤◌, rules}
 use Rattle.ladder_runs.proofs.run.Given as goal
 
 abbrev pub invariant-loop-n : goal.invariant-loop-n
-invariant-loop-n l = l.n ≤ l.cases
+invariant-loop-n g l = l.n ≤ l.cases
 
 abbrev pub decreases-loop-n : goal.decreases-loop-n
-decreases-loop-n l = l.cases - l.n
+decreases-loop-n g l = l.cases - l.n

@@ -3,7 +3,7 @@ use Rattle.std.proofs.Common.{◌-◌, ◌<◌, ◌≤◌, length, rules}
 use Rattle.replay.proofs.replay_cases.Given as goal
 
 abbrev pub invariant-loop-at : goal.invariant-loop-at
-invariant-loop-at l = (l.at ≤ length l.payload) × (0 < l.size)
+invariant-loop-at g l = (l.at ≤ length l.payload) × (0 < l.size)
 
 abbrev pub decreases-loop-at : goal.decreases-loop-at
-decreases-loop-at l = length l.payload - l.at
+decreases-loop-at g l = length l.payload - l.at

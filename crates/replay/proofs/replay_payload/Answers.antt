@@ -3,7 +3,7 @@ use Rattle.std.proofs.Common.{arith, length-take, rules}
 use Rattle.replay.proofs.replay_payload.Goals as goal
 
 pub slice_bounds-read_full-end-2 : goal.slice_bounds-read_full-end-2
-slice_bounds-read_full-end-2 c = simp length-take (omega arith)
+slice_bounds-read_full-end-2 g c = simp length-take (omega arith)
 
 pub slice_bounds-replay_cases-end-2 : goal.slice_bounds-replay_cases-end-2
-slice_bounds-replay_cases-end-2 c = simp length-take (omega arith)
+slice_bounds-replay_cases-end-2 g c = simp length-take (omega arith)

@@ -1,7 +1,5 @@
 -- `samples::alike` is safe and ends. Assumes nothing.
-use Prim.Native.Nat.{◌≤◌, ◌-◌}
-use lib.ListN.{length}
-use borrow.Author.Rules.{rules}
+use Rattle.std.proofs.Common.{length, rules, ◌-◌, ◌≤◌}
 use Rattle.samples.proofs.alike.Given as goal
 
 abbrev pub invariant-loop-i : goal.invariant-loop-i

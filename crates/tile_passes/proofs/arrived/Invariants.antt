@@ -1,5 +1,5 @@
 -- `tile_passes::arrived` is safe and ends. Assumes nothing.
-use Rattle.std.proofs.Common.{◌-◌, ◌≤◌, rules}
+use Rattle.std.proofs.Common.{◌-◌, ◌≤◌}
 use Rattle.tile_passes.proofs.arrived.Given as goal
 
 abbrev pub invariant-loop-i : goal.invariant-loop-i

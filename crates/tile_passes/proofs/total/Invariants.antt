@@ -1,5 +1,5 @@
 -- `tile_passes::total` meets its contract. Assumes nothing.
-use Rattle.std.proofs.Common.{◌-◌, ◌*◌, ◌≤◌, rules}
+use Rattle.std.proofs.Common.{◌-◌, ◌*◌, ◌≤◌}
 use Rattle.tile_passes.proofs.total.Given as goal
 
 abbrev pub invariant-loop-i : goal.invariant-loop-i

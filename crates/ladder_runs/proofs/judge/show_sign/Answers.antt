@@ -4,7 +4,7 @@ use Rattle.fixed.proofs.Machine.{signed}
 use Rattle.ladder_runs.proofs.judge.show_sign.Goals as goal
 
 pub overflow_cast-found : goal.overflow_cast-found
-overflow_cast-found c = search signed depth 20
+overflow_cast-found g c = search signed depth 20
 
 pub difference-requires : goal.difference-requires
-difference-requires c = search signed depth 20
+difference-requires g c = search signed depth 20

@@ -1,9 +1,5 @@
 -- `panel_output::files::append` meets its contract. Assumes nothing.
-use mathlib.Core.Path.{◌≡◌}
-use Prim.Native.Nat.{◌-◌, ◌≤◌}
-use native.Mathlib.Omega.{arith}
-use lib.ListN.{length, length-set}
-use borrow.Author.Rules.{rules}
+use Rattle.std.proofs.Common.{arith, length-set}
 use Rattle.panel_output.proofs.files.append.Goals as goal
 
 pub loop-i-preserved : goal.loop-i-preserved

@@ -1,9 +1,6 @@
 -- `panel_output::files::append` meets its contract. Assumes nothing.
 use mathlib.Core.Path.{◌≡◌}
-use Prim.Native.Nat.{◌-◌, ◌≤◌}
-use native.Mathlib.Omega.{arith}
-use lib.ListN.{length, length-set}
-use borrow.Author.Rules.{rules}
+use Rattle.std.proofs.Common.{length, ◌-◌, ◌≤◌}
 use Rattle.panel_output.proofs.files.append.Given as goal
 
 abbrev pub invariant-loop-i : goal.invariant-loop-i

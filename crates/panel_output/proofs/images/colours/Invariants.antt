@@ -1,8 +1,6 @@
 -- `panel_output::images::colours` is safe and ends. Assumes nothing.
 use mathlib.Core.Path.{◌≡◌}
-use Prim.Native.Nat.{◌-◌, ◌≤◌}
-use lib.ListN.{length}
-use borrow.Author.Rules.{rules}
+use Rattle.std.proofs.Common.{length, ◌-◌, ◌≤◌}
 use Rattle.panel_output.proofs.images.colours.Given as goal
 
 abbrev pub invariant-loop-x : goal.invariant-loop-x

@@ -1,8 +1,6 @@
 -- `panel_output::images::four_pictures` is safe and ends. Assumes nothing.
 use mathlib.Core.Path.{◌≡◌}
-use Prim.Native.Nat.{◌-◌, ◌≤◌}
-use lib.ListN.{length}
-use borrow.Author.Rules.{rules}
+use Rattle.std.proofs.Common.{length, ◌-◌, ◌≤◌}
 use Rattle.panel_output.proofs.images.four_pictures.Given as goal
 
 abbrev pub invariant-loop-k : goal.invariant-loop-k

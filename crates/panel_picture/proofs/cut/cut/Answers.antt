@@ -3,7 +3,6 @@ use mathlib.Core.Path.{ap, ◌∙◌}
 use lib.IntN.{ℤ}
 use mir.Syntax.{w16}
 use mir.ValLaws.{to_z-of_z}
-use borrow.Author.Rules.{rules}
 use Rattle.fixed.specs.Fixed.{clamp_i16}
 use Rattle.fixed.specs.Cut.{toward_zero, downward}
 use Rattle.fixed.proofs.Machine.{got}

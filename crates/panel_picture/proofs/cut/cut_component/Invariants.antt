@@ -1,8 +1,6 @@
 -- `panel_picture::cut::cut_component` is safe and ends. Assumes nothing.
 use mathlib.Core.Path.{◌≡◌}
-use Prim.Native.Nat.{◌-◌, ◌≤◌}
-use lib.ListN.{length}
-use borrow.Author.Rules.{rules}
+use Rattle.std.proofs.Common.{length, ◌-◌, ◌≤◌}
 use Rattle.panel_picture.proofs.cut.cut_component.Given as goal
 
 abbrev pub invariant-loop-b : goal.invariant-loop-b

@@ -1,10 +1,8 @@
 -- `panel_picture::cut::low_bits` meets its contract. Assumes nothing.
 use mathlib.Core.Path.{◌≡◌, sym, ap}
-use Prim.Native.Nat.{ℕ, ◌*◌, ◌%◌, ◌^◌, ◌≤◌}
 use native.Mathlib.Nat.{mod-eq_of_lt}
-use native.Mathlib.Omega.{arith}
 use lib.Pow.{pow_pos, pow_mono}
-use borrow.Author.Rules.{rules}
+use Rattle.std.proofs.Common.{arith, ℕ, ◌%◌, ◌*◌, ◌^◌, ◌≤◌}
 use Rattle.fixed.proofs.Shift.{power_small}
 use Rattle.panel_picture.proofs.cut.low_bits.Goals as goal
 

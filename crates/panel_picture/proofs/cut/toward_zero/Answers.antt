@@ -1,14 +1,12 @@
 -- `panel_picture::cut::toward_zero` meets its contract. Assumes nothing.
 use mathlib.Core.Path.{◌≡◌, ap, ◌∙◌}
 use mathlib.Core.Bool.{Bool}
-use Prim.Native.Nat.{ℕ, ◌-◌, ◌%◌, ◌^◌, ◌<◌}
 use native.Mathlib.Nat.{mod-le}
-use native.Mathlib.Omega.{arith}
 use lib.IntN.{ℤ, nat_abs}
 use lib.Signed.{mag}
 use mir.Syntax.{w16}
 use mir.Val.{to_z, of_z}
-use borrow.Author.Rules.{rules}
+use Rattle.std.proofs.Common.{arith, ℕ, ◌%◌, ◌-◌, ◌<◌, ◌^◌}
 use Rattle.fixed.specs.Fixed.{clamp_i16, is_negative, with_sign}
 use Rattle.fixed.specs.Cut.{toward_zero}
 use Rattle.fixed.proofs.Cuts.{toward_clamped}

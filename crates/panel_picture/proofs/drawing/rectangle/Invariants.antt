@@ -1,8 +1,6 @@
 -- `panel_picture::drawing::rectangle` is safe and ends. Assumes nothing.
 use mathlib.Core.Path.{◌≡◌}
-use Prim.Native.Nat.{◌-◌, ◌≤◌}
-use lib.ListN.{length}
-use borrow.Author.Rules.{rules}
+use Rattle.std.proofs.Common.{length, ◌-◌, ◌≤◌}
 use Rattle.panel_picture.proofs.drawing.rectangle.Given as goal
 
 abbrev pub invariant-loop-row : goal.invariant-loop-row

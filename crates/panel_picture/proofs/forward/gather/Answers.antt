@@ -1,10 +1,7 @@
 -- `panel_picture::forward::gather` is safe and ends. Assumes nothing.
 use mathlib.Core.Path.{◌≡◌}
-use Prim.Native.Nat.{ℕ, ◌+◌, ◌-◌, ◌*◌, ◌≤◌, ◌<◌}
-use native.Mathlib.Omega.{arith}
-use lib.ListN.{length}
-use borrow.Author.Rules.{rules}
 use native.Mathlib.Nat.{add-mul}
+use Rattle.std.proofs.Common.{arith, ℕ, ◌*◌, ◌+◌, ◌-◌, ◌<◌, ◌≤◌}
 use Rattle.panel_picture.proofs.forward.gather.Goals as goal
 
 scale : (a b c k : ℕ) → a ≡ b + c → a * k ≡ b * k + c * k

@@ -1,10 +1,6 @@
 -- `panel_picture::forward::gather` is safe and ends. Assumes nothing.
 use mathlib.Core.Path.{◌≡◌}
-use Prim.Native.Nat.{ℕ, ◌+◌, ◌-◌, ◌*◌, ◌≤◌, ◌<◌}
-use native.Mathlib.Omega.{arith}
-use lib.ListN.{length}
-use borrow.Author.Rules.{rules}
-use native.Mathlib.Nat.{add-mul}
+use Rattle.std.proofs.Common.{length, ◌*◌, ◌+◌, ◌-◌, ◌≤◌}
 use Rattle.panel_picture.proofs.forward.gather.Given as goal
 
 abbrev pub invariant-loop-row : goal.invariant-loop-row

@@ -1,6 +1,5 @@
 -- `panel_picture::forward::high_sample` meets its contract. Assumes nothing.
 use mathlib.Core.Path.{◌≡◌, refl, ap, ◌∙◌}
-use borrow.Author.Rules.{rules}
 use lib.IntN.{ℤ, ◌+ℤ◌, ◌-ℤ◌}
 use mir.Syntax.{w16}
 use Rattle.fixed.specs.Fixed.{wrap_i16, half_toward_zero}

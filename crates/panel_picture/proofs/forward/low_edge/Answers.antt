@@ -1,6 +1,5 @@
 -- `panel_picture::forward::low_edge` meets its contract. Assumes nothing.
 use mathlib.Core.Path.{ap, ◌∙◌}
-use borrow.Author.Rules.{rules}
 use mir.Syntax.{w16}
 use Rattle.fixed.specs.Fixed.{wrap_i16}
 use Rattle.fixed.proofs.Machine.{signed, exact, got}

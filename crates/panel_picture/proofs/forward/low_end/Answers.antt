@@ -1,7 +1,5 @@
 -- `panel_picture::forward::low_end` is safe and ends. Assumes nothing.
-use native.Mathlib.Omega.{arith}
-use lib.ListN.{length-set}
-use borrow.Author.Rules.{rules}
+use Rattle.std.proofs.Common.{arith, length-set}
 use Rattle.panel_picture.proofs.forward.low_end.Goals as goal
 
 pub bounds-out-high-3 : goal.bounds-out-high-3

@@ -1,8 +1,6 @@
 -- `panel_picture::forward::split_columns` is safe and ends. Assumes nothing.
 use mathlib.Core.Path.{◌≡◌}
-use Prim.Native.Nat.{◌+◌, ◌-◌, ◌≤◌}
-use lib.ListN.{length}
-use borrow.Author.Rules.{rules}
+use Rattle.std.proofs.Common.{length, ◌+◌, ◌-◌, ◌≤◌}
 use Rattle.panel_picture.proofs.forward.split_columns.Given as goal
 
 abbrev pub invariant-loop-column : goal.invariant-loop-column

@@ -1,8 +1,6 @@
 -- `panel_picture::forward::split_rows` is safe and ends. Assumes nothing.
 use mathlib.Core.Path.{◌≡◌}
-use Prim.Native.Nat.{◌+◌, ◌-◌, ◌≤◌}
-use lib.ListN.{length}
-use borrow.Author.Rules.{rules}
+use Rattle.std.proofs.Common.{length, ◌+◌, ◌-◌, ◌≤◌}
 use Rattle.panel_picture.proofs.forward.split_rows.Given as goal
 
 abbrev pub invariant-loop-row : goal.invariant-loop-row

@@ -1,9 +1,6 @@
 -- `panel_picture::forward::take_column` is safe and ends. Assumes nothing.
 use mathlib.Core.Path.{◌≡◌}
-use Prim.Native.Nat.{◌-◌, ◌≤◌}
-use native.Mathlib.Omega.{arith}
-use lib.ListN.{length, length-set}
-use borrow.Author.Rules.{rules}
+use Rattle.std.proofs.Common.{length, ◌-◌, ◌≤◌}
 use Rattle.panel_picture.proofs.forward.take_column.Given as goal
 
 abbrev pub invariant-loop-i : goal.invariant-loop-i

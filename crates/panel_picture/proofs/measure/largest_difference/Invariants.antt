@@ -1,7 +1,5 @@
 -- `panel_picture::measure::largest_difference` is safe and ends. Assumes nothing.
-use Prim.Native.Nat.{◌-◌, ◌≤◌}
-use lib.ListN.{length}
-use borrow.Author.Rules.{rules}
+use Rattle.std.proofs.Common.{length, ◌-◌, ◌≤◌}
 use Rattle.panel_picture.proofs.measure.largest_difference.Given as goal
 
 abbrev pub invariant-loop-i : goal.invariant-loop-i

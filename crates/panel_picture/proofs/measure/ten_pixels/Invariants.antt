@@ -1,6 +1,5 @@
 -- `panel_picture::measure::ten_pixels` is safe and ends. Assumes nothing.
-use Prim.Native.Nat.{◌-◌, ◌*◌, ◌≤◌}
-use borrow.Author.Rules.{rules}
+use Rattle.std.proofs.Common.{◌*◌, ◌-◌, ◌≤◌}
 use Rattle.panel_picture.proofs.measure.ten_pixels.Given as goal
 
 abbrev pub invariant-loop-i : goal.invariant-loop-i

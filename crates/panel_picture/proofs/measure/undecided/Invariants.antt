@@ -1,6 +1,5 @@
 -- `panel_picture::measure::undecided` is safe and ends. Assumes nothing.
-use Prim.Native.Nat.{◌-◌, ◌*◌, ◌≤◌}
-use borrow.Author.Rules.{rules}
+use Rattle.std.proofs.Common.{◌*◌, ◌-◌, ◌≤◌}
 use Rattle.panel_picture.proofs.measure.undecided.Given as goal
 
 abbrev pub invariant-loop-place : goal.invariant-loop-place

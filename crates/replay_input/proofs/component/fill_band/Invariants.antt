@@ -1,5 +1,5 @@
 -- `replay_input::component::fill_band` is safe and ends. Assumes nothing.
-use Rattle.std.proofs.Common.{◌≡◌, ◌-◌, ◌≤◌, length, arith, length-set, rules}
+use Rattle.std.proofs.Common.{◌≡◌, ◌-◌, ◌≤◌, length}
 use Rattle.replay_input.proofs.component.fill_band.Given as goal
 
 abbrev pub invariant-loop-i : goal.invariant-loop-i

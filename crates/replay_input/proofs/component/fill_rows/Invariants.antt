@@ -1,5 +1,5 @@
 -- `replay_input::component::fill_rows` is safe and ends. Assumes nothing.
-use Rattle.std.proofs.Common.{◌≡◌, ◌-◌, ◌≤◌, length, rules}
+use Rattle.std.proofs.Common.{◌≡◌, ◌-◌, ◌≤◌, length}
 use Rattle.replay_input.proofs.component.fill_rows.Given as goal
 
 abbrev pub invariant-loop-b : goal.invariant-loop-b

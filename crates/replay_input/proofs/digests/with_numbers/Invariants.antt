@@ -1,5 +1,5 @@
 -- `replay_input::digests::with_numbers` is safe and ends. Assumes nothing.
-use Rattle.std.proofs.Common.{◌-◌, ◌≤◌, length, rules}
+use Rattle.std.proofs.Common.{◌-◌, ◌≤◌, length}
 use Rattle.replay_input.proofs.digests.with_numbers.Given as goal
 
 abbrev pub invariant-loop-i : goal.invariant-loop-i

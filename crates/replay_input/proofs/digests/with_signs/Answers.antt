@@ -1,5 +1,4 @@
 -- `replay_input::digests::with_signs` is safe and ends. Assumes nothing.
-use Rattle.std.proofs.Common.{◌-◌, ◌≤◌, length, rules}
 use Rattle.fixed.proofs.Machine.{signed}
 use Rattle.replay_input.proofs.digests.with_signs.Goals as goal
 

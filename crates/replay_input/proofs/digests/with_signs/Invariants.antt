@@ -1,6 +1,5 @@
 -- `replay_input::digests::with_signs` is safe and ends. Assumes nothing.
-use Rattle.std.proofs.Common.{◌-◌, ◌≤◌, length, rules}
-use Rattle.fixed.proofs.Machine.{signed}
+use Rattle.std.proofs.Common.{◌-◌, ◌≤◌, length}
 use Rattle.replay_input.proofs.digests.with_signs.Given as goal
 
 abbrev pub invariant-loop-i : goal.invariant-loop-i

@@ -1,5 +1,5 @@
 -- `replay_input::digests::with_values` is safe and ends. Assumes nothing.
-use Rattle.std.proofs.Common.{◌-◌, ◌≤◌, length, rules}
+use Rattle.std.proofs.Common.{◌-◌, ◌≤◌, length}
 use Rattle.replay_input.proofs.digests.with_values.Given as goal
 
 abbrev pub invariant-loop-i : goal.invariant-loop-i

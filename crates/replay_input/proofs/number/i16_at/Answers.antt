@@ -1,5 +1,5 @@
 -- `replay_input::number::i16_at` is safe and ends. Assumes nothing.
-use Rattle.std.proofs.Common.{◌-◌, arith, w16, rules}
+use Rattle.std.proofs.Common.{◌-◌, arith, w16}
 use Rattle.replay_input.proofs.BelowZero.{below_zero}
 use Rattle.replay_input.proofs.number.i16_at.Goals as goal
 

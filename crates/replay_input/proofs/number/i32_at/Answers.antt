@@ -1,5 +1,5 @@
 -- `replay_input::number::i32_at` is safe and ends. Assumes nothing.
-use Rattle.std.proofs.Common.{◌-◌, arith, w32, rules}
+use Rattle.std.proofs.Common.{◌-◌, arith, w32}
 use Rattle.replay_input.proofs.BelowZero.{below_zero}
 use Rattle.replay_input.proofs.number.i32_at.Goals as goal
 

@@ -1,5 +1,5 @@
 -- `replay_input::number::i8_at` is safe and ends. Assumes nothing.
-use Rattle.std.proofs.Common.{◌-◌, arith, w8, rules}
+use Rattle.std.proofs.Common.{◌-◌, arith, w8}
 use Rattle.replay_input.proofs.BelowZero.{below_zero}
 use Rattle.replay_input.proofs.number.i8_at.Goals as goal
 

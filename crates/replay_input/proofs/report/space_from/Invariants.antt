@@ -1,5 +1,5 @@
 -- `replay_input::report::space_from` meets its contract. Assumes nothing.
-use Rattle.std.proofs.Common.{◌-◌, ◌≤◌, length, rules}
+use Rattle.std.proofs.Common.{◌-◌, ◌≤◌, length}
 use Rattle.replay_input.proofs.report.space_from.Given as goal
 
 abbrev pub invariant-loop-i : goal.invariant-loop-i

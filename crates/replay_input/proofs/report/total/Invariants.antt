@@ -1,5 +1,5 @@
 -- `replay_input::report::total` is safe and ends. Assumes nothing.
-use Rattle.std.proofs.Common.{◌-◌, ◌≤◌, rules}
+use Rattle.std.proofs.Common.{◌-◌, ◌≤◌}
 use Rattle.replay_input.proofs.report.total.Given as goal
 
 abbrev pub invariant-loop-i : goal.invariant-loop-i

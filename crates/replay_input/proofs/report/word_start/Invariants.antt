@@ -1,5 +1,5 @@
 -- `replay_input::report::word_start` meets its contract. Assumes nothing.
-use Rattle.std.proofs.Common.{◌-◌, ◌≤◌, length, rules}
+use Rattle.std.proofs.Common.{◌-◌, ◌≤◌, length}
 use Rattle.replay_input.proofs.report.word_start.Given as goal
 
 abbrev pub invariant-loop-n : goal.invariant-loop-n

@@ -1,9 +1,6 @@
 -- `replay_kinds::cut_streams::fill_values` is safe and ends. Assumes nothing.
 use mathlib.Core.Path.{◌≡◌}
-use Prim.Native.Nat.{◌≤◌, ◌-◌}
-use native.Mathlib.Omega.{arith}
-use lib.ListN.{length, length-set}
-use borrow.Author.Rules.{rules}
+use Rattle.std.proofs.Common.{length, ◌-◌, ◌≤◌}
 use Rattle.replay_kinds.proofs.cut_streams.fill_values.Given as goal
 
 abbrev pub invariant-loop-i : goal.invariant-loop-i

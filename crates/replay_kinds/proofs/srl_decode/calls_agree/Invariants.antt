@@ -1,8 +1,6 @@
 -- `replay_kinds::srl_decode::calls_agree` is safe and ends. Assumes nothing.
-use Prim.Native.Nat.{◌≤◌, ◌-◌}
-use lib.ListN.{length}
 use mathlib.Core.Path.{◌≡◌}
-use borrow.Author.Rules.{rules}
+use Rattle.std.proofs.Common.{length, ◌-◌, ◌≤◌}
 use Rattle.replay_kinds.proofs.srl_decode.calls_agree.Given as goal
 
 abbrev pub invariant-loop-i : goal.invariant-loop-i

@@ -1,6 +1,5 @@
 -- `replay_kinds::srl_decode::has_values` is safe and ends. Assumes nothing.
-use Prim.Native.Nat.{◌≤◌, ◌-◌}
-use borrow.Author.Rules.{rules}
+use Rattle.std.proofs.Common.{◌-◌, ◌≤◌}
 use Rattle.replay_kinds.proofs.srl_decode.has_values.Given as goal
 
 abbrev pub invariant-loop-i : goal.invariant-loop-i

@@ -1,6 +1,5 @@
 -- `replay_kinds::srl_encode::has_bytes` is safe and ends. Assumes nothing.
-use Prim.Native.Nat.{◌≤◌, ◌-◌}
-use borrow.Author.Rules.{rules}
+use Rattle.std.proofs.Common.{◌-◌, ◌≤◌}
 use Rattle.replay_kinds.proofs.srl_encode.has_bytes.Given as goal
 
 abbrev pub invariant-loop-i : goal.invariant-loop-i

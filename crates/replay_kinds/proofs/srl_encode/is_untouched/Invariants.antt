@@ -1,7 +1,5 @@
 -- `replay_kinds::srl_encode::is_untouched` is safe and ends. Assumes nothing.
-use Prim.Native.Nat.{◌-◌}
-use lib.ListN.{length}
-use borrow.Author.Rules.{rules}
+use Rattle.std.proofs.Common.{length, ◌-◌}
 use Rattle.replay_kinds.proofs.srl_encode.is_untouched.Given as goal
 
 abbrev pub invariant-loop-i : goal.invariant-loop-i

@@ -1,9 +1,6 @@
 -- `replay_kinds::srl_encode::load` is safe and ends. Assumes nothing.
-use Prim.Native.Nat.{◌≤◌, ◌-◌}
 use mathlib.Core.Path.{◌≡◌}
-use native.Mathlib.Omega.{arith}
-use lib.ListN.{length, length-set}
-use borrow.Author.Rules.{rules}
+use Rattle.std.proofs.Common.{length, ◌-◌, ◌≤◌}
 use Rattle.replay_kinds.proofs.srl_encode.load.Given as goal
 
 abbrev pub invariant-loop-i : goal.invariant-loop-i

@@ -1,6 +1,5 @@
 -- `replay_kinds::srl_exhaustive::digest` is safe and ends. Assumes nothing.
-use Prim.Native.Nat.{◌≤◌, ◌-◌}
-use borrow.Author.Rules.{rules}
+use Rattle.std.proofs.Common.{◌-◌, ◌≤◌}
 use Rattle.replay_kinds.proofs.srl_exhaustive.digest.Given as goal
 
 abbrev pub invariant-loop-last : goal.invariant-loop-last

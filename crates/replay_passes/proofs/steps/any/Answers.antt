@@ -1,9 +1,6 @@
 -- `replay_passes::steps::any` is safe and ends. Assumes nothing.
 use mathlib.Core.Path.{◌≡◌}
-use Prim.Native.Nat.{◌≤◌, ◌-◌}
-use native.Mathlib.Omega.{arith}
-use lib.ListN.{length, length-set}
-use borrow.Author.Rules.{rules}
+use Rattle.std.proofs.Common.{arith, length, length-set, rules, ◌-◌, ◌≤◌}
 use Rattle.replay_passes.proofs.steps.any.Goals as goal
 
 pub loop-i-preserved : goal.loop-i-preserved

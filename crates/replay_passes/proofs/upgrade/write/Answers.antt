@@ -1,7 +1,5 @@
 -- `replay_passes::upgrade::write` is safe and ends. Assumes nothing.
-use native.Mathlib.Omega.{arith}
-use lib.ListN.{length-take}
-use borrow.Author.Rules.{rules}
+use Rattle.std.proofs.Common.{arith, length-take, rules}
 use Rattle.replay_passes.proofs.upgrade.write.Goals as goal
 
 pub slice_bounds-write-end : goal.slice_bounds-write-end

@@ -1,6 +1,5 @@
 -- `replay_pixels::colours::row` is safe and ends. Assumes nothing.
-use Prim.Native.Nat.{◌≤◌, ◌-◌}
-use borrow.Author.Rules.{rules}
+use Rattle.std.proofs.Common.{◌-◌, ◌≤◌}
 use Rattle.replay_pixels.proofs.colours.row.Given as goal
 
 abbrev pub invariant-loop-y : goal.invariant-loop-y

@@ -1,7 +1,5 @@
 -- `replay_pixels::wavelet::decode` is safe and ends. Assumes nothing.
-use native.Mathlib.Omega.{arith}
-use lib.ListN.{length-take}
-use borrow.Author.Rules.{rules}
+use Rattle.std.proofs.Common.{arith, length-take}
 use Rattle.replay_pixels.proofs.wavelet.decode.Goals as goal
 
 pub slice_bounds-decode-end-2 : goal.slice_bounds-decode-end-2

@@ -1,5 +1,5 @@
 -- `tile_passes::compare::bytes` is safe and ends. Assumes nothing.
-use Rattle.std.proofs.Common.{◌-◌, ◌≤◌, length, rules}
+use Rattle.std.proofs.Common.{◌-◌, ◌≤◌, length}
 use Rattle.tile_passes.proofs.compare.bytes.Given as goal
 
 abbrev pub invariant-loop-i : goal.invariant-loop-i
