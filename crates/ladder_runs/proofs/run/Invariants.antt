@@ -1,5 +1,5 @@
 -- `ladder_runs::run` is safe and ends. Assumes nothing.
-use Rattle.std.proofs.Common.{◌-◌, ◌≤◌, rules}
+use Rattle.std.proofs.Common.{◌-◌, ◌≤◌}
 use Rattle.ladder_runs.proofs.run.Given as goal
 
 abbrev pub invariant-loop-n : goal.invariant-loop-n

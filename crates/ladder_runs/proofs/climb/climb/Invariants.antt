@@ -1,5 +1,5 @@
 -- `ladder_runs::climb::climb` is safe and ends. Assumes nothing.
-use Rattle.std.proofs.Common.{◌≤◌, rules}
+use Rattle.std.proofs.Common.{◌≤◌}
 use Rattle.ladder_runs.proofs.climb.climb.Given as goal
 
 abbrev pub invariant-loop-left : goal.invariant-loop-left

@@ -1,5 +1,5 @@
 -- `ladder_runs::cut::cut_tile` is safe and ends. Assumes nothing.
-use Rattle.std.proofs.Common.{◌≡◌, ◌-◌, ◌≤◌, length, arith, length-set, rules}
+use Rattle.std.proofs.Common.{◌≡◌, ◌-◌, ◌≤◌, length}
 use Rattle.ladder_runs.proofs.cut.cut_tile.Given as goal
 
 abbrev pub invariant-loop-i : goal.invariant-loop-i

@@ -1,5 +1,4 @@
 -- `ladder_runs::judge::show_sign` is safe and ends. Assumes nothing.
-use Rattle.std.proofs.Common.{rules}
 use Rattle.fixed.proofs.Machine.{signed}
 use Rattle.ladder_runs.proofs.judge.show_sign.Goals as goal
 

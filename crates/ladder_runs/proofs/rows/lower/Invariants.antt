@@ -1,5 +1,5 @@
 -- `ladder_runs::rows::lower` is safe and ends. Assumes nothing.
-use Rattle.std.proofs.Common.{◌-◌, ◌≤◌, rules}
+use Rattle.std.proofs.Common.{◌-◌, ◌≤◌}
 use Rattle.ladder_runs.proofs.rows.lower.Given as goal
 
 abbrev pub invariant-loop-b : goal.invariant-loop-b

@@ -1,5 +1,5 @@
 -- `ladder_runs::rows::up_to` meets its contract. Assumes nothing.
-use Rattle.std.proofs.Common.{ℕ, ◌+◌, ◌%◌, ◌<◌, ◌≤◌, mod-lt, arith, rules}
+use Rattle.std.proofs.Common.{ℕ, ◌+◌, ◌%◌, ◌<◌, ◌≤◌, mod-lt, arith}
 use Rattle.ladder_runs.proofs.rows.up_to.Goals as goal
 
 -- what a division by one more leaves

@@ -1,5 +1,5 @@
 -- `ladder_runs::targets::any_signs` is safe and ends. Assumes nothing.
-use Rattle.std.proofs.Common.{◌≡◌, ◌-◌, ◌≤◌, length, arith, length-set, rules}
+use Rattle.std.proofs.Common.{◌≡◌, ◌-◌, ◌≤◌, length}
 use Rattle.ladder_runs.proofs.targets.any_signs.Given as goal
 
 abbrev pub invariant-loop-i : goal.invariant-loop-i

@@ -1,5 +1,5 @@
 -- `ladder_runs::targets::fill` is safe and ends. Assumes nothing.
-use Rattle.std.proofs.Common.{◌≡◌, ◌-◌, ◌≤◌, length, rules}
+use Rattle.std.proofs.Common.{◌≡◌, ◌-◌, ◌≤◌, length}
 use Rattle.ladder_runs.proofs.targets.fill.Given as goal
 
 abbrev pub invariant-loop-i : goal.invariant-loop-i

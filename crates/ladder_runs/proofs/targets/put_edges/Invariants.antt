@@ -1,5 +1,5 @@
 -- `ladder_runs::targets::put_edges` is safe and ends. Assumes nothing.
-use Rattle.std.proofs.Common.{◌≡◌, ◌-◌, ◌≤◌, length, arith, length-set, rules}
+use Rattle.std.proofs.Common.{◌≡◌, ◌-◌, ◌≤◌, length}
 use Rattle.ladder_runs.proofs.targets.put_edges.Given as goal
 
 abbrev pub invariant-loop-n : goal.invariant-loop-n

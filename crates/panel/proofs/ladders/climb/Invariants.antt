@@ -1,5 +1,5 @@
 -- `panel::ladders::climb` is safe and ends. Assumes nothing.
-use Rattle.std.proofs.Common.{◌≤◌, rules}
+use Rattle.std.proofs.Common.{◌≤◌}
 use Rattle.panel.proofs.ladders.climb.Given as goal
 
 abbrev pub invariant-loop-left : goal.invariant-loop-left

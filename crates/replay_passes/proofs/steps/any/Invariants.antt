@@ -1,6 +1,6 @@
 -- `replay_passes::steps::any` is safe and ends. Assumes nothing.
 use mathlib.Core.Path.{◌≡◌}
-use Rattle.std.proofs.Common.{arith, length, length-set, rules, ◌-◌, ◌≤◌}
+use Rattle.std.proofs.Common.{length, ◌-◌, ◌≤◌}
 use Rattle.replay_passes.proofs.steps.any.Given as goal
 
 abbrev pub invariant-loop-i : goal.invariant-loop-i

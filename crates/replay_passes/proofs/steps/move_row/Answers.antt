@@ -1,6 +1,5 @@
 -- `replay_passes::steps::move_row` is safe and ends. Assumes nothing.
-use mathlib.Core.Path.{◌≡◌}
-use Rattle.std.proofs.Common.{arith, length, length-set, rules, ◌-◌, ◌≤◌}
+use Rattle.std.proofs.Common.{arith, length-set}
 use Rattle.replay_passes.proofs.steps.move_row.Goals as goal
 
 pub loop-b-preserved : goal.loop-b-preserved

@@ -1,5 +1,5 @@
 -- `replay_passes::upgrade::read` is safe and ends. Assumes nothing.
-use Rattle.std.proofs.Common.{arith, length-take, rules}
+use Rattle.std.proofs.Common.{arith, length-take}
 use Rattle.replay_passes.proofs.upgrade.read.Goals as goal
 
 pub slice_bounds-decode_upgrade_pass-end-2 : goal.slice_bounds-decode_upgrade_pass-end-2

@@ -1,5 +1,5 @@
 -- `replay_passes::upgrade::read_back_agrees` is safe and ends. Assumes nothing.
-use Rattle.std.proofs.Common.{arith, length-take, rules}
+use Rattle.std.proofs.Common.{arith, length-take}
 use Rattle.replay_passes.proofs.upgrade.read_back_agrees.Goals as goal
 
 pub slice_bounds-read-end : goal.slice_bounds-read-end

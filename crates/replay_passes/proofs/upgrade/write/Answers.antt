@@ -1,5 +1,5 @@
 -- `replay_passes::upgrade::write` is safe and ends. Assumes nothing.
-use Rattle.std.proofs.Common.{arith, length-take, rules}
+use Rattle.std.proofs.Common.{arith, length-take}
 use Rattle.replay_passes.proofs.upgrade.write.Goals as goal
 
 pub slice_bounds-write-end : goal.slice_bounds-write-end
