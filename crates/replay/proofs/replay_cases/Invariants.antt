@@ -1,5 +1,5 @@
 -- `replay::replay_cases` is safe and ends. Assumes nothing.
-use Rattle.std.proofs.Common.{◌-◌, ◌<◌, ◌≤◌, length, rules}
+use Rattle.std.proofs.Common.{◌-◌, ◌<◌, ◌≤◌, length}
 use Rattle.replay.proofs.replay_cases.Given as goal
 
 abbrev pub invariant-loop-at : goal.invariant-loop-at

@@ -1,5 +1,5 @@
 -- `replay::cuts::digest` is safe and ends. Assumes nothing.
-use Rattle.std.proofs.Common.{◌-◌, ◌≤◌, rules}
+use Rattle.std.proofs.Common.{◌-◌, ◌≤◌}
 use Rattle.replay.proofs.cuts.digest.Given as goal
 
 abbrev pub invariant-loop-n : goal.invariant-loop-n

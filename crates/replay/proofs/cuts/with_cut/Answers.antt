@@ -1,5 +1,5 @@
 -- `replay::cuts::with_cut` is safe and ends. Assumes nothing.
-use Rattle.std.proofs.Common.{arith, length-take, rules}
+use Rattle.std.proofs.Common.{arith, length-take}
 use Rattle.replay.proofs.cuts.with_cut.Goals as goal
 
 pub slice_bounds-with_values-end : goal.slice_bounds-with_values-end

@@ -1,5 +1,5 @@
 -- `replay::ladder::agrees` is safe and ends. Assumes nothing.
-use Rattle.std.proofs.Common.{◌-◌, ◌≤◌, rules}
+use Rattle.std.proofs.Common.{◌-◌, ◌≤◌}
 use Rattle.replay.proofs.ladder.agrees.Given as goal
 
 abbrev pub invariant-loop-i : goal.invariant-loop-i

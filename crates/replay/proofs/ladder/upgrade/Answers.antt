@@ -1,5 +1,5 @@
 -- `replay::ladder::upgrade` is safe and ends. Assumes nothing.
-use Rattle.std.proofs.Common.{arith, length-take, rules}
+use Rattle.std.proofs.Common.{arith, length-take}
 use Rattle.replay.proofs.ladder.upgrade.Goals as goal
 
 pub slice_bounds-decode_upgrade-end : goal.slice_bounds-decode_upgrade-end

@@ -1,5 +1,5 @@
 -- `replay::tiles::copy` is safe and ends. Assumes nothing.
-use Rattle.std.proofs.Common.{◌≡◌, ◌-◌, ◌≤◌, length, arith, length-set, rules}
+use Rattle.std.proofs.Common.{arith, length-set}
 use Rattle.replay.proofs.tiles.copy.Goals as goal
 
 pub loop-i-preserved : goal.loop-i-preserved

@@ -1,5 +1,5 @@
 -- `replay::tiles::load` is safe and ends. Assumes nothing.
-use Rattle.std.proofs.Common.{arith, length-take, rules}
+use Rattle.std.proofs.Common.{arith, length-take}
 use Rattle.replay.proofs.tiles.load.Goals as goal
 
 pub slice_bounds-load-end : goal.slice_bounds-load-end
