@@ -2,9 +2,11 @@
 use mathlib.Core.Path.{◌≡◌, refl, ap, ◌∙◌}
 use mathlib.Core.Bool.{Bool, true, false, cond, not, ◌||◌}
 use mathlib.Core.List.{List, [], ◌++◌}
+use Prim.Native.Nat.{ℕ, ◌≤◌}
+use native.Mathlib.Omega.{arith}
 use borrow.Author.Tests.{le-ltb}
 use lib.IntN.{ℤ, pos}
-use Rattle.std.proofs.Common.{arith, drop, length, length-replicate, replicate, ℕ, ◌≤◌}
+use lib.ListN.{length, replicate, drop, length-replicate}
 use Rattle.fixed.specs.Fixed.{clamp_i16, clamp_u8, add_scaled, sub_scaled, is_zero, is_one}
 use Rattle.bands.specs.Bands.{spread}
 use Rattle.bits.specs.Bits.{num, numbers, zeros}
