@@ -93,7 +93,19 @@ fn finish<F: OpenFile + Drop>(
     fs::rename(rt, text(part)?, text(path)?)
 }
 
-// Finishes a file; where something failed, the reason is reported, and what there is of the file removed. Whether the file is there now.
+// Reports why a file could not be written, and removes what there is of it.
+fn give_up(
+    rt: &(impl Files + Eprint),
+    path: &[u8],
+    part: &[u8],
+    why: &io::Error,
+) -> io::Result<bool> {
+    remove(rt, part);
+    report::failure(rt, path, why)?;
+    Ok(false)
+}
+
+// Finishes a file where all of it was written; whether it is there now.
 fn close_paths<R: Files + Eprint>(
     rt: &R,
     written: io::Result<R::File>,
@@ -104,12 +116,10 @@ fn close_paths<R: Files + Eprint>(
         Ok(file) => finish(rt, file, path, part),
         Err(e) => Err(e),
     };
-    let Err(e) = finished else {
-        return Ok(true);
-    };
-    remove(rt, part);
-    report::failure(rt, path, &e)?;
-    Ok(false)
+    match finished {
+        Ok(()) => Ok(true),
+        Err(e) => give_up(rt, path, part, &e),
+    }
 }
 
 // Closes a file that was opened so, and gives it its name where all of it was written; whether the file is there now.
