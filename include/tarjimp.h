@@ -7,7 +7,8 @@
  * allocates nothing, and any number of threads may call it. A call takes up to
  * 1 KB of stack; tarjimp_band_of_place 5, the two writers of a pass 57,
  * tarjimp_decode_upgrade_pass and tarjimp_tile_decode_upgrade 12,
- * tarjimp_tile_reconstruct_to_rgba 36 (measured on x86-64, with the older toolchain).
+ * tarjimp_tile_reconstruct_to_rgba 36 (measured on x86-64, with the older
+ * toolchain).
  *
  * WHAT A CALL RETURNS
  *
@@ -220,8 +221,8 @@ void tarjimp_ycbcr_to_rgb(int16_t y, int16_t cb, int16_t cr, uint8_t rgb[3]);
  * The number of the band that a place of a component belongs to: 0 to 9 in band
  * order, HL1 .. LL3, or TARJIMP_NO_BAND for a place at or past 4096. A call
  * builds the layout's table anew and takes as long as the filling function
- * below, 55 to 70 nanoseconds (measured on x86-64, with the older toolchain): who colours a whole
- * component takes that one.
+ * below, 55 to 70 nanoseconds (measured on x86-64, with the older toolchain):
+ * who colours a whole component takes that one.
  */
 uint8_t tarjimp_band_of_place(bool use_reduce_extrapolate, size_t place);
 
