@@ -1,6 +1,6 @@
 -- `tile::upgrade_refusal` meets its contract. Assumes nothing.
 use mathlib.Core.Bool.{true, false, ◌&&◌}
-use mathlib.Core.Path.{◌≡◌, sym, ◌∙◌}
+use mathlib.Core.Path.{◌≡◌, refl, sym, ◌∙◌}
 use Rattle.bands.specs.Positions.{row_in_domain, rows_in_domain}
 use Rattle.zero_signs.specs.ZeroSigns.{are_right}
 use Rattle.tile.proofs.upgrade_refusal.Goals as goal
@@ -9,7 +9,7 @@ pub returns-then-not-right : goal.returns-then-not-right
 returns-then-not-right c =
     let a = c.args in
     let wrong : are_right a.use_reduce_extrapolate a.sign.now a.numbers.now ≡ false = sym c.are_right-right.ensures ∙ c.if-not-right.true in
-    simp wrong
+    simp wrong refl
 
 pub returns-then-not-low : goal.returns-then-not-low
 returns-then-not-low c =
