@@ -1,2 +1,2 @@
 -- Laws of answers.
-pub mod Numbers
+pub mod Refusing

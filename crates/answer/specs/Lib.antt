@@ -1,2 +1,2 @@
 -- What the contracts of `answer` and of the crates above it cite.
-pub mod Refusals
+pub mod Answers

@@ -1,44 +1,106 @@
-// What a call that works in place answers: accepted, or refused with a number (docs/SCOPE.md, "Refusals").
+// Refusals: why a call refuses what it was given (docs/SCOPE.md, "Refusals"). A call answers `Ok` where it accepts, and else the refusal.
 
 #![tactic(auto)]
 
 ghost use Rattle.std.specs.Prelude.{◌≡◌};
-ghost use Rattle.answer.specs.Refusals.{number_of, AnswerNumbers};
+ghost use Rattle.answer.specs.Answers.{number_of, number_of_answer, Numbered, AnswerNumbers};
 
-#[derive(Clone, Copy)]
-pub enum Answer {
-    Accepted,
-    Refused(u8),
+use std::error::Error;
+use std::fmt;
+
+// In the words of the source's errors.
+#[derive(Clone, Copy, Debug, PartialEq, Eq, Hash)]
+pub enum Refusal {
+    SliceTooShort,
+    OutOfDomain,
+    StandardLayout,
+    InvalidBitCount,
+    MagnitudeOutOfRange,
+    ZeroRunTooLong,
+    OutputTooShort,
+    ImpossibleState,
 }
 
-// The numbers of the refusals, in the words of the source's errors.
-pub const SLICE_TOO_SHORT: u8 = 1;
+// A number that no refusal has.
+#[derive(Clone, Copy, Debug, PartialEq, Eq, Hash)]
+pub struct UnknownNumber(pub u8);
 
-pub const OUT_OF_DOMAIN: u8 = 2;
-
-pub const STANDARD_LAYOUT: u8 = 3;
-
-pub const INVALID_BIT_COUNT: u8 = 4;
-
-pub const MAGNITUDE_OUT_OF_RANGE: u8 = 5;
-
-pub const ZERO_RUN_TOO_LONG: u8 = 6;
-
-pub const OUTPUT_TOO_SHORT: u8 = 7;
-
-pub const IMPOSSIBLE_STATE: u8 = 8;
-
-// The number of an answer: 0 where accepted.
-pub fn number_of(answer: Answer) -> u8
-    ensures { result ≡ number_of answer }
-{
-    match answer {
-        Answer::Accepted => 0,
-        Answer::Refused(k) => k,
+impl Refusal {
+    // Its number: 1 to 8.
+    pub fn number(self) -> u8
+        ensures { result ≡ number_of self }
+    {
+        match self {
+            Refusal::SliceTooShort => 1,
+            Refusal::OutOfDomain => 2,
+            Refusal::StandardLayout => 3,
+            Refusal::InvalidBitCount => 4,
+            Refusal::MagnitudeOutOfRange => 5,
+            Refusal::ZeroRunTooLong => 6,
+            Refusal::OutputTooShort => 7,
+            Refusal::ImpossibleState => 8,
+        }
     }
 }
 
-// What a call answers has the number that the rules give.
+impl TryFrom<u8> for Refusal {
+    type Error = UnknownNumber;
+
+    ghost try_from_gives = { Numbered };
+
+    fn try_from(number: u8) -> Result<Self, UnknownNumber> {
+        match number {
+            1 => Ok(Refusal::SliceTooShort),
+            2 => Ok(Refusal::OutOfDomain),
+            3 => Ok(Refusal::StandardLayout),
+            4 => Ok(Refusal::InvalidBitCount),
+            5 => Ok(Refusal::MagnitudeOutOfRange),
+            6 => Ok(Refusal::ZeroRunTooLong),
+            7 => Ok(Refusal::OutputTooShort),
+            8 => Ok(Refusal::ImpossibleState),
+            _ => Err(UnknownNumber(number)),
+        }
+    }
+}
+
+impl fmt::Display for Refusal {
+    fn fmt<W: fmt::Write>(&self, f: &mut fmt::Formatter<W>) -> fmt::Result {
+        f.write_str(match self {
+            Refusal::SliceTooShort =>
+                "a slice is too short: coefficients, signs and scratch have 4096 elements, pixels 16384 bytes",
+            Refusal::OutOfDomain => "a position or quantizer is above 15",
+            Refusal::StandardLayout => "pixels are made in the reduce-extrapolate layout only",
+            Refusal::InvalidBitCount => "an SRL width is outside 1 to 15",
+            Refusal::MagnitudeOutOfRange => "a magnitude is above the maximum of its width",
+            Refusal::ZeroRunTooLong => "more than 4096 zeros are pending",
+            Refusal::OutputTooShort => "the answer does not fit the output slice",
+            Refusal::ImpossibleState =>
+                "the coder state is impossible, or the tile's numbers of zero signs are wrong",
+        })
+    }
+}
+
+impl fmt::Display for UnknownNumber {
+    fn fmt<W: fmt::Write>(&self, f: &mut fmt::Formatter<W>) -> fmt::Result {
+        write!(f, "no refusal has the number {}", self.0)
+    }
+}
+
+impl Error for Refusal {}
+
+impl Error for UnknownNumber {}
+
+// The number of an answer: 0 where accepted.
+pub fn number_of_answer(answer: Result<(), Refusal>) -> u8
+    ensures { result ≡ number_of_answer answer }
+{
+    match answer {
+        Ok(()) => 0,
+        Err(refusal) => refusal.number(),
+    }
+}
+
+// What a call answers has the number that the rules give, and each number is that of one refusal at most.
 pub fn answer_numbers()
     ensures { AnswerNumbers }
 {}

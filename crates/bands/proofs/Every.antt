@@ -1,27 +1,15 @@
--- `every` seen from a place on, what a loop with an early return wants, and of parts of a list.
+-- `every` by its elements, of parts of a list, and of two lists one after another.
 -- Assumes nothing.
 use mathlib.Core.Bool.{Bool, true, false, ◌&&◌, true≢false}
 use mathlib.Core.List.{List, [], ◌∷◌, ◌++◌}
 use mathlib.Core.Path.{◌≡◌, refl, sym}
-use Prim.Native.Nat.{ℕ, zero, suc, ◌+◌, ◌<◌, ◌≤◌}
-use native.Mathlib.Numerals.{add-one}
+use Prim.Native.Nat.{ℕ, zero, suc, ◌<◌, ◌≤◌}
 use native.Mathlib.Decide.{dec_lt}
 use native.Mathlib.Omega.{arith}
 use borrow.Author.Tests.{leb-true}
-use lib.ListN.{length, get_or, take, drop, drop_of_length-le, get_or-eq_default}
-use lib.Seq.{drop-cons}
+use lib.ListN.{length, get_or, take, drop, get_or-eq_default}
 use Rattle.bands.specs.Bands.{position_of}
 use Rattle.bands.specs.Positions.{every, in_domain, row_in_domain}
-
-module _ {A : Type 0} (f : A → Bool) (l : List A) (j : ℕ) (d : A) where
-  pub passes : j < length l → f (get_or l j d) ≡ true → every f (drop j l) ≡ every f (drop (j + 1) l)
-  passes h t = rw (add-one, drop-cons l j d h, t)
-
-  pub fails : j < length l → f (get_or l j d) ≡ false → every f (drop j l) ≡ false
-  fails h t = rw (drop-cons l j d h, t)
-
-pub ends : {A : Type 0} (f : A → Bool) (l : List A) (j : ℕ) → length l ≤ j → every f (drop j l) ≡ true
-ends f l j h = rw (drop_of_length-le l {i = j} h)
 
 -- where two tests hold together, each does
 pub both_true : (a b : Bool) → (a && b) ≡ true → (a ≡ true) × (b ≡ true)

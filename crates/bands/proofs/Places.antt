@@ -6,14 +6,20 @@ use Prim.Native.Nat.{ℕ, zero, suc, ◌+◌, ◌-◌, ◌≤◌, ◌<◌}
 use native.Mathlib.Nat.{add-zero, zero-add, add-suc, suc-add}
 use native.Mathlib.Numerals.{add-one}
 use native.Mathlib.Omega.{arith}
-use borrow.Author.Tests.{eqb-true}
+use native.Mathlib.Decide.{dec_lt}
+use borrow.Author.Tests.{eqb-true, lt-ltb, le-ltb}
+use Rattle.std.proofs.Common.{Option, Some, None, Bor}
+use Rattle.std.specs.Slice.{IsItemAt}
+use Rattle.std.specs.Option.{unwrap_or, option_copied}
+use Rattle.std.specs.List.{slice_get}
+use Rattle.std.proofs.lemmas.Option.{slice_get-get_or, slice_get_past, slice_get_read}
 use lib.Dec.{T, eqb, eqb→eq}
 use lib.ListN.{length, get_or, take, replicate, replicate-append-replicate, get_or-map}
 use lib.Seq.{take-suc}
 use mir.Facts.{and_yes}
 use Rattle.bands.specs.declared.BandInfo.{BandInfo}
 use Rattle.bands.specs.Bands.{layout, none, count_of, band_at, spread, per_place, bands_of, position_of}
-use Rattle.bands.specs.Tables.{encloses, band_of_place, are_same, band_ends, PlaceTables}
+use Rattle.bands.specs.Tables.{encloses, band_of_place, number_of_band, are_same, band_ends, PlaceTables}
 use Rattle.bands.proofs.Every.{both_true}
 use Rattle.bands.proofs.Laid.{tables, past_all, band_within, band_small, enclosed, within, is_yes, yes_is}
 use Rattle.bands.proofs.Spread.{place_map, place_whole, bands_whole, one_of_ten}
@@ -70,6 +76,27 @@ unfolding right
 entry_right e p h =
     eqb→eq (get_or (bands_of e) p 0) (band_of_place (layout e) p)
     (subst (λ (m : ℕ). T (right e m (get_or (bands_of e) p 0))) (zero-add p) (from_on (right e) 0 (bands_of e) (table_right_lem e) p (omega (arith, bands_whole e))))
+
+-- an element that `get` lends, copied
+pub item_get : (xs : List ℕ) (i : ℕ) (r : Option (Bor ℕ)) → IsItemAt xs i r → option_copied r ≡ slice_get xs i
+item_get xs i None h = sym (slice_get_past xs i h.3)
+item_get xs i (Some x) h = sym (slice_get_read xs (length xs) i x.now refl h.3.0 h.1)
+
+-- the entry that the table has for a place, if it has one
+pub entry_get : (e : Bool) (p : ℕ) → slice_get (bands_of e) p ≡ number_of_band e p
+entry_get e p = by (dec_lt p 4096)
+  where
+    by : Dec (p < 4096) → slice_get (bands_of e) p ≡ number_of_band e p
+    by (yes h) = slice_get-get_or (bands_of e) p 0 (rw (bands_whole e) h) ∙ ap Some (entry_right e p h) ∙ rw (lt-ltb p 4096 h)
+    by (no h) = slice_get_past (bands_of e) p (rw (bands_whole e) (omega arith)) ∙ rw (le-ltb p 4096 (omega arith))
+
+-- with 10 for none it is the number of the first band that encloses the place
+pub number_or_10 : (e : Bool) (p : ℕ) → unwrap_or (number_of_band e p) 10 ≡ band_of_place (layout e) p
+number_or_10 e p = by (dec_lt p 4096)
+  where
+    by : Dec (p < 4096) → unwrap_or (number_of_band e p) 10 ≡ band_of_place (layout e) p
+    by (yes h) = rw (lt-ltb p 4096 h)
+    by (no h) = rw (le-ltb p 4096 (omega arith)) (sym (past_all e p (omega arith)))
 
 -- what each place has of its band, it has by the table
 pub by_table : {A : Type 0} (e : Bool) (f : ℕ → A) → per_place e f ≡ map f (bands_of e)

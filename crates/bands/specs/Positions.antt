@@ -1,10 +1,10 @@
 -- Positions and quantizers: "each is a whole number from 0 to 15 per band; the domain ends there" (docs/SCOPE.md, "Positions and quantizers"). Refusal 2 is for the others.
-use Rattle.std.specs.Prelude.{Bool, true, ◌&&◌, List, [], ◌∷◌, ℕ, leb}
+use Rattle.std.specs.Prelude.{Bool, List, ℕ, leb}
+use Rattle.std.specs.List.{list_all}
 
 -- f holds of every element
 abbrev pub every : {A : Type 0} → (A → Bool) → List A → Bool
-every f [] = true
-every f (x ∷ xs) = f x && every f xs
+every = list_all
 
 -- a number: "from 0 to 15"
 abbrev pub in_domain : ℕ → Bool

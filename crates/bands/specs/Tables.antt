@@ -1,5 +1,5 @@
 -- What both tables of bands and both tables of places satisfy: the statements that `bands::band_tables` and `bands::place_tables` prove.
-use Rattle.std.specs.Prelude.{Bool, true, false, cond, ◌&&◌, List, [], ◌∷◌, map, ◌≡◌, ℕ, zero, suc, ◌+◌, ◌≤◌, ◌<◌, T, eqb, leb, ltb, length, get_or}
+use Rattle.std.specs.Prelude.{Bool, true, false, cond, ◌&&◌, List, [], ◌∷◌, map, ◌≡◌, ℕ, zero, suc, ◌+◌, ◌≤◌, ◌<◌, T, eqb, leb, ltb, length, get_or, Option, Some, None}
 use Rattle.bands.specs.declared.BandInfo.{BandInfo}
 use Rattle.bands.specs.Bands.{layout, count_of, band_at, bottom_offset, per_place, bands_of, position_of}
 
@@ -11,6 +11,10 @@ encloses i p = leb i.offset p && ltb p (i.offset + count_of i)
 unfoldable pub band_of_place : List BandInfo → ℕ → ℕ
 band_of_place [] p = 0
 band_of_place (i ∷ is) p = cond (encloses i p) 0 (suc (band_of_place is p))
+
+-- that of a place in a layout: a place past the 4,096 has none
+abbrev pub number_of_band : Bool → ℕ → Option ℕ
+number_of_band e p = cond (ltb p 4096) (Some (band_of_place (layout e) p)) None
 
 -- the number of coefficients in the first b bands
 unfoldable pub count_before : List BandInfo → ℕ → ℕ

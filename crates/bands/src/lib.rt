@@ -5,7 +5,7 @@
 ghost use Rattle.std.specs.Prelude.{true, false, ◌≡◌, ◌*◌, ◌^◌, ◌<◌};
 ghost use Rattle.bands.specs.Bands.{layout, count_of, band_at, bottom_offset, bands_of};
 ghost use Rattle.bands.specs.Positions.{row_in_domain, rows_in_domain};
-ghost use Rattle.bands.specs.Tables.{BandTables, band_of_place, band_ends, PlaceTables};
+ghost use Rattle.bands.specs.Tables.{BandTables, number_of_band, band_ends, PlaceTables};
 
 pub mod span;
 mod tables;
@@ -13,7 +13,7 @@ mod tables;
 // Bands of a component.
 pub const NUM_BANDS: usize = 10;
 
-// The number that stands for no band.
+// The number that stands for no band where a number must be given, as in C.
 pub const NO_BAND: u8 = 10;
 
 // Coefficients of a component.
@@ -29,7 +29,7 @@ pub const PIXEL_BYTES: usize = 16384;
 pub const MAX_POSITION: u8 = 15;
 
 // A band: its size, and the place of its first coefficient.
-#[derive(Clone, Copy)]
+#[derive(Clone, Copy, Default)]
 pub struct BandInfo {
     pub width: usize,
     pub height: usize,
@@ -183,18 +183,10 @@ pub fn get_band_layout(use_reduce_extrapolate: bool) -> [BandInfo; 10]
 pub fn band(use_reduce_extrapolate: bool, band_idx: usize) -> BandInfo
     ensures { result ≡ band_at use_reduce_extrapolate band_idx }
 {
-    if band_idx >= NUM_BANDS {
-        return BandInfo {
-            width: 0,
-            height: 0,
-            offset: 0,
-        };
-    }
-    if use_reduce_extrapolate {
-        EXTRAPOLATE[band_idx]
-    } else {
-        STANDARD[band_idx]
-    }
+    get_band_layout(use_reduce_extrapolate)
+        .get(band_idx)
+        .copied()
+        .unwrap_or_default()
 }
 
 // The number of coefficients in one band; past the tenth, 0.
@@ -229,16 +221,12 @@ pub fn bands_of_places(use_reduce_extrapolate: bool) -> [u8; 4096]
     }
 }
 
-// The number of the band that a place belongs to, 0 to 9; of a place past the 4,096, which has none, `NO_BAND`. Who asks for many places takes the
-// table: the compiler builds a constant array at each use.
-pub fn band_of_place(use_reduce_extrapolate: bool, place: usize) -> u8
-    ensures { result ≡ band_of_place (layout use_reduce_extrapolate) place }
+// The number of the band that a place belongs to, 0 to 9; a place past the 4,096 has none. Who asks for many places takes the table: the compiler
+// builds a constant array at each use.
+pub fn band_of_place(use_reduce_extrapolate: bool, place: usize) -> Option<u8>
+    ensures { result ≡ number_of_band use_reduce_extrapolate place }
 {
-    if place >= COEFFICIENTS_PER_COMPONENT {
-        return NO_BAND;
-    }
-    let table = bands_of_places(use_reduce_extrapolate);
-    table[place]
+    bands_of_places(use_reduce_extrapolate).get(place).copied()
 }
 
 // Where each band of a layout ends.
@@ -264,14 +252,7 @@ pub fn place_tables()
 pub fn positions_in_domain(positions: &[u8]) -> bool
     ensures { result ≡ row_in_domain positions.now }
 {
-    let mut b: usize = 0;
-    while b < positions.len() {
-        if positions[b] > MAX_POSITION {
-            return false;
-        }
-        b += 1;
-    }
-    true
+    positions.iter().all(|p| *p <= MAX_POSITION)
 }
 
 // A component's row of ten.
@@ -285,13 +266,5 @@ pub fn row_in_domain(row: [u8; 10]) -> bool
 pub fn rows_in_domain(rows: [[u8; 10]; 3]) -> bool
     ensures { result ≡ rows_in_domain rows }
 {
-    let mut c: usize = 0;
-    while c < 3 {
-        let row = rows[c];
-        if !row_in_domain(row) {
-            return false;
-        }
-        c += 1;
-    }
-    true
+    rows.iter().all(|row| row_in_domain(*row))
 }

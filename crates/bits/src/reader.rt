@@ -5,7 +5,7 @@ ghost use Rattle.bits.specs.Bits.{num, zeros, bits_read, place_of, held};
 ghost use Rattle.bits.specs.Inner.{Top, Front, CountsZeros};
 
 // A place in a stream: a byte, and a bit of it, 0 to 7, counted from the highest.
-#[derive(Clone, Copy)]
+#[derive(Clone, Copy, Debug, PartialEq, Eq)]
 pub struct BitReader {
     pub byte_idx: usize,
     pub bit_idx: u8,
@@ -25,7 +25,7 @@ pub fn skip(r: BitReader, count: usize) -> BitReader
     requires { (r.bit_idx ≤ 7) × (r.byte_idx + count < 2 ^ 63 + 2 ^ 62) }
     ensures { result ≡ place_of (bits_read r + count) }
 {
-    let bits = r.bit_idx as usize + count;
+    let bits = usize::from(r.bit_idx) + count;
     BitReader {
         byte_idx: r.byte_idx + bits / 8,
         bit_idx: (bits % 8) as u8,
@@ -47,7 +47,7 @@ pub fn count_of(r: BitReader) -> usize
     requires { (r.bit_idx ≤ 7) × (r.byte_idx < 2 ^ 60) }
     ensures { result ≡ bits_read r }
 {
-    8 * r.byte_idx + r.bit_idx as usize
+    8 * r.byte_idx + usize::from(r.bit_idx)
 }
 
 // The place, or the stream's end where it is past that.
@@ -74,33 +74,24 @@ pub fn past_end(src: &[u8], r: BitReader) -> u64
     if r.byte_idx < len {
         return 0;
     }
-    8 * ((r.byte_idx - len) as u64) + r.bit_idx as u64
+    8 * ((r.byte_idx - len) as u64) + u64::from(r.bit_idx)
 }
 
 // ---- words
-
-fn wide(x: u8) -> u64
-    ensures { result ≡ x }
-{
-    x as u64
-}
 
 // A byte that is there.
 fn byte_in(src: &[u8], i: usize) -> u64
     requires { i < length src.now }
     ensures { (result ≡ get_or src.now i 0) × (result < 256) }
 {
-    wide(src[i])
+    u64::from(src[i])
 }
 
 // A byte, 0 past the end.
 fn byte_or_zero(src: &[u8], i: usize) -> u64
     ensures { (result ≡ get_or src.now i 0) × (result < 256) }
 {
-    if i < src.len() {
-        return byte_in(src, i);
-    }
-    0
+    u64::from(src.get(i).copied().unwrap_or(0))
 }
 
 // The 64 bits from a byte on that has seven behind it. In this form the compiler makes one load of it.
@@ -125,10 +116,8 @@ fn eight_or_zero(src: &[u8], i: usize) -> u64
         return 0;
     }
     let mut bits: u64 = 0;
-    let mut j: usize = 0;
-    while j < 8 {
+    for j in 0..8 {
         bits = bits * 256 + byte_or_zero(src, i + j);
-        j += 1;
     }
     bits
 }
@@ -138,10 +127,8 @@ fn window(src: &[u8], i: usize) -> u64
     ensures { result ≡ num src.now (8 * i) 64 }
 {
     let len = src.len();
-    if 8 <= len {
-        if i <= len - 8 {
-            return eight_in(src, i);
-        }
+    if 8 <= len && i <= len - 8 {
+        return eight_in(src, i);
     }
     eight_or_zero(src, i)
 }
@@ -173,7 +160,7 @@ pub fn behind(a: u64, count: u32) -> u64
 pub fn leading(a: u64) -> u32
     ensures { result ≡ count_leading_zeros 64 a }
 {
-    u64::leading_zeros(a)
+    a.leading_zeros()
 }
 
 // The top `count` bits of a word, as a number.
@@ -184,17 +171,11 @@ pub fn top(a: u64, count: u8) -> u64
     (a >> 1) >> (63 - count)
 }
 
-fn at_most(a: u32, b: u32) -> u32
-    ensures { result ≡ min a b }
-{
-    if a < b { a } else { b }
-}
-
 // The leading zeros of a word, at most `limit`.
 fn lead(a: u64, limit: u32) -> u32
     ensures { result ≡ min limit (count_leading_zeros 64 a) }
 {
-    at_most(limit, leading(a))
+    limit.min(leading(a))
 }
 
 // ---- zeros before a 1
@@ -224,7 +205,7 @@ pub fn count_zeros(src: &[u8], r: BitReader, limit: u32) -> ZerosCounted
                 turns,
             };
         }
-        let part = at_most(limit - z, 56);
+        let part = (limit - z).min(56);
         let found = zeros_ahead(src, at, part);
         if found < part {
             return ZerosCounted {
@@ -248,7 +229,7 @@ pub fn zeros_behind_first(src: &[u8], r: BitReader, a: u64, have: u32, limit: u3
         × Front have a src.now (bits_read r) }
     ensures { result ≡ zeros src.now (bits_read r + 1) limit }
 {
-    let part = at_most(limit, have - 1);
+    let part = limit.min(have - 1);
     let z = lead(behind(a, 1), part);
     if z < part {
         return z;

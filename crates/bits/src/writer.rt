@@ -40,7 +40,7 @@ pub fn store(out: &mut [u8], at: usize, byte: u8)
 pub fn bit_of(b: bool) -> u8
     ensures { result ≡ bit_of b }
 {
-    if b { 1 } else { 0 }
+    u8::from(b)
 }
 
 // ---- bits by the word
@@ -147,7 +147,7 @@ pub fn settle(out: &mut [u8], k: WordWriter) -> BitWriter
     store_bytes(out, at, word, held);
     let left = held % 8;
     BitWriter {
-        at: at + ((held / 8) as usize),
+        at: at + usize::from(held / 8),
         current: low_bits(word, left) as u8,
         bit_count: left,
     }
@@ -184,7 +184,7 @@ pub fn count_bits(p: BitCount, n: usize) -> BitCount
     requires { (p.bit_count ≤ 7) × (p.at + n + 7 < 2 ^ 64) }
     ensures { result ≡ counted p n }
 {
-    let total = (p.bit_count as usize) + n;
+    let total = usize::from(p.bit_count) + n;
     BitCount {
         at: p.at + total / 8,
         bit_count: (total % 8) as u8,

@@ -86,13 +86,13 @@ fn lane_blue(y: i16, cb: i16) -> u8
 fn two(low: u8, high: u8) -> u16
     ensures { result ≡ low + 256 * high }
 {
-    low as u16 + 256 * high as u16
+    u16::from_le_bytes([low, high])
 }
 
 fn four(low: u16, high: u16) -> u32
     ensures { result ≡ low + 65536 * high }
 {
-    low as u32 + 65536 * high as u32
+    u32::from(low) + 65536 * u32::from(high)
 }
 
 // A pixel's lower two bytes, and its upper two.
@@ -113,10 +113,8 @@ fn joined(low: [u16; 64], high: [u16; 64]) -> [u32; 64]
     ensures { (k : ℕ) → k < 64 → get_or result k 0 ≡ get_or low k 0 + 65536 * get_or high k 0 }
 {
     let mut out: [u32; 64] = [0; 64];
-    let mut i: usize = 0;
-    while i < 64 {
+    for i in 0..64 {
         out[i] = four(low[i], high[i]);
-        i += 1;
     }
     out
 }
@@ -129,14 +127,12 @@ fn words(y: &[i16], cb: &[i16], cr: &[i16], at: usize) -> [u32; 64]
 {
     let mut low: [u16; 64] = [0; 64];
     let mut high: [u16; 64] = [0; 64];
-    let mut i: usize = 0;
-    while i < 64 {
+    for i in 0..64 {
         let l = y[at + i];
         let b = cb[at + i];
         let r = cr[at + i];
         low[i] = red_green(l, b, r);
         high[i] = blue_full(l, b);
-        i += 1;
     }
     joined(low, high)
 }
@@ -158,10 +154,8 @@ fn write_64(y: &[i16], cb: &[i16], cr: &[i16], pixels: &mut [u8], at: usize)
     ensures { PixelsWritten y.now cb.now cr.now pixels.old at pixels.new (at + 64) }
 {
     let all = words(y, cb, cr, at);
-    let mut i: usize = 0;
-    while i < 64 {
-        put_word(pixels, 4 * (at + i), all[i]);
-        i += 1;
+    for (i, word) in all.iter().enumerate() {
+        put_word(pixels, 4 * (at + i), *word);
     }
 }
 
@@ -182,13 +176,11 @@ pub fn write_rgba(y: &[i16], cb: &[i16], cr: &[i16], pixels: &mut [u8])
     ensures { pixels.new
         ≡ picture y.now cb.now cr.now ++ drop (4 * length y.now) pixels.old }
 {
-    let mut at: usize = 0;
-    while at + 64 <= y.len() {
-        write_64(y, cb, cr, pixels, at);
-        at += 64;
+    let blocks = y.len() / 64;
+    for block in 0..blocks {
+        write_64(y, cb, cr, pixels, 64 * block);
     }
-    while at < y.len() {
+    for at in 64 * blocks..y.len() {
         write_one(y, cb, cr, pixels, at);
-        at += 1;
     }
 }

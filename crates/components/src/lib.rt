@@ -10,11 +10,17 @@ ghost use Rattle.components.specs.Inner.{Few, ComponentPassed, ComponentsPassed}
 
 use progressive_decoder::MissingBits;
 
+// The two streams of a component.
+#[derive(Clone, Copy)]
+pub struct Streams<'a> {
+    pub srl: &'a [u8],
+    pub raw: &'a [u8],
+}
+
 // One component of the flat arrays, by its number; the bits that were missing. The tile has seen that no position is above 15.
 fn upgrade_component(
     k: usize,
-    srl_data: &[u8],
-    raw_data: &[u8],
+    streams: Streams<'_>,
     positions: [u8; 30],
     rows: [[u8; 10]; 3],
     use_reduce_extrapolate: bool,
@@ -22,7 +28,7 @@ fn upgrade_component(
     sign: &mut [i8],
 ) -> MissingBits
     requires { (k < 3) × (row_in_domain positions ≡ true) × (length coefficients.old ≡ 12288) × (length sign.old ≡ 12288) }
-    ensures { ComponentPassed k use_reduce_extrapolate positions rows srl_data.now raw_data.now
+    ensures { ComponentPassed k use_reduce_extrapolate positions rows streams.entry.srl.now streams.entry.raw.now
         coefficients.old sign.old coefficients.new sign.new result }
 {
     let prev = planes::row_at(positions, k * 10);
@@ -30,8 +36,8 @@ fn upgrade_component(
     let at = k * bands::COEFFICIENTS_PER_COMPONENT;
     let end = at + bands::COEFFICIENTS_PER_COMPONENT;
     progressive_decoder::upgrade::upgrade_all(
-        srl_data,
-        raw_data,
+        streams.srl,
+        streams.raw,
         prev,
         curr,
         use_reduce_extrapolate,
@@ -53,12 +59,9 @@ fn sum_of(y: MissingBits, cb: MissingBits, cr: MissingBits) -> MissingBits
 
 // All three; the bits that were missing in all of them.
 pub fn upgrade_components(
-    y_srl: &[u8],
-    y_raw: &[u8],
-    cb_srl: &[u8],
-    cb_raw: &[u8],
-    cr_srl: &[u8],
-    cr_raw: &[u8],
+    y: Streams<'_>,
+    cb: Streams<'_>,
+    cr: Streams<'_>,
     positions: [u8; 30],
     rows: [[u8; 10]; 3],
     use_reduce_extrapolate: bool,
@@ -67,13 +70,13 @@ pub fn upgrade_components(
 ) -> MissingBits
     requires { (row_in_domain positions ≡ true) × (length coefficients.old ≡ 12288) × (length sign.old ≡ 12288) }
     ensures { ComponentsPassed use_reduce_extrapolate positions rows
-        (three y_srl.now cb_srl.now cr_srl.now)
-        (three y_raw.now cb_raw.now cr_raw.now)
+        (three y.entry.srl.now cb.entry.srl.now cr.entry.srl.now)
+        (three y.entry.raw.now cb.entry.raw.now cr.entry.raw.now)
         coefficients.old sign.old coefficients.new sign.new result }
 {
     let e = use_reduce_extrapolate;
-    let y = upgrade_component(0, y_srl, y_raw, positions, rows, e, coefficients, sign);
-    let cb = upgrade_component(1, cb_srl, cb_raw, positions, rows, e, coefficients, sign);
-    let cr = upgrade_component(2, cr_srl, cr_raw, positions, rows, e, coefficients, sign);
-    sum_of(y, cb, cr)
+    let y_missing = upgrade_component(0, y, positions, rows, e, coefficients, sign);
+    let cb_missing = upgrade_component(1, cb, positions, rows, e, coefficients, sign);
+    let cr_missing = upgrade_component(2, cr, positions, rows, e, coefficients, sign);
+    sum_of(y_missing, cb_missing, cr_missing)
 }

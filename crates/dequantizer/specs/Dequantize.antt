@@ -1,10 +1,11 @@
 -- Dequantizing a component (docs/SCOPE.md, "Dequantizing").
-use Rattle.std.specs.Prelude.{◌≡◌, Bool, cond, List, [], ◌∷◌, ℕ, ◌-◌, ltb, ℤ, get_or}
+use Rattle.std.specs.Prelude.{◌≡◌, Bool, cond, List, [], ◌∷◌, ℕ, ◌-◌, ltb, ℤ, get_or, ⊤, Option, Result}
 use Rattle.fixed.specs.Fixed.{round_shift, shift_left_clamp}
 use Rattle.bands.specs.Bands.{per_place}
 use Rattle.bands.specs.Positions.{row_in_domain}
-use Rattle.answer.specs.declared.Answer.{Answer}
-use Rattle.answer.specs.Refusals.{slice_too_short, out_of_domain, unless, first_of, long_enough, answered, unless_refused}
+use Rattle.answer.specs.declared.Refusal.{Refusal}
+use Rattle.answer.specs.declared.Refusal.TheVariants.{SliceTooShort, OutOfDomain}
+use Rattle.answer.specs.Answers.{unless, first_of, long_enough, answered, unless_refused}
 
 -- "a quantizer q above 6 shifts left q - 6 places and clamps; below 6 it adds 2^(5-q) and shifts right 6 - q places with floor; 6 leaves the value"
 abbrev pub dequantized : ℕ → ℤ → ℤ
@@ -23,18 +24,18 @@ quantizers e quant = per_place e (λ b. get_or quant b 0)
 -- ════ `dequantize_component_ccq` ════
 
 -- "order: .. 1, 2"
-abbrev pub dequantize_refusal : List ℕ → List ℤ → ℕ
-dequantize_refusal quant cs = first_of (unless (long_enough cs) slice_too_short) (unless (row_in_domain quant) out_of_domain)
+abbrev pub dequantize_refusal : List ℕ → List ℤ → Option Refusal
+dequantize_refusal quant cs = first_of (unless (long_enough cs) SliceTooShort) (unless (row_in_domain quant) OutOfDomain)
 
 -- the answer
-abbrev pub dequantize_answer : List ℕ → List ℤ → Answer
-dequantize_answer quant cs = answered (dequantize_refusal quant cs)
+abbrev pub dequantize_answer : List ℕ → List ℤ → Result ⊤ Refusal
+dequantize_answer quant cs = answered (dequantize_refusal quant cs) tt
 
 -- the coefficients then
 abbrev pub dequantize_out : Bool → List ℕ → List ℤ → List ℤ
 dequantize_out e quant cs = unless_refused (dequantize_refusal quant cs) (dequantized_all (quantizers e quant) cs) cs
 
 -- what the call fixes: its answer, and the slice
-pub record Dequantizes (e : Bool) (quant : List ℕ) (cs : List ℤ) (r : Answer) (cs' : List ℤ) : Type 0 where
+pub record Dequantizes (e : Bool) (quant : List ℕ) (cs : List ℤ) (r : Result ⊤ Refusal) (cs' : List ℤ) : Type 0 where
   pub answer : r ≡ dequantize_answer quant cs
   pub coefficients : cs' ≡ dequantize_out e quant cs

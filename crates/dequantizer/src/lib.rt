@@ -21,11 +21,8 @@ fn dequantize_value(c: i16, q: u8) -> i16
 fn dequantize_band(coefficients: &mut [i16], q: u8)
     ensures { coefficients.new ≡ dequantized_all (replicate (length coefficients.old) q) coefficients.old }
 {
-    let mut i: usize = 0;
-    while i < coefficients.len() {
-        let c = coefficients[i];
-        coefficients[i] = dequantize_value(c, q);
-        i += 1;
+    for c in coefficients.iter_mut() {
+        *c = dequantize_value(*c, q);
     }
 }
 
@@ -34,13 +31,9 @@ pub fn dequantize_bands(coefficients: &mut [i16], quant: [u8; 10], use_reduce_ex
     requires { 4096 ≤ length coefficients.old }
     ensures { coefficients.new ≡ dequantized_all (quantizers use_reduce_extrapolate quant) coefficients.old }
 {
-    let mut b: usize = 0;
-    while b < bands::NUM_BANDS {
+    for b in 0..bands::NUM_BANDS {
         let span = bands::span::band_span(use_reduce_extrapolate, b);
-        let from = span.from;
-        let to = span.to;
-        dequantize_band(&mut coefficients[from..to], quant[b]);
-        b += 1;
+        dequantize_band(&mut coefficients[span.from..span.to], quant[b]);
     }
 }
 
@@ -49,15 +42,15 @@ pub fn dequantize_component_ccq(
     coefficients: &mut [i16],
     quant: [u8; 10],
     use_reduce_extrapolate: bool,
-) -> answer::Answer
+) -> Result<(), answer::Refusal>
     ensures { Dequantizes use_reduce_extrapolate quant coefficients.old result coefficients.new }
 {
     if coefficients.len() < bands::COEFFICIENTS_PER_COMPONENT {
-        return answer::Answer::Refused(answer::SLICE_TOO_SHORT);
+        return Err(answer::Refusal::SliceTooShort);
     }
     if !bands::row_in_domain(quant) {
-        return answer::Answer::Refused(answer::OUT_OF_DOMAIN);
+        return Err(answer::Refusal::OutOfDomain);
     }
     dequantize_bands(coefficients, quant, use_reduce_extrapolate);
-    answer::Answer::Accepted
+    Ok(())
 }

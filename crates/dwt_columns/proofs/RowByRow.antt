@@ -17,18 +17,16 @@ use Rattle.dwt_columns.proofs.Products.{scale}
 use Rattle.dwt_columns.proofs.Put.{part_length, drop_more, put_kept}
 use Rattle.dwt_columns.proofs.Places.{zip3_length}
 
--- ════ what a call on parts says of the whole: the parts are w places from l, h, k and i on ════
+-- ════ what a call on rows says of the whole: L, H and K are w places from l, h and k on, and d is given from i on ════
 
-module _ (low f g d u : List ℤ) (w l h k i a b e j n : ℕ) (ea : a ≡ w) (eb : b ≡ w) (ee : e ≡ w) (ej : j ≡ n) (nw : w ≤ n) (nl : l + w ≤ length low) where
+module _ (low f g d u L H K : List ℤ) (w l h k i j n : ℕ) (eL : L ≡ take w (drop l low)) (eH : H ≡ take w (drop h f)) (eK : K ≡ take w (drop k g)) (ej : j ≡ n) (nw : w ≤ n) (nl : l + w ≤ length low) where
   -- a pair of rows
-  pub pair_put : u ≡ pair_rows (take a (drop l low)) (take b (drop h f)) (take e (drop k g)) (take (length (take a (drop l low))) (take j (drop i d)))
-      → put_part i j d u ≡ put_part i n d (pair_rows (take w (drop l low)) (take w (drop h f)) (take w (drop k g)) (take w (drop i d)))
-  pair_put q = rw (q, ej, ea, eb, ee, part_length low w l nl, take-take w n (drop i d) nw)
+  pub pair_put : u ≡ pair_rows L H K (take (length L) (take j (drop i d))) → put_part i j d u ≡ put_part i n d (pair_rows (take w (drop l low)) (take w (drop h f)) (take w (drop k g)) (take w (drop i d)))
+  pair_put q = rw (q, ej, eL, eH, eK, part_length low w l nl, take-take w n (drop i d) nw)
 
   -- the last three rows
-  pub last_put : u ≡ end_rows (take a (drop l low)) (take b (drop h f)) (take e (drop k g)) (take (length (take a (drop l low))) (take j (drop i d)))
-      → put_part i j d u ≡ put_part i n d (end_rows (take w (drop l low)) (take w (drop h f)) (take w (drop k g)) (take w (drop i d)))
-  last_put q = rw (q, ej, ea, eb, ee, part_length low w l nl, take-take w n (drop i d) nw)
+  pub last_put : u ≡ end_rows L H K (take (length L) (take j (drop i d))) → put_part i j d u ≡ put_part i n d (end_rows (take w (drop l low)) (take w (drop h f)) (take w (drop k g)) (take w (drop i d)))
+  last_put q = rw (q, ej, eL, eH, eK, part_length low w l nl, take-take w n (drop i d) nw)
 
 -- ════ a turn ════
 
@@ -85,6 +83,23 @@ module _ (low high d : List ℤ) (w l h i : ℕ) (nl : l + w ≤ length low) (nh
       let less : suc m - 1 ≡ m = omega arith in
       rw (front, next, less, ← drop-drop w (l + w) low, ← drop-drop w (h + w) high, append_assoc, append_assoc)
       (p ∙ ap (λ (z : List ℤ). take i d ++ z) (from_more x H L w m k (drop (l + w) low) (drop (h + w) high)))
+
+-- what is left of the rows Y: the even row is at i, the high row beside it at h and the low row after it at l; then m high rows are left, and e low ones more
+pub record ColsLeft (Y low high d₀ : List ℤ) (w e i h l m : ℕ) (d : List ℤ) : Type 0 where
+  pub kept : drop (i + w) d ≡ drop (i + w) d₀
+  pub left : Y ≡ take i d ++ flatten (from_rows (take w (drop i d)) (take w (drop h high)) (take w (drop l low)) (rows w (m + e) (drop (l + w) low)) (rows w m (drop (h + w) high)))
+
+-- the same by other names
+pub left_at : {Y low high d₀ d : List ℤ} {w e i h l m i' h' l' m' : ℕ} → ColsLeft Y low high d₀ w e i h l m d → i' ≡ i → h' ≡ h → l' ≡ l → m' ≡ m → ColsLeft Y low high d₀ w e i' h' l' m' d
+left_at c ei eh el em = rw (ei, eh, el, em) c
+
+-- a pair of rows less
+pub left_next : {Y low high d₀ d : List ℤ} {w e i h l m : ℕ} (D : List ℤ) → l + w ≤ length low → h + w ≤ length high → h + w + w ≤ length high → i + 3 * w ≤ length d → 0 < m
+    → D ≡ put_part i (3 * w) d (pair_rows (take w (drop l low)) (take w (drop h high)) (take w (drop (h + w) high)) (take w (drop i d))) → ColsLeft Y low high d₀ w e i h l m d → ColsLeft Y low high d₀ w e (i + 2 * w) (h + w) (l + w) (m - 1) D
+left_next {Y} {low} {high} {d₀} {d} {w} {e} {i} {h} {l} {m} D nl nh n2 nd z f c = record {
+  kept = cols_kept low high d w l h i nl nh D nd n2 f d₀ c.kept;
+  left = cols_turn low high d w l h i nl nh D nd n2 f Y m e z c.left;
+}
 
 -- ════ the ends ════
 

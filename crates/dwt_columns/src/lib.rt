@@ -13,10 +13,8 @@ fn edge_row(l: &[i16], h: &[i16], d: &mut [i16])
     requires { (length h.now ≡ length l.now) × (length d.old ≡ length l.now) }
     ensures { d.new ≡ zip_with edge l.now h.now }
 {
-    let mut i: usize = 0;
-    while i < l.len() {
+    for i in 0..l.len() {
         d[i] = dwt_lines::edge_sample(l[i], h[i]);
-        i += 1;
     }
 }
 
@@ -27,12 +25,12 @@ fn pair_rows(l: &[i16], h: &[i16], k: &[i16], d: &mut [i16])
     ensures { d.new ≡ pair_rows l.now h.now k.now (take (length l.now) d.old) }
 {
     let w = l.len();
-    let mut i: usize = 0;
-    while i < w {
+    let (x, rest) = d.split_at_mut(w);
+    let (odd, even) = rest.split_at_mut(w);
+    for i in 0..w {
         let y = dwt_lines::even_sample(l[i], h[i], k[i]);
-        d[w + i] = dwt_lines::odd_sample(d[i], y, h[i]);
-        d[w + w + i] = y;
-        i += 1;
+        odd[i] = dwt_lines::odd_sample(x[i], y, h[i]);
+        even[i] = y;
     }
 }
 
@@ -43,62 +41,25 @@ fn last_rows(l: &[i16], h: &[i16], m: &[i16], d: &mut [i16])
     ensures { d.new ≡ end_rows l.now h.now m.now (take (length l.now) d.old) }
 {
     let w = l.len();
-    let mut i: usize = 0;
-    while i < w {
+    let (x, rest) = d.split_at_mut(w);
+    let (odd, rest) = rest.split_at_mut(w);
+    let (even, last) = rest.split_at_mut(w);
+    for i in 0..w {
         let y = dwt_lines::half_sample(l[i], h[i]);
-        d[w + i] = dwt_lines::odd_sample(d[i], y, h[i]);
-        d[w + w + i] = y;
-        d[w + w + w + i] = dwt_lines::mean_sample(y, m[i]);
-        i += 1;
+        odd[i] = dwt_lines::odd_sample(x[i], y, h[i]);
+        even[i] = y;
+        last[i] = dwt_lines::mean_sample(y, m[i]);
     }
 }
 
-// The pair of rows after the even row at d, of the low row at l and the high rows at h and k.
-fn pair_at(
-    low: &[i16],
-    high: &[i16],
-    dst: &mut [i16],
-    w: usize,
-    l: usize,
-    h: usize,
-    k: usize,
-    d: usize,
-)
-    requires { (l + w ≤ length low.now) × (h + w ≤ length high.now) × (k + w ≤ length high.now) × (d + 3 * w ≤ length dst.old) }
-    ensures { dst.new ≡ put_part d (3 * w) dst.old
-        (pair_rows (take w (drop l low.now)) (take w (drop h high.now))
-        (take w (drop k high.now)) (take w (drop d dst.old))) }
+// Row n, of rows of w places.
+fn row(rows: &[i16], w: usize, n: usize) -> &[i16]
+    requires { n * w + w ≤ length rows.now }
+    ensures value { result.now ≡ take w (drop (n * w) rows.now) }
+    ensures len { length result.now ≡ w }
 {
-    pair_rows(
-        &low[l..l + w],
-        &high[h..h + w],
-        &high[k..k + w],
-        &mut dst[d..d + 3 * w],
-    );
-}
-
-// The last three rows after the even row at d, of the low rows at l and m and the high row at h.
-fn last_at(
-    low: &[i16],
-    high: &[i16],
-    dst: &mut [i16],
-    w: usize,
-    l: usize,
-    h: usize,
-    m: usize,
-    d: usize,
-)
-    requires { (l + w ≤ length low.now) × (h + w ≤ length high.now) × (m + w ≤ length low.now) × (d + 4 * w ≤ length dst.old) }
-    ensures { dst.new ≡ put_part d (4 * w) dst.old
-        (end_rows (take w (drop l low.now)) (take w (drop h high.now))
-        (take w (drop m low.now)) (take w (drop d dst.old))) }
-{
-    last_rows(
-        &low[l..l + w],
-        &high[h..h + w],
-        &low[m..m + w],
-        &mut dst[d..d + 4 * w],
-    );
+    let at = n * w;
+    &rows[at..at + w]
 }
 
 // The rows of all columns after the first, which dst begins with.
@@ -110,22 +71,23 @@ fn cols_from(low: &[i16], high: &[i16], dst: &mut [i16], w: usize, p: usize, q: 
         (rows w (p - 2) (drop (w + w) low.now)) (rows w (q - 1) (drop w high.now)))
         ++ drop ((p + q) * w) dst.old }
 {
-    let mut l = w;
-    let mut h: usize = 0;
-    let mut d: usize = 0;
-    let mut m = q - 1;
-    while 0 < m {
-        pair_at(low, high, dst, w, l, h, h + w, d);
-        l += w;
-        h += w;
-        d += 2 * w;
-        m -= 1;
+    for j in 1..q {
+        let d = 2 * ((j - 1) * w);
+        pair_rows(
+            row(low, w, j),
+            row(high, w, j - 1),
+            row(high, w, j),
+            &mut dst[d..d + 3 * w],
+        );
     }
+    let l = row(low, w, q);
+    let h = row(high, w, q - 1);
+    let d = 2 * ((q - 1) * w);
     if p == q + 1 {
-        pair_at(low, high, dst, w, l, h, h, d);
+        pair_rows(l, h, h, &mut dst[d..d + 3 * w]);
         return;
     }
-    last_at(low, high, dst, w, l, h, l + w, d);
+    last_rows(l, h, row(low, w, q + 1), &mut dst[d..d + 4 * w]);
 }
 
 // All columns at once: of p low rows and q high ones, each of w places, p + q rows.

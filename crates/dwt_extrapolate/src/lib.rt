@@ -5,7 +5,7 @@ ghost use Rattle.std.specs.Prelude.{◌≡◌, ◌+◌, ◌*◌, ◌≤◌, leng
 ghost use mathlib.Core.List.{◌++◌, flatten};
 ghost use Rattle.dwt_lines.specs.Line.{Halves};
 ghost use Rattle.dwt_extrapolate.specs.Block.{lines, scratch, block};
-ghost use Rattle.dwt_extrapolate.specs.Transform.{Inverts};
+ghost use Rattle.dwt_extrapolate.specs.Transform.{inverse, scratched, Inverts};
 ghost use Rattle.dwt_extrapolate.specs.Refused.{InverseRefusals};
 ghost use Rattle.dwt_extrapolate.specs.Made.{LineHalves};
 
@@ -17,16 +17,12 @@ fn idwt_rows(low: &[i16], high: &[i16], dst: &mut [i16], p: usize, q: usize, n: 
     ensures { dst.new ≡ flatten (lines p q n low.now high.now) ++ drop (n * (p + q)) dst.old }
 {
     let w = p + q;
-    let mut l: usize = 0;
-    let mut h: usize = 0;
-    let mut d: usize = 0;
-    let mut m = n;
-    while 0 < m {
-        dwt_lines::idwt_row(&low[l..l + p], &high[h..h + q], &mut dst[d..d + w]);
-        l += p;
-        h += q;
-        d += w;
-        m -= 1;
+    for m in 0..n {
+        dwt_lines::idwt_row(
+            &low[m * p..(m + 1) * p],
+            &high[m * q..(m + 1) * q],
+            &mut dst[m * w..(m + 1) * w],
+        );
     }
 }
 
@@ -59,23 +55,31 @@ fn decode_block(buffer: &mut [i16], temp: &mut [i16], p: usize, q: usize)
     dwt_columns::idwt_cols(temp, buffer, half, w, p, q);
 }
 
-// The inverse wavelet, in place: three blocks, the smallest first. The scratch is lent, and altered.
-pub fn decode(buffer: &mut [i16], temp: &mut [i16]) -> answer::Answer
-    ensures { Inverts buffer.old temp.old result buffer.new temp.new }
+// The three blocks, the smallest first. The scratch is lent, and altered.
+pub fn decode_blocks(buffer: &mut [i16], temp: &mut [i16])
+    requires { (4096 ≤ length buffer.old) × (4096 ≤ length temp.old) }
+    ensures buffer_after { buffer.new ≡ inverse buffer.old }
+    ensures temp_after { temp.new ≡ scratched buffer.old temp.old }
 {
-    if buffer.len() < bands::COEFFICIENTS_PER_COMPONENT {
-        return answer::Answer::Refused(answer::SLICE_TOO_SHORT);
-    }
-    if temp.len() < bands::COEFFICIENTS_PER_COMPONENT {
-        return answer::Answer::Refused(answer::SLICE_TOO_SHORT);
-    }
     decode_block(&mut buffer[3807..], temp, 9, 8);
     decode_block(&mut buffer[3007..], temp, 17, 16);
     decode_block(buffer, temp, 33, 31);
-    answer::Answer::Accepted
 }
 
-// A refused call gives the refusal's number and leaves both slices as they were.
+// The inverse wavelet, in place.
+pub fn decode(buffer: &mut [i16], temp: &mut [i16]) -> Result<(), answer::Refusal>
+    ensures { Inverts buffer.old temp.old result buffer.new temp.new }
+{
+    if buffer.len() < bands::COEFFICIENTS_PER_COMPONENT
+        || temp.len() < bands::COEFFICIENTS_PER_COMPONENT
+    {
+        return Err(answer::Refusal::SliceTooShort);
+    }
+    decode_blocks(buffer, temp);
+    Ok(())
+}
+
+// A refused call gives the refusal, which has its number, and leaves both slices as they were.
 pub fn refusals()
     ensures { InverseRefusals }
 {}

@@ -71,17 +71,14 @@ pub fn idwt_row(low: &[i16], high: &[i16], dst: &mut [i16])
     let n = high.len();
     let mut h = high[0];
     let mut x = edge_sample(low[0], h);
-    let mut j: usize = 1;
-    let mut i: usize = 0;
-    while j < n {
+    for j in 1..n {
+        let i = 2 * (j - 1);
         let k = high[j];
         let y = even_sample(low[j], h, k);
         dst[i] = x;
         dst[i + 1] = odd_sample(x, y, h);
         x = y;
         h = k;
-        j += 1;
-        i += 2;
     }
-    row_end(&low[n..], x, h, &mut dst[i..]);
+    row_end(&low[n..], x, h, &mut dst[2 * (n - 1)..]);
 }

@@ -1,7 +1,8 @@
 -- Shifts by k places of a sixteen-bit number: as the code computes them for k up to 15, the bounds that it asks, and what a longer shift gives.
 -- Assumes nothing.
 use mathlib.Core.Path.{◌≡◌, refl, sym, ap, subst, ◌∙◌}
-use Prim.Native.Nat.{ℕ, zero, suc, ◌+◌, ◌-◌, ◌*◌, ◌/◌, ◌^◌, ◌<◌, ◌≤◌}
+use Prim.Native.Nat.{ℕ, zero, suc, ◌+◌, ◌-◌, ◌*◌, ◌/◌, ◌^◌, min, ◌<◌, ◌≤◌}
+use native.Mathlib.Decide.{dec_lt}
 use native.Mathlib.Omega.{arith}
 use native.Mathlib.Nat.{div-lt_iff_lt-mul, div-div-eq-div-mul, add-div_right, mul-div_cancel, mul-le-mul_right, mul_assoc, zero-mul, suc-mul, pow-suc}
 use mathlib.Core.Bool.{Bool, true, false, cond}
@@ -37,6 +38,14 @@ floor_whole (negsuc n) m h p = ap negsuc (div_small n 32768 h ∙ sym (div_small
 -- 15 places or more leave what 15 leave
 pub floor_far : (v : ℤ) (k : ℕ) → mag v < 32768 → 15 ≤ k → shr_z v 32768 ≡ floor_shift v k
 floor_far v k h p = floor_whole v (2 ^ k) h (power_large p)
+
+-- so the places are counted up to 15
+pub floor_held : (v : ℤ) (k m : ℕ) → mag v < 32768 → m ≡ min k 15 → shr_z v (2 ^ m) ≡ floor_shift v k
+floor_held v k m h e = by (dec_lt k 15)
+  where
+    by : Dec (k < 15) → shr_z v (2 ^ m) ≡ floor_shift v k
+    by (yes p) = let same : m ≡ k = omega (arith, e) in ap (λ (n : ℕ). shr_z v (2 ^ n)) same
+    by (no p) = let most : m ≡ 15 = omega (arith, e) in ap (λ (n : ℕ). shr_z v (2 ^ n)) most ∙ floor_far v k h (omega arith)
 
 -- ---- right, rounded
 round_zero : (v : ℤ) (m : ℕ) → mag v < 32768 → 65536 ≤ m → pos 0 ≡ shr_z (v +ℤ pos (m / 2)) m

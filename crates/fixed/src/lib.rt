@@ -12,14 +12,14 @@ ghost use Rattle.fixed.specs.Inner.{step};
 pub fn widen(value: i16) -> i32
     ensures { result ≡ value }
 {
-    value as i32
+    i32::from(value)
 }
 
 // An i16 as an i64.
 pub fn widen_i64(value: i16) -> i64
     ensures { result ≡ value }
 {
-    value as i64
+    i64::from(value)
 }
 
 // ---- clamping and wrapping
@@ -28,26 +28,14 @@ pub fn widen_i64(value: i16) -> i64
 pub fn clamp_i16(value: i32) -> i16
     ensures { result ≡ clamp_i16 value }
 {
-    if value < -32768 {
-        return -32768;
-    }
-    if value > 32767 {
-        return 32767;
-    }
-    value as i16
+    value.clamp(-32768, 32767) as i16
 }
 
 // The nearest number in 0 ..= 255.
 pub fn clamp_u8(value: i64) -> u8
     ensures { result ≡ clamp_u8 value }
 {
-    if value < 0 {
-        return 0;
-    }
-    if value > 255 {
-        return 255;
-    }
-    value as u8
+    value.clamp(0, 255) as u8
 }
 
 // The low sixteen bits, read as signed: wraps on purpose.
@@ -61,7 +49,7 @@ pub fn t(value: i32) -> i16
 pub fn sub_clamp(a: i16, b: i16) -> i16
     ensures { result ≡ clamp_i16 (a -ℤ b) }
 {
-    clamp_i16(a as i32 - b as i32)
+    clamp_i16(i32::from(a) - i32::from(b))
 }
 
 // ---- halving
@@ -86,10 +74,7 @@ pub fn half_floor(value: i32) -> i32
 pub fn shift_right_floor(value: i16, shift: u8) -> i16
     ensures { result ≡ floor_shift value shift }
 {
-    if shift > 15 {
-        return value >> 15;
-    }
-    value >> shift
+    value >> shift.min(15)
 }
 
 // Shifted right with half of 2 to the `shift` added first. That is q - q / 2, q being the value shifted one place less, which sixteen bits hold:
@@ -111,9 +96,9 @@ pub fn shift_left_clamp(value: i16, shift: u8) -> i16
     ensures { result ≡ shift_left_clamp value shift }
 {
     if shift > 15 {
-        return clamp_i16((value as i32) << 15);
+        return clamp_i16(i32::from(value) << 15);
     }
-    clamp_i16(((value as i32) << 16) >> (16 - shift))
+    clamp_i16((i32::from(value) << 16) >> (16 - shift))
 }
 
 // ---- signs and magnitudes
@@ -121,79 +106,47 @@ pub fn shift_left_clamp(value: i16, shift: u8) -> i16
 pub fn is_negative(value: i16) -> bool
     ensures { result ≡ is_negative value }
 {
-    value < 0
+    value.is_negative()
 }
 
 pub fn is_positive(value: i16) -> bool
     ensures { result ≡ is_positive value }
 {
-    value > 0
+    value.is_positive()
 }
 
 pub fn is_zero(value: i16) -> bool
     ensures { result ≡ is_zero value }
 {
-    if value == 0 {
-        return true;
-    }
-    false
+    value == 0
 }
 
 // Whether a coefficient's sign says that nothing is known of it yet.
 pub fn is_zero_sign(sign: i8) -> bool
     ensures { result ≡ is_zero sign }
 {
-    if sign == 0 {
-        return true;
-    }
-    false
+    sign == 0
 }
 
 // Whether a coefficient's sign is 1, at which raw bits are added; at every other they are subtracted.
 pub fn is_positive_sign(sign: i8) -> bool
     ensures { result ≡ is_one sign }
 {
-    if sign == 1 {
-        return true;
-    }
-    false
+    sign == 1
 }
 
 // 1, 0 or -1: the sign that a coefficient has in a tile.
 pub fn sign_of(value: i16) -> i8
     ensures { result ≡ sign_of value }
 {
-    if value == 0 {
-        return 0;
-    }
-    if value > 0 {
-        return 1;
-    }
-    -1
-}
-
-// `-value`, which an i16 may not hold.
-fn negated(value: i16) -> i32
-    ensures { result ≡ pos 0 -ℤ value }
-{
-    0 - value as i32
+    value.signum() as i8
 }
 
 // The absolute value, 32768 for -32768.
 pub fn magnitude(value: i16) -> u16
     ensures { result ≡ nat_abs value }
 {
-    if value < 0 {
-        return negated(value) as u16;
-    }
-    value as u16
-}
-
-// `a - b`, which an i16 may not hold.
-fn difference(a: i16, b: i16) -> i32
-    ensures { result ≡ a -ℤ b }
-{
-    a as i32 - b as i32
+    value.unsigned_abs()
 }
 
 // Whether `a` is below `b`.
@@ -207,20 +160,15 @@ pub fn is_below(a: i16, b: i16) -> bool
 pub fn distance(a: i16, b: i16) -> u16
     ensures { result ≡ nat_abs (a -ℤ b) }
 {
-    if is_below(a, b) {
-        return difference(b, a) as u16;
-    }
-    difference(a, b) as u16
+    a.abs_diff(b)
 }
 
 // `magnitude` with a sign, clamped: exact up to 32767, and -32768.
 pub fn with_sign(magnitude: u16, negative: bool) -> i16
     ensures { result ≡ clamp_i16 (with_sign negative magnitude) }
 {
-    if negative {
-        return clamp_i16(0 - magnitude as i32);
-    }
-    clamp_i16(magnitude as i32)
+    let value = i32::from(magnitude);
+    clamp_i16(if negative { -value } else { value })
 }
 
 // ---- one coefficient's upgrade
@@ -230,7 +178,7 @@ fn scale(magnitude: u16, shift: u8) -> i32
     ensures { result ≡ pos (step magnitude shift) }
 {
     if shift <= 15 {
-        return (magnitude as i32) << shift;
+        return i32::from(magnitude) << shift;
     }
     if magnitude == 0 {
         return 0;
@@ -242,12 +190,12 @@ fn scale(magnitude: u16, shift: u8) -> i32
 pub fn add_scaled(coefficient: i16, magnitude: u16, shift: u8) -> i16
     ensures { result ≡ add_scaled coefficient magnitude shift }
 {
-    clamp_i16(coefficient as i32 + scale(magnitude, shift))
+    clamp_i16(i32::from(coefficient) + scale(magnitude, shift))
 }
 
 // `coefficient` minus `magnitude` times 2 to the `shift`, clamped.
 pub fn sub_scaled(coefficient: i16, magnitude: u16, shift: u8) -> i16
     ensures { result ≡ sub_scaled coefficient magnitude shift }
 {
-    clamp_i16(coefficient as i32 - scale(magnitude, shift))
+    clamp_i16(i32::from(coefficient) - scale(magnitude, shift))
 }

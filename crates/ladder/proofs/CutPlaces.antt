@@ -12,7 +12,8 @@ use Rattle.bands.specs.Bands.{is_bottom_band, position_of, bands_of}
 use Rattle.bands.specs.Positions.{in_domain, row_in_domain}
 use Rattle.bands.proofs.Every.{both_pass, each_passes, row_low}
 use Rattle.bands.proofs.Spread.{bands_whole}
-use Rattle.answer.specs.Refusals.{long_enough}
+use Rattle.std.specs.Prelude.{None}
+use Rattle.answer.specs.Answers.{long_enough}
 use Rattle.upgrade_steps.specs.Steps.{steps, srl_widths, raw_widths}
 use Rattle.upgrade_steps.specs.Cut.{cut_component, cut_component_signs}
 use Rattle.upgrade_steps.proofs.CutLists.{cut_length, cut_signs_length, cut_at_lem, cut_sign_at_lem}
@@ -59,7 +60,7 @@ lower_domain p q d n = each_passes in_domain q 0 (λ i h. le-leb (position_of q 
 -- ════ one pass ════
 
 -- outputs that are long enough cause no refusal
-room_for : (a b srlOut rawOut : List ℕ) → length a ≤ length srlOut → length b ≤ length rawOut → no_room_for a srlOut b rawOut ≡ 0
+room_for : (a b srlOut rawOut : List ℕ) → length a ≤ length srlOut → length b ≤ length rawOut → no_room_for a srlOut b rawOut ≡ None
 room_for a b srlOut rawOut h k = rw (le-ltb (length srlOut) (length a) h, le-ltb (length rawOut) (length b) k)
 
 -- from ps with the signs sg, which are the cut at p with the signs ss, to the cut at q
@@ -72,9 +73,9 @@ module _ {p q : List ℕ} {tg ss : List ℤ} (a : CutAsked p q tg ss) (e : Bool)
   alike = subst₂ (λ (x y : List ℤ). Alike (steps e p q) tg (cut_component e q tg) x y) (sym eps) (sym esg) (component_alike a e)
 
   -- the writer accepts what gives no fault
-  accepts : (cs : List ℤ) → length cs ≡ 4096 → pass_fault symmetric_rule (steps e p q) cs ps sg ≡ 0 → (srlOut rawOut : List ℕ)
+  accepts : (cs : List ℤ) → length cs ≡ 4096 → pass_fault symmetric_rule (steps e p q) cs ps sg ≡ None → (srlOut rawOut : List ℕ)
       → length (srl_bytes symmetric_rule (steps e p q) cs ps sg) ≤ length srlOut → length (raw_bytes symmetric_rule (steps e p q) cs ps sg) ≤ length rawOut
-      → encode_pass_refusal symmetric_rule cs ps p q sg e srlOut rawOut ≡ 0
+      → encode_pass_refusal symmetric_rule cs ps p q sg e srlOut rawOut ≡ None
   accepts cs lc f srlOut rawOut h k =
       let long : (l : List ℤ) → length l ≡ 4096 → long_enough l ≡ true = λ l n. le-leb 4096 (length l) (omega (arith, n)) in
       room_decides symmetric_rule cs ps sg p q e srlOut rawOut (long cs lc) (long ps (ap length eps ∙ component_long e p tg ss lt ls)) (long sg (ap length esg ∙ signs_long e p tg ss lt ls))
@@ -83,7 +84,7 @@ module _ {p q : List ℕ} {tg ss : List ℤ} (a : CutAsked p q tg ss) (e : Bool)
 
   pub from_target : (srlOut rawOut : List ℕ)
       → length (srl_bytes symmetric_rule (steps e p q) tg ps sg) ≤ length srlOut → length (raw_bytes symmetric_rule (steps e p q) tg ps sg) ≤ length rawOut
-      → encode_pass_refusal symmetric_rule tg ps p q sg e srlOut rawOut ≡ 0
+      → encode_pass_refusal symmetric_rule tg ps p q sg e srlOut rawOut ≡ None
   from_target = accepts tg lt brings.sent.srl_fits
 
   -- the target that is cut already: the same bytes, and accepted too
@@ -96,7 +97,7 @@ module _ {p q : List ℕ} {tg ss : List ℤ} (a : CutAsked p q tg ss) (e : Bool)
   pub from_cut : (srlOut rawOut : List ℕ)
       → length (srl_bytes symmetric_rule (steps e p q) (cut_component e q tg) ps sg) ≤ length srlOut
       → length (raw_bytes symmetric_rule (steps e p q) (cut_component e q tg) ps sg) ≤ length rawOut
-      → encode_pass_refusal symmetric_rule (cut_component e q tg) ps p q sg e srlOut rawOut ≡ 0
+      → encode_pass_refusal symmetric_rule (cut_component e q tg) ps p q sg e srlOut rawOut ≡ None
   from_cut =
       accepts (cut_component e q tg) (component_long e q tg ss lt ls)
       (ap (values_fault (srl_widths (steps e p q) sg)) alike.values ∙ brings.sent.srl_fits)

@@ -14,8 +14,11 @@ use Rattle.fixed.specs.Cut.{cut_level, toward_zero, downward}
 use Rattle.fixed.proofs.Cuts.{cut_rest, rest_small, toward_pos, Above, down_rest}
 use Rattle.bands.specs.Bands.{is_bottom_band, position_of, bands_of}
 use Rattle.bands.specs.Positions.{row_in_domain}
-use Rattle.answer.specs.Refusals.{slice_too_short, out_of_domain, output_too_short, unless, first_of, long_enough}
-use Rattle.answer.proofs.Numbers.{first_none}
+use Rattle.std.specs.Prelude.{Option, None, Some}
+use Rattle.answer.specs.declared.Refusal.{Refusal}
+use Rattle.answer.specs.declared.Refusal.TheVariants.{SliceTooShort, OutOfDomain, OutputTooShort}
+use Rattle.answer.specs.Answers.{unless, first_of, long_enough}
+use Rattle.answer.proofs.Refusing.{first_none}
 use Rattle.upgrade_steps.specs.Steps.{steps}
 use Rattle.upgrade_steps.specs.Cut.{cut_at, cut_sign_at, cut_component, cut_component_signs}
 use Rattle.progressive_encoder.specs.Encode.{symmetric_rule, pass_fault, no_room_for}
@@ -160,14 +163,14 @@ same_end = record { same = λ target t h os os' w w' l l' z. by target t h os os
 -- ════ no refusal ════
 
 -- where one output has caused no refusal, of another only its room counts
-room_counts : (x y z r : ℕ) → first_of x (first_of y (first_of z r)) ≡ 0 → (s : ℕ) → first_of x (first_of y (first_of z s)) ≡ s
+room_counts : (x y z r : Option Refusal) → first_of x (first_of y (first_of z r)) ≡ None → (s : Option Refusal) → first_of x (first_of y (first_of z s)) ≡ s
 room_counts x y z r e s =
     let a = first_none x (first_of y (first_of z r)) e in
     let b = first_none y (first_of z r) a.1 in
     rw (a.0, b.0, (first_none z r b.1).0)
 
 -- room is there where 7 is not given
-not_short : (c d : Bool) → first_of (cond c output_too_short 0) (cond d output_too_short 0) ≢ output_too_short → first_of (cond c output_too_short 0) (cond d output_too_short 0) ≡ 0
+not_short : (c d : Bool) → first_of (cond c (Some OutputTooShort) None) (cond d (Some OutputTooShort) None) ≢ Some OutputTooShort → first_of (cond c (Some OutputTooShort) None) (cond d (Some OutputTooShort) None) ≡ None
 not_short true d h = absurd (h refl)
 not_short false true h = absurd (h refl)
 not_short false false h = refl
@@ -182,7 +185,7 @@ never_refused target t rows k w srlOut rawOut h j =
     let a = srl_written tg t rows k in
     let b = raw_written tg t rows k in
     let room : write_refusal tg t rows k srlOut rawOut ≡ no_room_for a srlOut b rawOut =
-    room_counts (unless (long_enough tg && (long_enough cs && long_enough ss)) slice_too_short) (unless (row_in_domain p && row_in_domain (of rows k)) out_of_domain)
+    room_counts (unless (long_enough tg && (long_enough cs && long_enough ss)) SliceTooShort) (unless (row_in_domain p && row_in_domain (of rows k)) OutOfDomain)
     (pass_fault symmetric_rule (steps e p (of rows k)) tg cs ss) (no_room_for a a b b) (w.from_target.accepted a b (omega arith) (omega arith)) (no_room_for a srlOut b rawOut) in
     let most = room_suffices_lem.any_pass symmetric_rule tg cs ss p (of rows k) e srlOut rawOut h j in
     room ∙ not_short (ltb (length srlOut) (length a)) (ltb (length rawOut) (length b)) (λ z. most (room ∙ z))

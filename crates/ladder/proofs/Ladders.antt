@@ -11,16 +11,19 @@ use lib.Signed.{mag}
 use Rattle.bands.specs.Bands.{position_of}
 use Rattle.bands.specs.Positions.{row_in_domain, rows_in_domain, in_domain}
 use Rattle.bands.proofs.Every.{each_passes, part_passes}
-use Rattle.answer.specs.Refusals.{answered, unless_refused}
-use Rattle.answer.specs.declared.Answer.{Answer}
+use Rattle.std.specs.Prelude.{Option, None}
+use Rattle.std.specs.Result.{result_err}
+use Rattle.answer.specs.Answers.{answered, unless_refused}
+use Rattle.answer.specs.declared.Refusal.{Refusal}
 use Rattle.upgrade_steps.specs.Cut.{cut_component, cut_component_signs}
 use Rattle.progressive_decoder.specs.Upgrade.{upgraded_coefficients, upgraded_signs}
+use Rattle.progressive_decoder.specs.declared.MissingBits.{MissingBits}
 use Rattle.progressive.specs.CutTrip.{Brings, CutAsked}
 use Rattle.components.specs.Components.{steps_of, pass_coefficients, pass_signs}
 use Rattle.planes.specs.Planes.{component, row_of, joined, of}
 use Rattle.planes.proofs.Joined.{three_of_lem, Long, joined_long, parts_long, component_joined}
 use Rattle.zero_signs.specs.ZeroSigns.{zero_signs_of}
-use Rattle.tile.specs.Tile.{upgraded, rows_refusal, upgrade_refusal}
+use Rattle.tile.specs.Tile.{upgraded, rows_refusal, upgrade_refusal, upgrade_missing}
 use Rattle.tile.specs.declared.TileState.{TileState}
 use Rattle.tile.proofs.Accepted.{by_rows}
 use Rattle.reach.specs.Reach.{Pass, Call, after_call, after_calls, answers_to, ThreeRows, AllRows, Lower}
@@ -64,7 +67,7 @@ module _ (positions : List ℕ) (d : row_in_domain positions ≡ true) (rows : L
   rows_domain : rows_in_domain rows ≡ true
   rows_domain = each_passes row_in_domain rows [] (λ k m. given_domain k (omega (arith, w.three)))
 
-  not_refused : (quants : List ℕ) → row_in_domain quants ≡ true → rows_refusal positions quants rows ≡ 0
+  not_refused : (quants : List ℕ) → row_in_domain quants ≡ true → rows_refusal positions quants rows ≡ None
   not_refused quants q = rw (rows_domain, d, q)
 
 -- ════ what stays along a ladder ════
@@ -171,12 +174,12 @@ module _ {target : List ℤ} (aim : IsTarget target) (sg : ℕ → List ℤ) (lo
           ∙ ap (λ (q : List ℕ). cut_component_signs e q (component k target) (sg k)) (sym (given_row o.rows w k m));
     }
 
-    none : upgrade_refusal t o.rows ≡ 0
+    none : upgrade_refusal t o.rows ≡ None
     none = by_rows t h.numbers o.rows ∙ not_refused t.prog_quant h.positions o.rows w l t.base_quant h.quantizers
 
     u_is : after_call t (call_for target t o) ≡ u
     unfolding u c
-    u_is = ap (λ (n : ℕ). unless_refused n u t) none
+    u_is = ap (λ (n : Option Refusal). unless_refused n u t) none
 
     rows_are : (after_call t (call_for target t o)).prog_quant ≡ joined (of o.rows)
     unfolding u upgraded
@@ -188,10 +191,14 @@ module _ {target : List ℤ} (aim : IsTarget target) (sg : ℕ → List ℤ) (lo
 
   -- ════ any list of them ════
 
+  -- the bits that a pass of it misses
+  abbrev missed : TileState → Pass → MissingBits
+  missed t o = upgrade_missing t (call_for target t o).srl_data (call_for target t o).raw_data o.rows
+
   -- what a ladder comes to
   pub record Climbed (t : TileState) (os : List Pass) : Type 0 where
     pub written : EachWrite (WritesBoth target) target t os
-    pub read : answers_to t (calls_for target t os) ≡ replicate (length os) (answered 0)
+    pub read : answers_to t (calls_for target t os) ≡ replicate (length os) None
     pub positions : (sharpened target t os).prog_quant ≡ last_positions t.prog_quant os
     pub layout : (sharpened target t os).use_reduce_extrapolate ≡ t.use_reduce_extrapolate
     pub state : CutBy target sg (sharpened target t os)
@@ -205,7 +212,7 @@ module _ {target : List ℤ} (aim : IsTarget target) (sg : ℕ → List ℤ) (lo
       let r = climb os v (subst (CutBy target sg) (sym (u_is h o w l.0)) (next h o w l.0)) ws (subst (λ (p : List ℕ). Lowering p os) (sym rows) l.1) in
       record {
         written = (writes h o w l.0, r.written);
-        read = ap₂ (λ (n : ℕ) (rs : List Answer). answered n ∷ rs) (none h o w l.0) r.read;
+        read = ap₂ (λ (n : Option Refusal) (rs : List (Option Refusal)). result_err (answered n (missed t o)) ∷ rs) (none h o w l.0) r.read;
         positions = r.positions ∙ ap (λ (p : List ℕ). last_positions p os) rows;
         layout = r.layout ∙ layout_is h o w l.0;
         state = r.state;

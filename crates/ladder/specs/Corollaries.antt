@@ -1,9 +1,8 @@
 -- What a member would look for in the theorem, and that its hypotheses are met (docs/SCOPE.md, "Ladders").
-use Rattle.std.specs.Prelude.{◌≡◌, Bool, true, false, cond, List, [], ◌∷◌, ℕ, ◌≤◌, ◌<◌, eqb, ℤ, pos, negsuc, get_or, length, replicate}
+use Rattle.std.specs.Prelude.{◌≡◌, Bool, true, false, cond, List, [], ◌∷◌, ℕ, ◌≤◌, ◌<◌, eqb, ℤ, pos, negsuc, get_or, length, replicate, None}
 use Rattle.fixed.specs.Fixed.{sign_of}
 use Rattle.bands.specs.Bands.{per_place, is_bottom_band, bands_of}
 use Rattle.bands.specs.Positions.{rows_in_domain}
-use Rattle.answer.specs.Refusals.{answered}
 use Rattle.upgrade_steps.specs.Cut.{cut_component, cut_component_signs}
 use Rattle.progressive.specs.Room.{srl_room_for, raw_room_for}
 use Rattle.planes.specs.Planes.{component, joined, of}
@@ -27,14 +26,14 @@ pub record SameEnd : Type 0 where
 -- outputs of so many bytes are always long enough: the writer's call for component k, given the target
 abbrev pub NeverRefused : List ℤ → TileState → List (List ℕ) → ℕ → Type 0
 NeverRefused target t rows k = (srlOut rawOut : List ℕ) → srl_room_for 15 ≤ length srlOut → raw_room_for 15 ≤ length rawOut
-    → write_refusal (component k target) t rows k srlOut rawOut ≡ 0
+    → write_refusal (component k target) t rows k srlOut rawOut ≡ None
 
 -- "no call of a ladder is refused, neither a writing one nor a reading one"
 pub record NothingRefused : Type 0 where
   pub written : (target : List ℤ) (t : TileState) → IsCut target t → (os : List Pass) → AllRows os
       → Lowering t.prog_quant os → EachWrite (NeverRefused target) target t os
   pub read : (target : List ℤ) (t : TileState) → IsCut target t → (os : List Pass) → AllRows os
-      → Lowering t.prog_quant os → answers_to t (calls_for target t os) ≡ replicate (length os) (answered 0)
+      → Lowering t.prog_quant os → answers_to t (calls_for target t os) ≡ replicate (length os) None
 
 -- ════ down to 0 ════
 

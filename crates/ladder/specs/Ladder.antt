@@ -1,10 +1,10 @@
 -- A tile sharpened towards a target by any list of passes: the statement (docs/SCOPE.md, "Ladders"; docs/LADDER.md explains it line by line).
 -- A pass is written by the definitions that the contract of `encode_upgrade_pass_symmetric` cites, and read by the one of `decode_upgrade`.
-use Rattle.std.specs.Prelude.{◌≡◌, true, List, [], ◌∷◌, ℕ, ◌≤◌, ◌<◌, ℤ, pos, get_or, length, replicate}
+use Rattle.std.specs.Prelude.{◌≡◌, true, List, [], ◌∷◌, ℕ, ◌≤◌, ◌<◌, ℤ, pos, get_or, length, replicate, Option, None}
 use Rattle.std.specs.Int.Signed.{mag}
 use Rattle.bands.specs.Bands.{is_bottom_band, position_of, bands_of}
 use Rattle.bands.specs.Positions.{row_in_domain}
-use Rattle.answer.specs.Refusals.{answered}
+use Rattle.answer.specs.declared.Refusal.{Refusal}
 use Rattle.upgrade_steps.specs.Cut.{cut_at, cut_sign_at, cut_component}
 use Rattle.progressive_encoder.specs.Encode.{symmetric_rule, srl_bytes, raw_bytes, encode_pass_refusal}
 use Rattle.components.specs.Components.{steps_of}
@@ -65,7 +65,7 @@ raw_written cs t rows k =
     cs (component k t.coefficients) (component k t.sign)
 
 -- and why it refuses
-abbrev pub write_refusal : List ℤ → TileState → List (List ℕ) → ℕ → List ℕ → List ℕ → ℕ
+abbrev pub write_refusal : List ℤ → TileState → List (List ℕ) → ℕ → List ℕ → List ℕ → Option Refusal
 write_refusal cs t rows k srlOut rawOut =
     encode_pass_refusal symmetric_rule cs (component k t.coefficients) (row_of k t.prog_quant) (of rows k)
     (component k t.sign) t.use_reduce_extrapolate srlOut rawOut
@@ -87,7 +87,7 @@ call_for target t o =
 pub record Writes (cs target : List ℤ) (t : TileState) (rows : List (List ℕ)) (k : ℕ) : Type 0 where
   -- "with outputs long enough"
   pub accepted : (srlOut rawOut : List ℕ) → length (srl_written cs t rows k) ≤ length srlOut
-      → length (raw_written cs t rows k) ≤ length rawOut → write_refusal cs t rows k srlOut rawOut ≡ 0
+      → length (raw_written cs t rows k) ≤ length rawOut → write_refusal cs t rows k srlOut rawOut ≡ None
   pub srl : srl_written cs t rows k ≡ srl_written (component k target) t rows k
   pub raw : raw_written cs t rows k ≡ raw_written (component k target) t rows k
 
@@ -130,7 +130,7 @@ pub record Ends (target : List ℤ) (t : TileState) (os : List Pass) : Type 0 wh
   -- "no call of a ladder is refused, neither a writing one ..
   pub written : EachWrite (WritesBoth target) target t os
   -- .. nor a reading one"
-  pub read : answers_to t (calls_for target t os) ≡ replicate (length os) (answered 0)
+  pub read : answers_to t (calls_for target t os) ≡ replicate (length os) None
   -- "at the end the coefficients, and the signs outside the bottom, are those of the target cut at the last positions; bottom signs are what they were"
   pub each : (k i : ℕ) → k < 3 → i < 4096
       → place_in (sharpened target t os) k i ≡ cut_in target t (last_positions t.prog_quant os) k i

@@ -1,132 +1,99 @@
 // One case: a target, a tile cut from it, and two ladders from that tile to the same last rows, by either rule.
-ghost use Rattle.std.specs.Prelude.{◌≡◌, ◌≤◌, length};
+ghost use Rattle.std.specs.Prelude.{◌≡◌, length};
 
-use crate::{climb, counts, cut, judge, report, rows, targets, words};
+use crate::counts::Counts;
+use crate::{climb, cut, judge, report, rows, targets, words};
+use answer::Refusal;
 use std::io;
+use tile::TileState;
 
 // What a case came to, by the symmetric rule and by the source's.
 #[derive(Clone, Copy)]
 pub struct Both {
-    pub symmetric: counts::Counts,
-    pub source: counts::Counts,
+    pub symmetric: Counts,
+    pub source: Counts,
 }
 
-fn which(symmetric: bool, seed: u64, case: u64, ladder: u64) -> report::Which {
-    report::Which {
-        symmetric,
-        seed,
-        case,
-        ladder,
-    }
+// What a case's ladders have in common.
+#[derive(Clone, Copy)]
+struct Case<'a> {
+    seed: u64,
+    case: u64,
+    // What they go towards, the tile that they start from, and the rows that they end at.
+    full: &'a [i16; bands::COEFFICIENTS_PER_TILE],
+    start: &'a TileState,
+    last: [u8; 30],
+    // What they are to end at.
+    expected: &'a [i16; bands::COEFFICIENTS_PER_TILE],
+    expected_signs: &'a [i8; bands::COEFFICIENTS_PER_TILE],
 }
 
-// A ladder's end, and what it counts as.
+// A ladder's end, if no pass was refused, and what it counts as.
 #[derive(Clone, Copy)]
 struct Ended {
-    end: climb::Climbed,
-    counts: counts::Counts,
+    end: Option<TileState>,
+    counts: Counts,
 }
 
-// One ladder, its number of passes and its rows chosen by its own word.
-fn ladder(
-    rt: &impl Print,
-    w: report::Which,
-    full: &[i16],
-    start: tile::TileState,
-    last: [u8; 30],
-    expected: &[i16],
-    expected_signs: &[i8],
-) -> io::Result<Ended>
-    requires { (length full.now ≡ 12288) × (length expected.now ≡ 12288) × (length expected_signs.now ≡ 12288) }
-{
-    let word = words::first(w.seed, w.case, std::num::wrapping_add_u64(5, w.ladder));
-    let end = climb::climb(w.symmetric, full, start, last, words::passes(word), word);
-    Ok(Ended {
-        end,
-        counts: judge::ladder(rt, w, end, last, expected, expected_signs)?,
-    })
-}
-
-// The differences of the ends of two ladders, where no pass was refused.
-fn apart(
-    rt: &impl Print,
-    w: report::Which,
-    a: climb::Climbed,
-    b: climb::Climbed,
-) -> io::Result<u64> {
-    if a.refusal != 0 || b.refusal != 0 {
-        return Ok(0);
+impl Case<'_> {
+    fn which(self, symmetric: bool, ladder: report::Ladder) -> report::Which {
+        report::Which {
+            symmetric,
+            seed: self.seed,
+            case: self.case,
+            ladder,
+        }
     }
-    let one = a.tile;
-    let other = b.tile;
-    judge::pair(rt, w, one, other)
-}
 
-// Two ladders by a rule.
-fn two(
-    rt: &impl Print,
-    symmetric: bool,
-    seed: u64,
-    case: u64,
-    full: &[i16],
-    start: tile::TileState,
-    last: [u8; 30],
-    expected: &[i16],
-    expected_signs: &[i8],
-) -> io::Result<counts::Counts>
-    requires { (length full.now ≡ 12288) × (length expected.now ≡ 12288) × (length expected_signs.now ≡ 12288) }
-{
-    let v = which(symmetric, seed, case, 1);
-    let w = which(symmetric, seed, case, 2);
-    let a = ladder(rt, v, full, start, last, expected, expected_signs)?;
-    let b = ladder(rt, w, full, start, last, expected, expected_signs)?;
-    let one = a.end;
-    let other = b.end;
-    let n = apart(rt, which(symmetric, seed, case, 3), one, other)?;
-    let c = a.counts;
-    let d = b.counts;
-    Ok(counts::with_differences(counts::plus(c, d), n))
-}
+    // The ladder with a number, its passes and its rows chosen by its own word.
+    fn ladder(self, rt: &impl Print, symmetric: bool, number: u64) -> io::Result<Ended> {
+        let w = self.which(symmetric, report::Ladder::Number(number));
+        let Case {
+            seed,
+            case,
+            full,
+            start,
+            last,
+            expected,
+            expected_signs,
+        } = self;
+        let word = words::first(seed, case, number.wrapping_add(5));
+        let passes = words::passes(word);
+        match climb::climb(symmetric, full, start, last, passes, word) {
+            Ok(end) => {
+                let n = judge::ladder(rt, w, &end, passes, last, expected, expected_signs)?;
+                Ok(Ended {
+                    end: Some(end),
+                    counts: Counts::one(passes, Ok(n)),
+                })
+            }
+            Err(climb::Refused { refusal, passes }) => {
+                report::refused(rt, w, refusal, passes)?;
+                Ok(Ended {
+                    end: None,
+                    counts: Counts::one(passes, Err(refusal)),
+                })
+            }
+        }
+    }
 
-// Both rules, from a tile.
-fn by_both_rules(
-    rt: &impl Print,
-    seed: u64,
-    case: u64,
-    full: &[i16],
-    start: tile::TileState,
-    last: [u8; 30],
-    expected: &[i16],
-    expected_signs: &[i8],
-) -> io::Result<Both>
-    requires { (length full.now ≡ 12288) × (length expected.now ≡ 12288) × (length expected_signs.now ≡ 12288) }
-{
-    let a = two(
-        rt,
-        true,
-        seed,
-        case,
-        full,
-        start,
-        last,
-        expected,
-        expected_signs,
-    )?;
-    let b = two(
-        rt,
-        false,
-        seed,
-        case,
-        full,
-        start,
-        last,
-        expected,
-        expected_signs,
-    )?;
-    Ok(Both {
-        symmetric: a,
-        source: b,
-    })
+    // Two ladders by a rule, and the differences of their ends.
+    fn two(self, rt: &impl Print, symmetric: bool) -> io::Result<Counts> {
+        let a = self.ladder(rt, symmetric, 1)?;
+        let b = self.ladder(rt, symmetric, 2)?;
+        let counts = a.counts.plus(b.counts);
+        let (Some(one), Some(other)) = (a.end, b.end) else {
+            return Ok(counts);
+        };
+        let w = self.which(symmetric, report::Ladder::Beside);
+        Ok(counts.with_differences(judge::pair(rt, w, &one, &other)?))
+    }
+
+    fn by_both_rules(self, rt: &impl Print) -> io::Result<Both> {
+        let symmetric = self.two(rt, true)?;
+        let source = self.two(rt, false)?;
+        Ok(Both { symmetric, source })
+    }
 }
 
 // A case that begins with a tile: what is expected is the target cut at the last rows with the tile's signs in the bottom, and where these rows are 0
@@ -135,55 +102,52 @@ fn from_tile(
     rt: &impl Print,
     seed: u64,
     case: u64,
-    full: &[i16],
-    start: tile::TileState,
-) -> io::Result<Both>
-    requires { length full.now ≡ 12288 }
-{
-    let first = start.prog_quant;
-    let last = rows::last(case, first, words::first(seed, case, 5));
-    let mut expected = [0i16; bands::COEFFICIENTS_PER_TILE];
+    full: &[i16; bands::COEFFICIENTS_PER_TILE],
+    start: &TileState,
+) -> io::Result<Both> {
+    let last = rows::last(case, start.prog_quant, words::first(seed, case, 5));
+    let mut cut = [0; bands::COEFFICIENTS_PER_TILE];
     let mut expected_signs = start.sign;
     cut::cut_tile(
         full,
         last,
         start.use_reduce_extrapolate,
-        &mut expected,
+        &mut cut,
         &mut expected_signs,
     );
-    if rows::is_whole(case) {
-        return by_both_rules(rt, seed, case, full, start, last, full, &expected_signs);
-    }
-    by_both_rules(
-        rt,
+    let expected = if rows::is_whole(case) { full } else { &cut };
+    let common = Case {
         seed,
         case,
         full,
         start,
         last,
-        &expected,
-        &expected_signs,
-    )
+        expected,
+        expected_signs: &expected_signs,
+    };
+    common.by_both_rules(rt)
 }
 
 // A tile that is not loaded counts as a ladder that is refused.
-fn not_loaded(rt: &impl Print, seed: u64, case: u64, refusal: u8) -> io::Result<Both> {
-    report::refused(rt, which(true, seed, case, 1), refusal, 0)?;
+fn not_loaded(rt: &impl Print, seed: u64, case: u64, refusal: Refusal) -> io::Result<Both> {
+    let w = report::Which {
+        symmetric: true,
+        seed,
+        case,
+        ladder: report::Ladder::Number(1),
+    };
+    report::refused(rt, w, refusal, 0)?;
     Ok(Both {
-        symmetric: counts::one(refusal, 0, 0),
-        source: counts::none(),
+        symmetric: Counts::one(0, Err(refusal)),
+        source: Counts::default(),
     })
 }
 
 pub fn run(rt: &impl Print, seed: u64, case: u64) -> io::Result<Both> {
-    let mut full = [0i16; bands::COEFFICIENTS_PER_TILE];
+    let mut full = [0; bands::COEFFICIENTS_PER_TILE];
     targets::make(seed, case, &mut full);
-    let begun = climb::start(seed, case, &full);
-    let answer = begun.answer;
-    let start = begun.tile;
-    let refusal = answer::number_of(answer);
-    if refusal != 0 {
-        return not_loaded(rt, seed, case, refusal);
+    match climb::start(seed, case, &full) {
+        Ok(start) => from_tile(rt, seed, case, &full, &start),
+        Err(refusal) => not_loaded(rt, seed, case, refusal),
     }
-    from_tile(rt, seed, case, &full, start)
 }

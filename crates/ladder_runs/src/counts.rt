@@ -1,6 +1,7 @@
 // What ladders came to, counted.
+use answer::Refusal;
 
-#[derive(Clone, Copy)]
+#[derive(Clone, Copy, Default)]
 pub struct Counts {
     // Ladders, and those of their passes that were accepted.
     pub ladders: u64,
@@ -15,58 +16,40 @@ pub struct Counts {
     pub differences: u64,
 }
 
-pub fn none() -> Counts {
-    Counts {
-        ladders: 0,
-        passes: 0,
-        refused_by_5: 0,
-        refused: 0,
-        elsewhere: 0,
-        good: 0,
-        differences: 0,
+impl Counts {
+    // One ladder, by its accepted passes and how it ended: its differences or its refusal.
+    pub fn one(passes: u16, end: Result<u64, Refusal>) -> Counts {
+        let mut counts = Counts::default();
+        counts.ladders = 1;
+        counts.passes = u64::from(passes);
+        match end {
+            Ok(0) => counts.good = 1,
+            Ok(differences) => {
+                counts.elsewhere = 1;
+                counts.differences = differences;
+            }
+            Err(Refusal::MagnitudeOutOfRange) => counts.refused_by_5 = 1,
+            Err(_) => counts.refused = 1,
+        }
+        counts
     }
-}
 
-pub fn sum(a: u64, b: u64) -> u64 {
-    std::num::wrapping_add_u64(a, b)
-}
-
-pub fn plus(a: Counts, b: Counts) -> Counts {
-    Counts {
-        ladders: sum(a.ladders, b.ladders),
-        passes: sum(a.passes, b.passes),
-        refused_by_5: sum(a.refused_by_5, b.refused_by_5),
-        refused: sum(a.refused, b.refused),
-        elsewhere: sum(a.elsewhere, b.elsewhere),
-        good: sum(a.good, b.good),
-        differences: sum(a.differences, b.differences),
+    pub fn plus(self, other: Counts) -> Counts {
+        Counts {
+            ladders: self.ladders.wrapping_add(other.ladders),
+            passes: self.passes.wrapping_add(other.passes),
+            refused_by_5: self.refused_by_5.wrapping_add(other.refused_by_5),
+            refused: self.refused.wrapping_add(other.refused),
+            elsewhere: self.elsewhere.wrapping_add(other.elsewhere),
+            good: self.good.wrapping_add(other.good),
+            differences: self.differences.wrapping_add(other.differences),
+        }
     }
-}
 
-// With differences more.
-pub fn with_differences(a: Counts, n: u64) -> Counts {
-    let mut c = a;
-    c.differences = sum(a.differences, n);
-    c
-}
-
-fn one_if(is_so: bool) -> u64 {
-    if is_so {
-        return 1;
-    }
-    0
-}
-
-// One ladder, by its refusal or 0, its passes and its differences.
-pub fn one(refusal: u8, passes: u16, differences: u64) -> Counts {
-    let accepted = refusal == 0;
-    Counts {
-        ladders: 1,
-        passes: passes as u64,
-        refused_by_5: one_if(refusal == answer::MAGNITUDE_OUT_OF_RANGE),
-        refused: one_if(!accepted && refusal != answer::MAGNITUDE_OUT_OF_RANGE),
-        elsewhere: one_if(accepted && differences != 0),
-        good: one_if(accepted && differences == 0),
-        differences,
+    // With differences more.
+    pub fn with_differences(self, n: u64) -> Counts {
+        let mut counts = self;
+        counts.differences = self.differences.wrapping_add(n);
+        counts
     }
 }

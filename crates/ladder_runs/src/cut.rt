@@ -4,9 +4,10 @@ ghost use Rattle.std.specs.Prelude.{◌≡◌, length};
 // A magnitude without its low bits.
 fn down(magnitude: u16, position: u8) -> u16 {
     if position > 15 {
-        return 0;
+        0
+    } else {
+        (magnitude >> position) << position
     }
-    (magnitude >> position) << position
 }
 
 // The next magnitude without low bits that is not below.
@@ -18,7 +19,7 @@ fn up(magnitude: u16, position: u8) -> u16 {
     if position > 15 {
         return 0;
     }
-    std::num::wrapping_add_u16(below, 1u16 << position)
+    below.wrapping_add(1 << position)
 }
 
 // A coefficient, towards zero; in the bottom by floor, so that a negative one moves away from zero.
@@ -31,13 +32,20 @@ fn cut(value: i16, position: u8, is_bottom: bool) -> i16 {
     fixed::with_sign(down(m, position), negative)
 }
 
-// The position of a band of the component with a number.
-fn position(rows: [u8; 30], k: usize, band: usize) -> u8 {
-    if k > 2 {
-        return 0;
+// Cuts a component at a row of positions, by the bands of its places.
+fn cut_component(target: &[i16], row: [u8; 10], bands: &[u8], out: &mut [i16], signs: &mut [i8]) {
+    let places = target
+        .iter()
+        .zip(bands)
+        .zip(out.iter_mut())
+        .zip(signs.iter_mut());
+    for (((value, band), left), sign) in places {
+        let is_bottom = *band == 9;
+        *left = cut(*value, row[usize::from(*band % 10)], is_bottom);
+        if !is_bottom {
+            *sign = fixed::sign_of(*left);
+        }
     }
-    let at = 10 * k + band % 10;
-    rows[at]
 }
 
 // Cuts a tile of three components. Signs outside the bottom are those of the cut, those of the bottom stay.
@@ -45,23 +53,15 @@ pub fn cut_tile(target: &[i16], rows: [u8; 30], e: bool, out: &mut [i16], signs:
     requires { (length target.now ≡ 12288) × (length out.old ≡ 12288) × (length signs.old ≡ 12288) }
 {
     let bands = bands::bands_of_places(e);
-    let mut i: usize = 0;
-    while i < 12288 {
-        let band = wide(bands[i % 4096]);
-        let value = cut(target[i], position(rows, i / 4096, band), band == 9);
-        out[i] = value;
-        signs[i] = sign(value, signs[i], band == 9);
-        i += 1;
+    for k in 0..3 {
+        let from = bands::COEFFICIENTS_PER_COMPONENT * k;
+        let to = from + bands::COEFFICIENTS_PER_COMPONENT;
+        cut_component(
+            &target[from..to],
+            planes::row_at(rows, 10 * k),
+            &bands,
+            &mut out[from..to],
+            &mut signs[from..to],
+        );
     }
-}
-
-fn wide(band: u8) -> usize {
-    band as usize
-}
-
-fn sign(value: i16, before: i8, is_bottom: bool) -> i8 {
-    if is_bottom {
-        return before;
-    }
-    fixed::sign_of(value)
 }

@@ -1,57 +1,30 @@
 // Whether a ladder ends where it should: how many differences there are. The first of a sort is shown.
 ghost use Rattle.std.specs.Prelude.{◌≡◌, length};
 
-use crate::{climb, counts, report};
-use std::io;
+use crate::report;
+use std::{fmt, io};
+use tile::TileState;
 use tile_passes::compare;
 
-fn coefficients(
+// The elements that differ of two lists of a sort.
+fn elements<T: PartialEq + Copy + fmt::Display + Drop>(
     rt: &impl Print,
     w: report::Which,
-    expected: &[i16],
-    found: &[i16],
+    what: &str,
+    expected: &[T],
+    found: &[T],
 ) -> io::Result<u64>
-    requires { (length expected.now ≡ 12288) × (length found.now ≡ 12288) }
+    requires { length expected.now ≡ length found.now }
 {
-    let unlike = compare::coefficients(expected, found);
-    if unlike.count == 0 {
+    let Some(unlike) = compare::compare(expected, found) else {
         return Ok(0);
-    }
-    let at = unlike.first;
-    if at >= 12288 {
-        return Ok(0);
-    }
-    report::difference(rt, w, b"coefficient", at, expected[at], found[at])?;
-    Ok(unlike.count)
-}
-
-fn show_sign(
-    rt: &impl Print,
-    w: report::Which,
-    at: usize,
-    expected: i8,
-    found: i8,
-) -> io::Result<()> {
-    report::difference(rt, w, b"sign", at, expected as i16, found as i16)
-}
-
-fn signs(rt: &impl Print, w: report::Which, expected: &[i8], found: &[i8]) -> io::Result<u64>
-    requires { (length expected.now ≡ 12288) × (length found.now ≡ 12288) }
-{
-    let unlike = compare::signs(expected, found);
-    if unlike.count == 0 {
-        return Ok(0);
-    }
-    let at = unlike.first;
-    if at >= 12288 {
-        return Ok(0);
-    }
-    show_sign(rt, w, at, expected[at], found[at])?;
+    };
+    report::difference(rt, w, what, unlike.first, unlike.left, unlike.right)?;
     Ok(unlike.count)
 }
 
 // 1 where something else differs.
-fn unless(rt: &impl Print, w: report::Which, is_same: bool, what: &[u8]) -> io::Result<u64> {
+fn unless(rt: &impl Print, w: report::Which, is_same: bool, what: &str) -> io::Result<u64> {
     if is_same {
         return Ok(0);
     }
@@ -65,16 +38,13 @@ fn picture(
     w: report::Which,
     expected: &[i16],
     expected_signs: &[i8],
-    t: tile::TileState,
+    t: &TileState,
 ) -> io::Result<u64>
     requires { (length expected.now ≡ 12288) × (length expected_signs.now ≡ 12288) }
 {
-    let found = t.coefficients;
-    let found_signs = t.sign;
-    Ok(counts::sum(
-        coefficients(rt, w, expected, &found)?,
-        signs(rt, w, expected_signs, &found_signs)?,
-    ))
+    let coefficients = elements(rt, w, "coefficient", expected, &t.coefficients)?;
+    let signs = elements(rt, w, "sign", expected_signs, &t.sign)?;
+    Ok(coefficients.wrapping_add(signs))
 }
 
 // The rows, the number of passes and the numbers of zero signs of a tile.
@@ -83,54 +53,40 @@ fn fields(
     w: report::Which,
     last: [u8; 30],
     pass: u16,
-    t: tile::TileState,
+    t: &TileState,
 ) -> io::Result<u64> {
-    let rows = t.prog_quant;
-    let sign = t.sign;
-    let numbers = t.zero_signs;
-    let right = zero_signs::are_right(&numbers, &sign, t.use_reduce_extrapolate);
-    let a = unless(rt, w, rows == last, b"other rows")?;
-    let b = unless(rt, w, t.pass == pass, b"another pass number")?;
-    let c = unless(rt, w, right, b"wrong numbers of zero signs")?;
-    Ok(counts::sum(a, counts::sum(b, c)))
+    let right = zero_signs::are_right(&t.zero_signs, &t.sign, t.use_reduce_extrapolate);
+    let a = unless(rt, w, t.prog_quant == last, "other rows")?;
+    let b = unless(rt, w, t.pass == pass, "another pass number")?;
+    let c = unless(rt, w, right, "wrong numbers of zero signs")?;
+    Ok(a.wrapping_add(b).wrapping_add(c))
 }
 
-// A ladder that is to end at the target cut at the last rows.
+// The end of a ladder of some passes that is to be at the target cut at the last rows.
 pub fn ladder(
     rt: &impl Print,
     w: report::Which,
-    end: climb::Climbed,
+    end: &TileState,
+    passes: u16,
     last: [u8; 30],
     expected: &[i16],
     expected_signs: &[i8],
-) -> io::Result<counts::Counts>
+) -> io::Result<u64>
     requires { (length expected.now ≡ 12288) × (length expected_signs.now ≡ 12288) }
 {
-    let t = end.tile;
-    if end.refusal != 0 {
-        report::refused(rt, w, end.refusal, end.passes)?;
-        return Ok(counts::one(end.refusal, end.passes, 0));
-    }
-    let pass = std::num::wrapping_add_u16(1, end.passes);
-    let n = counts::sum(
-        picture(rt, w, expected, expected_signs, t)?,
-        fields(rt, w, last, pass, t)?,
-    );
-    Ok(counts::one(0, end.passes, n))
+    let a = picture(rt, w, expected, expected_signs, end)?;
+    let b = fields(rt, w, last, passes.wrapping_add(1), end)?;
+    Ok(a.wrapping_add(b))
 }
 
-// Two ladders that are to end at the same tile.
+// The ends of two ladders that are to be the same tile.
 pub fn pair(
     rt: &impl Print,
     w: report::Which,
-    a: tile::TileState,
-    b: tile::TileState,
+    one: &TileState,
+    other: &TileState,
 ) -> io::Result<u64> {
-    let coefficients = a.coefficients;
-    let signs = a.sign;
-    let last = a.prog_quant;
-    Ok(counts::sum(
-        picture(rt, w, &coefficients, &signs, b)?,
-        fields(rt, w, last, b.pass, b)?,
-    ))
+    let a = picture(rt, w, &one.coefficients, &one.sign, other)?;
+    let b = fields(rt, w, one.prog_quant, other.pass, other)?;
+    Ok(a.wrapping_add(b))
 }

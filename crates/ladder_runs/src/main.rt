@@ -3,6 +3,7 @@
 // are to end at the target cut at the last rows, with no pass refused. What differs is shown and counted.
 #![tactic(auto)]
 
+use counts::Counts;
 use std::io;
 
 mod arguments;
@@ -18,16 +19,12 @@ mod words;
 
 // Runs cases 0 up to a number, and reports.
 fn run(rt: &impl Print, seed: u64, cases: u64) -> io::Result<()> {
-    let mut by_symmetric = counts::none();
-    let mut by_source = counts::none();
-    let mut n: u64 = 0;
-    while n < cases {
+    let mut by_symmetric = Counts::default();
+    let mut by_source = Counts::default();
+    for n in 0..cases {
         let done = case::run(rt, seed, n)?;
-        let a = done.symmetric;
-        let b = done.source;
-        by_symmetric = counts::plus(by_symmetric, a);
-        by_source = counts::plus(by_source, b);
-        n += 1;
+        by_symmetric = by_symmetric.plus(done.symmetric);
+        by_source = by_source.plus(done.source);
     }
     report::all(rt, seed, cases, by_symmetric, by_source)
 }
@@ -36,10 +33,11 @@ fn main(rt: HostRuntime) -> io::Result<()> {
     if arguments::is_there(&rt, 3) {
         return report::usage(&rt);
     }
-    let seed = arguments::number(&rt, 1, 1);
-    let cases = arguments::number(&rt, 2, 1000);
-    if seed > arguments::MOST || cases > arguments::MOST || cases == 0 {
-        return report::usage(&rt);
+    match (
+        arguments::number(&rt, 1, 1),
+        arguments::number(&rt, 2, 1000),
+    ) {
+        (Some(seed), Some(cases)) if cases != 0 => run(&rt, seed, cases),
+        _ => report::usage(&rt),
     }
-    run(&rt, seed, cases)
 }

@@ -5,13 +5,11 @@ use crate::words;
 
 // Any positions, 0 to 15.
 pub fn any(word: u64) -> [u8; 30] {
-    let mut rows = [0u8; 30];
+    let mut rows = [0; 30];
     let mut w = word;
-    let mut b: usize = 0;
-    while b < 30 {
+    for position in rows.iter_mut() {
         w = words::next(w);
-        rows[b] = (w / 256 % 16) as u8;
-        b += 1;
+        *position = (w / 256 % 16) as u8;
     }
     rows
 }
@@ -38,11 +36,9 @@ fn between(from: u8, to: u8, word: u64) -> u8 {
 pub fn lower(from: [u8; 30], to: [u8; 30], word: u64) -> [u8; 30] {
     let mut rows = from;
     let mut w = word;
-    let mut b: usize = 0;
-    while b < 30 {
+    for (position, last) in rows.iter_mut().zip(&to) {
         w = words::next(w);
-        rows[b] = between(from[b], to[b], w);
-        b += 1;
+        *position = between(*position, *last, w);
     }
     rows
 }

@@ -1,20 +1,15 @@
 // Random targets: what ladders bring a tile nearer to.
-ghost use Rattle.std.specs.Prelude.{◌≡◌, ◌<◌, ◌≤◌, length};
+ghost use Rattle.std.specs.Prelude.{◌≡◌, ◌≤◌, length};
 
 use crate::words;
-use replay_input::number;
 
 // A magnitude outside the bottom, by the component's sort: sparse, small, dense, and of all sizes up to 255. An SRL value takes as many bits as its
 // magnitude, so that these fit their streams.
 fn magnitude(sort: u64, word: u64) -> u16 {
     let m = (word / 256 % 1024) as u16;
     match sort {
-        0 => {
-            if word / 1048576 % 32 > 0 {
-                return 0;
-            }
-            m
-        }
+        0 if word / 1048576 % 32 > 0 => 0,
+        0 => m,
         1 => m % 8,
         2 => m % 64,
         _ => m % 256 >> (word / 1048576 % 9),
@@ -46,29 +41,23 @@ fn put_edges(word: u64, into: &mut [i16])
     requires { length into.old ≡ 4096 }
 {
     let mut w = word;
-    let mut n: usize = 0;
-    while n < 10 {
+    for n in 0..10 {
         w = words::next(w);
         let value = edge(n as u64 + word / 256 % 5);
         let outside = 400 * n + (w / 256 % 400) as usize;
         into[outside] = value;
         let inside = 4095 - 6 * n - (w / 1048576 % 6) as usize;
         into[inside] = value;
-        n += 1;
     }
 }
 
 // Makes a component.
-fn fill(word: u64, bottom: usize, into: &mut [i16])
-    requires { length into.old ≡ 4096 }
-{
+fn fill(word: u64, bottom: usize, into: &mut [i16]) {
     let sort = word / 256 % 4;
     let mut w = word;
-    let mut i: usize = 0;
-    while i < 4096 {
+    for (i, value) in into.iter_mut().enumerate() {
         w = words::next(w);
-        into[i] = coefficient(i >= bottom, sort, w);
-        i += 1;
+        *value = coefficient(i >= bottom, sort, w);
     }
 }
 
@@ -88,18 +77,16 @@ pub fn make(seed: u64, case: u64, into: &mut [i16])
     requires { length into.old ≡ 12288 }
 {
     let e = words::is_extrapolate(case);
-    fill_at(words::first(seed, case, 0), 0, e, into);
-    fill_at(words::first(seed, case, 1), 1, e, into);
-    fill_at(words::first(seed, case, 2), 2, e, into);
+    for k in 0..3 {
+        fill_at(words::first(seed, case, k), k as usize, e, into);
+    }
 }
 
 // Any signs, of which those of the bottom stay.
 pub fn any_signs(word: u64, into: &mut [i8]) {
     let mut w = word;
-    let mut i: usize = 0;
-    while i < into.len() {
+    for sign in into.iter_mut() {
         w = words::next(w);
-        into[i] = number::i8_at(&[(w / 256 % 256) as u8], 0);
-        i += 1;
+        *sign = ((w / 256 % 256) as u8).cast_signed();
     }
 }

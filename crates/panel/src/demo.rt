@@ -1,352 +1,245 @@
 // The demo: a whole stream and a cut one, stage by stage.
-ghost use Rattle.std.specs.Prelude.{◌≡◌, ◌<◌, ◌≤◌, length};
+ghost use Rattle.std.specs.Prelude.{◌≡◌, ◌≤◌, length};
 
 use crate::{ladders, passes};
+use answer::Refusal;
 use panel_output::{files, images, places, refusals, report};
 use panel_picture::{drawing, measure};
 use std::io;
 use std::rt::Files;
+use tile::TileState;
+use tile_passes::Passed;
 
-// Where a run stands: whether it goes on, its tile, the bits so far, and the figures of its last stage.
+// The bytes of a picture, of which there are eight: four of the whole stream, three of the cut one, and one that is ground only.
+const PICTURE: usize = bands::PIXEL_BYTES;
+
+const PICTURES: usize = 131072;
+
+// What all stages have in common: the panel's coefficients, the pixels of the uncut panel, with which each stage is compared, and where images go.
+#[derive(Clone, Copy)]
+struct Scene<'a> {
+    full: &'a [i16; bands::COEFFICIENTS_PER_TILE],
+    reference: &'a [u8; PICTURE],
+    folder: &'a [u8],
+    ghost short_folder: { length folder.now ≤ 3072 },
+}
+
+// What arrives at a stage: no bits that are counted, since the first pass is outside the port; a pass to positions, or the first half of its bytes.
+#[derive(Clone, Copy)]
+enum Arrives {
+    FirstCut,
+    Pass([u8; 10]),
+    HalfPass([u8; 10]),
+}
+
+// A stage: its name, what arrives, and the file of its image.
+#[derive(Clone, Copy)]
+struct Stage<'a> {
+    name: &'a str,
+    arrives: Arrives,
+    file: &'a [u8],
+    ghost short_file: { length file.now ≤ 64 },
+}
+
+// Where a run stands: its tile, the bits so far, and the figures of its last stage.
 #[derive(Clone, Copy)]
 struct Run {
-    is_good: bool,
-    tile: tile::TileState,
+    tile: TileState,
     bits: u64,
     figures: report::Figures,
 }
 
-fn no_figures() -> report::Figures {
-    report::Figures {
-        bits: 0,
-        all_bits: 0,
-        missing: 0,
-        undecided: 0,
-        stroke: 0,
-        ground: 0,
-        difference: 0,
-    }
-}
-
-// A run that has come to an end.
-fn ended(t: tile::TileState) -> Run {
-    Run {
-        is_good: false,
-        tile: t,
-        bits: 0,
-        figures: no_figures(),
-    }
-}
-
-// ---- figures
+// ---- one stage
 
 // The figures of a stage, from its tile and its pixels. The ground is measured twelve rows above the minus stroke.
 fn figures(
-    t: tile::TileState,
+    t: &TileState,
     pixels: &[u8],
     reference: &[u8],
-    bits: u64,
+    passed: Passed,
     all_bits: u64,
-    missing: u64,
 ) -> report::Figures
     requires { (length pixels.now ≡ 16384) × (length reference.now ≡ 16384) }
 {
-    let zero_signs = t.zero_signs;
-    let positions = t.prog_quant;
     report::Figures {
-        bits,
+        bits: passed.bits,
         all_bits,
-        missing,
-        undecided: measure::undecided(zero_signs, positions),
+        missing: passed.missing,
+        undecided: measure::undecided(t.zero_signs, t.prog_quant),
         stroke: measure::grey(pixels, drawing::MINUS_LEFT, drawing::MINUS_TOP),
         ground: measure::grey(pixels, drawing::MINUS_LEFT, drawing::MINUS_TOP - 12),
-        difference: measure::largest_difference(pixels, reference) as u64,
+        difference: u64::from(measure::largest_difference(pixels, reference)),
     }
 }
 
-// ---- one stage
-
-// The pixels of a tile, in the place of a picture: a refusal or 0.
-fn paint(t: tile::TileState, pictures: &mut [u8], picture: usize) -> u8
-    requires { (picture < 8) × (length pictures.old ≡ 131072) }
+// Brings a tile to a stage, and makes its pixels.
+fn arrive(
+    full: &[i16],
+    t: &mut TileState,
+    arrives: Arrives,
+    picture: &mut [u8],
+) -> Result<Passed, Refusal>
+    requires { length full.now ≡ 12288 }
 {
-    let from = bands::PIXEL_BYTES * picture;
-    let to = from + bands::PIXEL_BYTES;
-    answer::number_of(t.reconstruct_to_rgba(&mut pictures[from..to]))
+    let passed = match arrives {
+        Arrives::FirstCut => Passed {
+            bits: 0,
+            missing: 0,
+        },
+        Arrives::Pass(positions) => passes::pass(full, t, positions, false)?,
+        Arrives::HalfPass(positions) => passes::pass(full, t, positions, true)?,
+    };
+    t.reconstruct_to_rgba(picture)?;
+    Ok(passed)
 }
 
-fn measured(
-    t: tile::TileState,
-    pictures: &[u8],
-    picture: usize,
-    reference: &[u8],
-    bits: u64,
-    all_bits: u64,
-    missing: u64,
-) -> report::Figures
-    requires { (picture < 8) × (length pictures.now ≡ 131072) × (length reference.now ≡ 16384) }
-{
-    let from = bands::PIXEL_BYTES * picture;
-    let to = from + bands::PIXEL_BYTES;
-    figures(t, &pictures[from..to], reference, bits, all_bits, missing)
-}
-
-// Shows a stage: its pixels, its image and its line.
+// Shows a stage of a run: its pixels, its image and its line; whether the run goes on.
 fn show(
     rt: &(impl Files + Print + Eprint),
-    t: tile::TileState,
-    bits: u64,
-    all_bits: u64,
-    missing: u64,
-    run: &[u8],
-    name: &[u8],
-    file: &[u8],
-    picture: usize,
-    folder: &[u8],
-    reference: &[u8],
-    pictures: &mut [u8],
-) -> io::Result<Run>
-    requires { (picture < 8) × (length file.now ≤ 64) × (length folder.now ≤ 3072) × (length reference.now ≡ 16384)
-        × (length pictures.old ≡ 131072) }
-{
-    let refusal = paint(t, pictures, picture);
-    if refusal != 0 {
-        refusals::say(rt, refusal)?;
-        return Ok(ended(t));
-    }
-    if !images::save_stage(rt, folder, file, pictures, picture)? {
-        return Ok(ended(t));
-    }
-    let f = measured(t, pictures, picture, reference, bits, all_bits, missing);
-    report::stage(rt, run, name, f, file)?;
-    Ok(Run {
-        is_good: true,
-        tile: t,
-        bits: all_bits,
-        figures: f,
-    })
-}
-
-// The first stage: the tile with the first cut. No bit of it is counted, since the first pass is outside the port.
-fn first(
-    rt: &(impl Files + Print + Eprint),
-    full: &[i16],
-    run: &[u8],
-    file: &[u8],
-    picture: usize,
-    folder: &[u8],
-    reference: &[u8],
-    pictures: &mut [u8],
-) -> io::Result<Run>
-    requires { (picture < 8) × (length full.now ≡ 12288) × (length file.now ≤ 64) × (length folder.now ≤ 3072)
-        × (length reference.now ≡ 16384) × (length pictures.old ≡ 131072) }
-{
-    let done = passes::loaded(full, passes::positions(0));
-    let answer = done.answer;
-    let t = done.tile;
-    let refusal = answer::number_of(answer);
-    if refusal != 0 {
-        refusals::say(rt, refusal)?;
-        return Ok(ended(t));
-    }
-    show(
-        rt,
-        t,
-        0,
-        0,
-        0,
-        run,
-        b"first cut",
-        file,
-        picture,
-        folder,
-        reference,
-        pictures,
-    )
-}
-
-// A later stage: a pass more, of which all bytes arrive or the first half.
-fn next(
-    rt: &(impl Files + Print + Eprint),
-    before: Run,
-    full: &[i16],
-    stage: usize,
-    is_cut: bool,
-    run: &[u8],
-    name: &[u8],
-    file: &[u8],
-    picture: usize,
-    folder: &[u8],
-    reference: &[u8],
-    pictures: &mut [u8],
-) -> io::Result<Run>
-    requires { (picture < 8) × (length full.now ≡ 12288) × (length file.now ≤ 64) × (length folder.now ≤ 3072)
-        × (length reference.now ≡ 16384) × (length pictures.old ≡ 131072) }
-{
-    if !before.is_good {
-        return Ok(before);
-    }
-    let t = before.tile;
-    let made = passes::pass(full, t, passes::positions(stage), is_cut);
-    let tile = made.tile;
-    if made.refusal != 0 {
-        refusals::say(rt, made.refusal)?;
-        return Ok(ended(tile));
-    }
-    let all_bits = std::num::wrapping_add_u64(before.bits, made.bits);
-    show(
-        rt,
-        tile,
-        made.bits,
-        all_bits,
-        made.missing,
-        run,
-        name,
-        file,
-        picture,
-        folder,
-        reference,
-        pictures,
-    )
-}
-
-// ---- the two runs. Both begin with the first cut and the first pass
-
-fn opening(
-    rt: &(impl Files + Print + Eprint),
-    full: &[i16],
-    run: &[u8],
-    cut_file: &[u8],
-    pass_file: &[u8],
-    picture: usize,
-    folder: &[u8],
-    reference: &[u8],
-    pictures: &mut [u8],
-) -> io::Result<Run>
-    requires { (picture < 7) × (length cut_file.now ≤ 64) × (length pass_file.now ≤ 64) × (length full.now ≡ 12288)
-        × (length folder.now ≤ 3072) × (length reference.now ≡ 16384) × (length pictures.old ≡ 131072) }
-{
-    let a = first(
-        rt, full, run, cut_file, picture, folder, reference, pictures,
-    )?;
-    next(
-        rt,
-        a,
+    scene: Scene<'_>,
+    run_name: &str,
+    stage: Stage<'_>,
+    run: &mut Run,
+    picture: &mut [u8; PICTURE],
+) -> io::Result<bool> {
+    let Scene {
         full,
-        1,
-        false,
-        run,
-        b"pass 1",
-        pass_file,
-        picture + 1,
-        folder,
         reference,
-        pictures,
-    )
+        folder,
+    } = scene;
+    let Stage {
+        name,
+        arrives,
+        file,
+    } = stage;
+    let passed = match arrive(full, &mut run.tile, arrives, picture) {
+        Ok(passed) => passed,
+        Err(refusal) => {
+            refusals::say(rt, refusal)?;
+            return Ok(false);
+        }
+    };
+    if !images::save_stage(rt, folder, file, picture)? {
+        return Ok(false);
+    }
+    run.bits = run.bits.wrapping_add(passed.bits);
+    run.figures = figures(&run.tile, picture, reference, passed, run.bits);
+    report::stage(rt, run_name, name, run.figures, file)?;
+    Ok(true)
 }
 
-// The second and the third pass of the whole stream.
-fn closing(
+// ---- the two runs
+
+// A run, stage by stage; nothing where it does not come to its end.
+fn run_stages(
     rt: &(impl Files + Print + Eprint),
-    before: Run,
-    full: &[i16],
-    folder: &[u8],
-    reference: &[u8],
+    scene: Scene<'_>,
+    name: &str,
+    stages: &[Stage<'_>],
     pictures: &mut [u8],
-) -> io::Result<Run>
-    requires { (length full.now ≡ 12288) × (length folder.now ≤ 3072) × (length reference.now ≡ 16384)
-        × (length pictures.old ≡ 131072) }
-{
-    let run = b"whole";
-    let f2 = b"whole-2.png";
-    let f3 = b"whole-3.png";
-    let c = next(
-        rt, before, full, 2, false, run, b"pass 2", f2, 2, folder, reference, pictures,
-    )?;
-    next(
-        rt, c, full, 3, false, run, b"pass 3", f3, 3, folder, reference, pictures,
-    )
+) -> io::Result<Option<Run>> {
+    let full = scene.full;
+    let tile = match passes::loaded(full, passes::FIRST_CUT) {
+        Ok(tile) => tile,
+        Err(refusal) => {
+            refusals::say(rt, refusal)?;
+            return Ok(None);
+        }
+    };
+    let mut run = Run {
+        tile,
+        bits: 0,
+        figures: report::Figures::default(),
+    };
+    let (pictures, _) = pictures.as_chunks_mut::<PICTURE>();
+    for (stage, picture) in stages.iter().zip(pictures.iter_mut()) {
+        if !show(rt, scene, name, *stage, &mut run, picture)? {
+            return Ok(None);
+        }
+    }
+    Ok(Some(run))
 }
 
 // All three passes arrive.
 fn whole(
     rt: &(impl Files + Print + Eprint),
-    full: &[i16],
-    folder: &[u8],
-    reference: &[u8],
+    scene: Scene<'_>,
     pictures: &mut [u8],
-) -> io::Result<Run>
-    requires { (length full.now ≡ 12288) × (length folder.now ≤ 3072) × (length reference.now ≡ 16384)
-        × (length pictures.old ≡ 131072) }
-{
-    let f0 = b"whole-0-first-cut.png";
-    let f1 = b"whole-1.png";
-    let b = opening(rt, full, b"whole", f0, f1, 0, folder, reference, pictures)?;
-    closing(rt, b, full, folder, reference, pictures)
+) -> io::Result<Option<Run>> {
+    let stages = [
+        Stage {
+            name: "first cut",
+            arrives: Arrives::FirstCut,
+            file: b"whole-0-first-cut.png",
+        },
+        Stage {
+            name: "pass 1",
+            arrives: Arrives::Pass(passes::PASS_1),
+            file: b"whole-1.png",
+        },
+        Stage {
+            name: "pass 2",
+            arrives: Arrives::Pass(passes::PASS_2),
+            file: b"whole-2.png",
+        },
+        Stage {
+            name: "pass 3",
+            arrives: Arrives::Pass(passes::PASS_3),
+            file: b"whole-3.png",
+        },
+    ];
+    run_stages(rt, scene, "whole", &stages, pictures)
 }
 
 // The stream ends half-way in the second pass.
 fn cut(
     rt: &(impl Files + Print + Eprint),
-    full: &[i16],
-    folder: &[u8],
-    reference: &[u8],
+    scene: Scene<'_>,
     pictures: &mut [u8],
-) -> io::Result<Run>
-    requires { (length full.now ≡ 12288) × (length folder.now ≤ 3072) × (length reference.now ≡ 16384)
-        × (length pictures.old ≡ 131072) }
-{
-    let run = b"cut";
-    let f0 = b"cut-0-first-cut.png";
-    let f1 = b"cut-1.png";
-    let f2 = b"cut-2.png";
-    let b = opening(rt, full, run, f0, f1, 4, folder, reference, pictures)?;
-    next(
-        rt,
-        b,
-        full,
-        2,
-        true,
-        run,
-        b"half pass 2",
-        f2,
-        6,
-        folder,
-        reference,
-        pictures,
-    )
+) -> io::Result<Option<Run>> {
+    let stages = [
+        Stage {
+            name: "first cut",
+            arrives: Arrives::FirstCut,
+            file: b"cut-0-first-cut.png",
+        },
+        Stage {
+            name: "pass 1",
+            arrives: Arrives::Pass(passes::PASS_1),
+            file: b"cut-1.png",
+        },
+        Stage {
+            name: "half pass 2",
+            arrives: Arrives::HalfPass(passes::PASS_2),
+            file: b"cut-2.png",
+        },
+    ];
+    run_stages(rt, scene, "cut", &stages, pictures)
 }
 
 // ---- all of it
 
-// The pixels of the uncut panel, with which each stage is compared; false where the port refuses.
-fn uncut(rt: &impl Eprint, full: &[i16], reference: &mut [u8]) -> io::Result<bool>
+// The pixels of the uncut panel.
+fn uncut(full: &[i16], reference: &mut [u8]) -> Result<(), Refusal>
     requires { length full.now ≡ 12288 }
 {
-    let done = passes::loaded(full, [0; 10]);
-    let t = done.tile;
-    let refusal = answer::number_of(t.reconstruct_to_rgba(reference));
-    if refusal != 0 {
-        refusals::say(rt, refusal)?;
-        return Ok(false);
-    }
-    Ok(true)
+    passes::loaded(full, [0; 10])?.reconstruct_to_rgba(reference)
 }
 
-// What both runs came to, other ladders beside the whole stream's, and the bands.
+// What both runs came to, other ladders beside the whole stream's, and the bands. The picture is the last one of the whole stream.
 fn closing_report(
     rt: &(impl Files + Print + Eprint),
-    whole: Run,
+    scene: Scene<'_>,
+    whole: &Run,
     cut: report::Figures,
-    full: &[i16],
-    folder: &[u8],
-    pictures: &[u8],
+    picture: &[u8],
 ) -> io::Result<()>
-    requires { (length full.now ≡ 12288) × (length folder.now ≤ 3072) × (length pictures.now ≡ 131072) }
+    requires { length picture.now ≡ 16384 }
 {
+    let full = scene.full;
+    let folder = scene.folder;
     report::summary(rt, whole.figures, cut, folder)?;
-    let t = whole.tile;
-    if !ladders::others(rt, full, t, whole.bits, pictures)? {
+    if !ladders::others(rt, full, &whole.tile, whole.bits, picture)? {
         return Ok(());
     }
     if places::save(rt, folder, b"bands.png")? {
@@ -355,77 +248,63 @@ fn closing_report(
     Ok(())
 }
 
-// The cut run, the image of both runs, and the end of the report.
-fn after_whole(
+// Both runs, the image of all their stages, and the end of the report.
+fn both_runs(
     rt: &(impl Files + Print + Eprint),
-    whole: Run,
-    full: &[i16],
-    folder: &[u8],
-    reference: &[u8],
+    scene: Scene<'_>,
     pictures: &mut [u8],
 ) -> io::Result<()>
-    requires { (length full.now ≡ 12288) × (length folder.now ≤ 3072) × (length reference.now ≡ 16384)
-        × (length pictures.old ≡ 131072) }
+    requires { length pictures.old ≡ 131072 }
 {
-    let b = cut(rt, full, folder, reference, pictures)?;
-    if !b.is_good {
+    let folder = scene.folder;
+    let Some(whole) = whole(rt, scene, &mut pictures[..4 * PICTURE])? else {
         return Ok(());
-    }
+    };
+    let Some(cut) = cut(rt, scene, &mut pictures[4 * PICTURE..7 * PICTURE])? else {
+        return Ok(());
+    };
     if !images::save_grid(rt, folder, b"sharpening.png", pictures)? {
         return Ok(());
     }
-    closing_report(rt, whole, b.figures, full, folder, pictures)
-}
-
-fn both_runs(
-    rt: &(impl Files + Print + Eprint),
-    full: &[i16],
-    folder: &[u8],
-    reference: &[u8],
-    pictures: &mut [u8],
-) -> io::Result<()>
-    requires { (length full.now ≡ 12288) × (length folder.now ≤ 3072) × (length reference.now ≡ 16384)
-        × (length pictures.old ≡ 131072) }
-{
-    let a = whole(rt, full, folder, reference, pictures)?;
-    if !a.is_good {
-        return Ok(());
-    }
-    after_whole(rt, a, full, folder, reference, pictures)
+    let last = &pictures[3 * PICTURE..4 * PICTURE];
+    closing_report(rt, scene, &whole, cut.figures, last)
 }
 
 // Eight pictures, the last of which is ground only, and both runs.
-fn with_reference(
-    rt: &(impl Files + Print + Eprint),
-    full: &[i16],
-    folder: &[u8],
-    reference: &[u8],
-) -> io::Result<()>
-    requires { (length full.now ≡ 12288) × (length folder.now ≤ 3072) × (length reference.now ≡ 16384) }
-{
-    let mut pictures = [0u8; 131072];
+fn with_reference(rt: &(impl Files + Print + Eprint), scene: Scene<'_>) -> io::Result<()> {
+    let reference = scene.reference;
+    let mut pictures = [0; PICTURES];
     images::ground(reference, &mut pictures);
-    both_runs(rt, full, folder, reference, &mut pictures)
+    both_runs(rt, scene, &mut pictures)
 }
 
 // The pixels of the uncut panel come first: with them every stage is compared.
-fn with_panel(rt: &(impl Files + Print + Eprint), full: &[i16], folder: &[u8]) -> io::Result<()>
-    requires { (length full.now ≡ 12288) × (length folder.now ≤ 3072) }
+fn with_panel(
+    rt: &(impl Files + Print + Eprint),
+    full: &[i16; bands::COEFFICIENTS_PER_TILE],
+    folder: &[u8],
+) -> io::Result<()>
+    requires { length folder.now ≤ 3072 }
 {
-    let mut reference = [0u8; bands::PIXEL_BYTES];
-    if !uncut(rt, full, &mut reference)? {
-        return Ok(());
+    let mut reference = [0; PICTURE];
+    if let Err(refusal) = uncut(full, &mut reference) {
+        return refusals::say(rt, refusal);
     }
     report::introduce(
         rt,
         [
-            passes::positions(0),
-            passes::positions(1),
-            passes::positions(2),
-            passes::positions(3),
+            passes::FIRST_CUT,
+            passes::PASS_1,
+            passes::PASS_2,
+            passes::PASS_3,
         ],
     )?;
-    with_reference(rt, full, folder, &reference)
+    let scene = Scene {
+        full,
+        reference: &reference,
+        folder,
+    };
+    with_reference(rt, scene)
 }
 
 pub fn demo(rt: &(impl Files + Print + Eprint), folder: &[u8]) -> io::Result<()>
@@ -434,7 +313,7 @@ pub fn demo(rt: &(impl Files + Print + Eprint), folder: &[u8]) -> io::Result<()>
     if !files::make_folder(rt, folder)? {
         return Ok(());
     }
-    let mut full = [0i16; bands::COEFFICIENTS_PER_TILE];
+    let mut full = [0; bands::COEFFICIENTS_PER_TILE];
     panel_picture::panel(&mut full);
     with_panel(rt, &full, folder)
 }

@@ -20,7 +20,7 @@ fn has_argument(rt: &impl Env, i: usize) -> bool {
 
 // Whether the first argument is the word `demo`.
 fn is_demo(rt: &impl Env) -> bool {
-    let mut word = [0u8; 8];
+    let mut word = [0; 8];
     match rt.arg(1, &mut word) {
         Ok(n) => &word[..n] == b"demo".as_slice(),
         Err(_) => false,
@@ -29,19 +29,16 @@ fn is_demo(rt: &impl Env) -> bool {
 
 // Runs the demo in the folder that the second argument names.
 fn demo_in_folder(rt: &(impl Env + Files + Print + Eprint)) -> io::Result<()> {
-    let mut folder = [0u8; 3072];
+    let mut folder = [0; 3072];
     match rt.arg(2, &mut folder) {
-        Ok(0) => report::error(rt, b"panel: FOLDER is empty\n"),
+        Ok(0) => rt.eprint("panel: FOLDER is empty\n"),
         Ok(n) => demo::demo(rt, &folder[..n]),
-        Err(_) => report::error(rt, b"panel: FOLDER: File name too long\n"),
+        Err(_) => rt.eprint("panel: FOLDER: File name too long\n"),
     }
 }
 
 fn main(rt: HostRuntime) -> io::Result<()> {
-    if !has_argument(&rt, 1) || has_argument(&rt, 3) {
-        return report::usage(&rt);
-    }
-    if !is_demo(&rt) {
+    if !has_argument(&rt, 1) || has_argument(&rt, 3) || !is_demo(&rt) {
         return report::usage(&rt);
     }
     if has_argument(&rt, 2) {

@@ -12,31 +12,25 @@ fn append(path: &mut [u8], at: usize, bytes: &[u8]) -> usize
     requires { at + length bytes.now ≤ length path.old }
     ensures { result ≡ at + length bytes.now }
 {
-    let mut i: usize = 0;
-    while i < bytes.len() {
-        path[at + i] = bytes[i];
-        i += 1;
-    }
-    at + i
+    let end = at + bytes.len();
+    path[at..end].copy_from_slice(bytes);
+    end
 }
 
-// Makes the path of a file in a folder, with an ending: its length.
-fn join(folder: &[u8], name: &[u8], ending: &[u8], path: &mut [u8]) -> usize
-    requires { (length folder.now ≤ 3072) × (length name.now ≤ 64) × (length ending.now ≤ 64) × (length path.old ≡ 4096) }
-    ensures { result ≤ 4096 }
+// Makes the path of a file in a folder, with an ending, in a buffer.
+fn join<'a>(folder: &[u8], name: &[u8], ending: &[u8], buffer: &'a mut [u8]) -> &'a [u8]
+    requires { (length folder.now ≤ 3072) × (length name.now ≤ 64) × (length ending.now ≤ 64) × (length buffer.old ≡ 4096) }
 {
-    let a = append(path, 0, folder);
-    let b = append(path, a, b"/");
-    let c = append(path, b, name);
-    append(path, c, ending)
+    let mut end = append(buffer, 0, folder);
+    end = append(buffer, end, b"/");
+    end = append(buffer, end, name);
+    end = append(buffer, end, ending);
+    &buffer[..end]
 }
 
 // A path as text, which is all that std takes.
 fn text(path: &[u8]) -> io::Result<&str> {
-    match str::from_utf8(path) {
-        Ok(text) => Ok(text),
-        Err(_) => Err(io::Error::from(ErrorKind::InvalidFilename)),
-    }
+    str::from_utf8(path).map_err(|_| io::Error::from(ErrorKind::InvalidFilename))
 }
 
 fn create_folder(rt: &impl Files, folder: &[u8]) -> io::Result<()> {
@@ -63,12 +57,12 @@ fn create<R: Files>(rt: &R, path: &[u8]) -> io::Result<R::File> {
 pub fn open<R: Files + Eprint>(rt: &R, folder: &[u8], name: &[u8]) -> io::Result<Option<R::File>>
     requires { (length folder.now ≤ 3072) × (length name.now ≤ 64) }
 {
-    let mut part = [0u8; 4096];
-    let n = join(folder, name, b".part", &mut part);
-    match create(rt, &part[..n]) {
+    let mut buffer = [0; 4096];
+    let part = join(folder, name, b".part", &mut buffer);
+    match create(rt, part) {
         Ok(file) => Ok(Some(file)),
         Err(e) => {
-            report::failure(rt, &part[..n], &e)?;
+            report::failure(rt, part, &e)?;
             Ok(None)
         }
     }
@@ -112,11 +106,7 @@ fn close_paths<R: Files + Eprint>(
     path: &[u8],
     part: &[u8],
 ) -> io::Result<bool> {
-    let finished = match written {
-        Ok(file) => finish(rt, file, path, part),
-        Err(e) => Err(e),
-    };
-    match finished {
+    match written.and_then(|file| finish(rt, file, path, part)) {
         Ok(()) => Ok(true),
         Err(e) => give_up(rt, path, part, &e),
     }
@@ -131,9 +121,25 @@ pub fn close<R: Files + Eprint>(
 ) -> io::Result<bool>
     requires { (length folder.now ≤ 3072) × (length name.now ≤ 64) }
 {
-    let mut path = [0u8; 4096];
-    let mut part = [0u8; 4096];
-    let n = join(folder, name, b"", &mut path);
-    let m = join(folder, name, b".part", &mut part);
-    close_paths(rt, written, &path[..n], &part[..m])
+    let mut path_buffer = [0; 4096];
+    let mut part_buffer = [0; 4096];
+    let path = join(folder, name, b"", &mut path_buffer);
+    let part = join(folder, name, b".part", &mut part_buffer);
+    close_paths(rt, written, path, part)
+}
+
+// Writes a file in a folder; whether it is there now.
+pub fn save<R: Files + Eprint, F: FnOnce(R::File) -> io::Result<R::File>>(
+    rt: &R,
+    folder: &[u8],
+    name: &[u8],
+    write: F,
+) -> io::Result<bool>
+    requires room { (length folder.now ≤ 3072) × (length name.now ≤ 64) }
+    requires callable { F.IsAlwaysCallable write }
+{
+    let Some(file) = open(rt, folder, name)? else {
+        return Ok(false);
+    };
+    close(rt, folder, name, write(file))
 }

@@ -1,5 +1,4 @@
 // What is said of ladders: several numbers of passes from the same tile to the same positions.
-use crate::report;
 use std::io;
 
 // How many elements of two tiles and of their pixels differ.
@@ -12,54 +11,29 @@ pub struct Unlike {
 
 // What the lines are compared with.
 pub fn heading(rt: &impl Print, bits: u64) -> io::Result<()> {
-    report::text(
-        rt,
-        b"\nLadders from the same first cut to the same last positions, beside the whole stream of 3 passes, ",
-    )?;
-    report::number(rt, bits, 0)?;
-    report::text(rt, b" bits:\n")
-}
-
-fn passes(rt: &impl Print, n: u8) -> io::Result<()> {
-    report::number(rt, n as u64, 0)?;
-    if n == 1 {
-        report::text(rt, b" pass,   ")?;
-        return Ok(());
-    }
-    report::text(rt, b" passes, ")
-}
-
-fn is_same(unlike: Unlike) -> bool {
-    if unlike.coefficients != 0 {
-        return false;
-    }
-    if unlike.signs != 0 {
-        return false;
-    }
-    unlike.bytes == 0
-}
-
-fn differences(rt: &impl Print, unlike: Unlike) -> io::Result<()> {
-    report::text(rt, b"ANOTHER tile, ")?;
-    report::number(rt, unlike.coefficients, 0)?;
-    report::text(rt, b" coefficients, ")?;
-    report::number(rt, unlike.signs, 0)?;
-    report::text(rt, b" signs and ")?;
-    report::number(rt, unlike.bytes, 0)?;
-    report::text(rt, b" bytes of the picture differ\n")
+    println!(rt;
+        "\nLadders from the same first cut to the same last positions, beside the whole stream of 3 passes, {bits} bits:"
+    )
 }
 
 // A ladder's line.
 pub fn line(rt: &impl Print, n: u8, bits: u64, unlike: Unlike) -> io::Result<()> {
-    passes(rt, n)?;
-    report::number(rt, bits, 5)?;
-    report::text(rt, b" bits: ")?;
-    if is_same(unlike) {
-        report::text(
-            rt,
-            b"the same tile, all 12288 coefficients, 12288 signs and 16384 bytes of the picture\n",
-        )?;
-        return Ok(());
+    let passes = if n == 1 { "pass,   " } else { "passes, " };
+    print!(rt; "{n} {passes}{bits:>5} bits: ")?;
+    match unlike {
+        Unlike {
+            coefficients: 0,
+            signs: 0,
+            bytes: 0,
+        } => println!(rt;
+            "the same tile, all 12288 coefficients, 12288 signs and 16384 bytes of the picture"
+        ),
+        Unlike {
+            coefficients,
+            signs,
+            bytes,
+        } => println!(rt;
+            "ANOTHER tile, {coefficients} coefficients, {signs} signs and {bytes} bytes of the picture differ"
+        ),
     }
-    differences(rt, unlike)
 }

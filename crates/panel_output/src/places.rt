@@ -3,7 +3,7 @@
 ghost use Rattle.std.specs.Prelude.{◌≡◌, ◌+◌, ◌≤◌, ◌<◌, length};
 
 use crate::{files, images, report};
-use panel_png::writer;
+use panel_png::writer::Png;
 use std::io;
 use std::io::Write;
 use std::rt::Files;
@@ -27,79 +27,55 @@ fn colour(band: u8) -> [u8; 3] {
 
 // Says which colour a band has, and where the image is.
 pub fn legend(rt: &impl Print, folder: &[u8]) -> io::Result<()> {
-    report::text(
-        rt,
-        b"\nbands: HL1 red, LH1 green, HH1 blue, HL2 orange, LH2 purple, HH2 yellow, HL3 cyan, LH3 pink, HH3 brown, LL3 black\nThe 4096 places of a component by band, 64 a row, reduce-extrapolate left and standard right: ",
+    print!(rt;
+        "\nbands: HL1 red, LH1 green, HH1 blue, HL2 orange, LH2 purple, HH2 yellow, HL3 cyan, LH3 pink, HH3 brown, LL3 black\nThe 4096 places of a component by band, 64 a row, reduce-extrapolate left and standard right: "
     )?;
     report::text(rt, folder)?;
-    report::text(rt, b"/bands.png\n")
+    println!(rt; "/bands.png")
 }
 
-// Writes the colour of a band at a byte.
-fn place(band: u8, out: &mut [u8], at: usize)
-    requires { at + 3 ≤ length out.old }
-{
-    let rgb = colour(band);
-    images::pixel(&rgb, 0, out, at);
-}
-
-// Writes the colours of a row of 64 places, by the bands of all places.
-fn places(bands: &[u8], row: usize, out: &mut [u8])
-    requires { (row < 64) × (length bands.now ≡ 4096) × (length out.old ≡ 192) }
-{
-    let mut x: usize = 0;
-    while x < 64 {
-        place(bands[64 * row + x], out, 3 * x);
-        x += 1;
+// Writes the colours of places, by their bands.
+fn places(bands: &[u8], out: &mut [u8]) {
+    let (colours, _) = out.as_chunks_mut::<3>();
+    for (band, place) in bands.iter().zip(colours.iter_mut()) {
+        *place = colour(*band);
     }
 }
 
-// Writes the colours of a row of places, each four times, from a byte on.
-fn enlarged(bands: &[u8], row: usize, line: &mut [u8], at: usize)
-    requires { (row < 64) × (length bands.now ≡ 4096) × (at + 768 ≤ length line.old) }
-{
-    let mut once = [0u8; 192];
-    let mut twice = [0u8; 384];
-    places(bands, row, &mut once);
-    images::double(&once, 64, &mut twice, 0);
-    images::double(&twice, 128, line, at);
+// Writes the colours of a row of 64 places, each four times.
+fn enlarged(row: &[u8], line: &mut [u8]) {
+    let mut once = [0; 192];
+    let mut twice = [0; 384];
+    places(row, &mut once);
+    images::double(&once, &mut twice);
+    images::double(&twice, line);
 }
 
 // Writes a line of the image: white in the margins of eight pixels, and places of both layouts.
 fn image_line<W: Write + Drop>(
-    png: writer::Png<W>,
+    png: Png<W>,
     left: &[u8],
     right: &[u8],
     y: usize,
-) -> io::Result<writer::Png<W>>
+) -> io::Result<Png<W>>
     requires { (y < 272) × (length left.now ≡ 4096) × (length right.now ≡ 4096) }
 {
-    let mut line = [255u8; 1609];
+    let mut line = [255; 1609];
     line[0] = 0;
-    if y < 8 {
-        return writer::row(png, &line, false);
+    if y >= 8 && y < 264 {
+        let from = 64 * ((y - 8) / 4);
+        enlarged(&left[from..from + 64], &mut line[25..793]);
+        enlarged(&right[from..from + 64], &mut line[817..1585]);
     }
-    if y >= 264 {
-        return writer::row(png, &line, y == 271);
-    }
-    let row = (y - 8) / 4;
-    enlarged(left, row, &mut line, 25);
-    enlarged(right, row, &mut line, 817);
-    writer::row(png, &line, false)
+    png.row(&line, y == 271)
 }
 
-fn image_lines<W: Write + Drop>(
-    png: writer::Png<W>,
-    left: &[u8],
-    right: &[u8],
-) -> io::Result<writer::Png<W>>
+fn image_lines<W: Write + Drop>(png: Png<W>, left: &[u8], right: &[u8]) -> io::Result<Png<W>>
     requires { (length left.now ≡ 4096) × (length right.now ≡ 4096) }
 {
     let mut image = png;
-    let mut y: usize = 0;
-    while y < 272 {
+    for y in 0..272 {
         image = image_line(image, left, right, y)?;
-        y += 1;
     }
     Ok(image)
 }
@@ -108,7 +84,7 @@ fn image_lines<W: Write + Drop>(
 fn image<W: Write + Drop>(out: W, left: &[u8], right: &[u8]) -> io::Result<W>
     requires { (length left.now ≡ 4096) × (length right.now ≡ 4096) }
 {
-    writer::end(image_lines(writer::begin(out, 536, 272)?, left, right)?)
+    image_lines(Png::begin(out, 536, 272)?, left, right)?.end()
 }
 
 // Writes the image; whether it is there now.
@@ -117,8 +93,7 @@ pub fn save<R: Files + Eprint>(rt: &R, folder: &[u8], name: &[u8]) -> io::Result
 {
     let extrapolate = bands::bands_of_places(true);
     let standard = bands::bands_of_places(false);
-    let Some(file) = files::open(rt, folder, name)? else {
-        return Ok(false);
-    };
-    files::close(rt, folder, name, image(file, &extrapolate, &standard))
+    files::save(rt, folder, name, |file| {
+        image(file, &extrapolate, &standard)
+    })
 }

@@ -10,9 +10,10 @@ fn low_bits(magnitude: u16, position: u8) -> u16
     ensures { result ≡ magnitude % 2 ^ position }
 {
     if position > 15 {
-        return magnitude;
+        magnitude
+    } else {
+        magnitude % (1u16 << position)
     }
-    magnitude % (1u16 << position)
 }
 
 // A value cut towards zero to a multiple of 2 to the position: its sign stays.
@@ -38,30 +39,18 @@ pub fn cut(is_bottom: bool, value: i16, position: u8) -> i16
     ensures { result ≡ cond is_bottom (clamp_i16 (downward position value)) (toward_zero position value) }
 {
     if is_bottom {
-        return down(value, position);
+        down(value, position)
+    } else {
+        toward_zero(value, position)
     }
-    toward_zero(value, position)
 }
 
-// Cuts the places from `from` up to `to`, and stores what is left and its signs. Those of the bottom are stored too, as the source's first pass
-// does; no pass reads or sets them.
-fn cut_places(
-    full: &[i16],
-    from: usize,
-    to: usize,
-    is_bottom: bool,
-    position: u8,
-    out: &mut [i16],
-    signs: &mut [i8],
-)
-    requires { (to ≤ length full.now) × (to ≤ length out.old) × (to ≤ length signs.old) }
-{
-    let mut i = from;
-    while i < to {
-        let left = cut(is_bottom, full[i], position);
-        out[i] = left;
-        signs[i] = fixed::sign_of(left);
-        i += 1;
+// Cuts coefficients of a band, and stores what is left and its signs. Those of the bottom are stored too, as the source's first pass does; no
+// pass reads or sets them.
+fn cut_places(full: &[i16], is_bottom: bool, position: u8, out: &mut [i16], signs: &mut [i8]) {
+    for ((value, left), sign) in full.iter().zip(out.iter_mut()).zip(signs.iter_mut()) {
+        *left = cut(is_bottom, *value, position);
+        *sign = fixed::sign_of(*left);
     }
 }
 
@@ -69,10 +58,14 @@ fn cut_places(
 pub fn cut_component(full: &[i16], positions: [u8; 10], out: &mut [i16], signs: &mut [i8])
     requires { (4096 ≤ length full.now) × (4096 ≤ length out.old) × (4096 ≤ length signs.old) }
 {
-    let mut b: usize = 0;
-    while b < bands::NUM_BANDS {
-        let at = span::band_span(true, b);
-        cut_places(full, at.from, at.to, b == 9, positions[b], out, signs);
-        b += 1;
+    for (band, position) in positions.iter().enumerate() {
+        let at = span::band_span(true, band);
+        cut_places(
+            &full[at.from..at.to],
+            band == 9,
+            *position,
+            &mut out[at.from..at.to],
+            &mut signs[at.from..at.to],
+        );
     }
 }

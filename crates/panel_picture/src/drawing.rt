@@ -10,62 +10,68 @@ pub const MINUS_TOP: usize = 30;
 // The first row of the digits, which are 28 rows high and twelve columns wide.
 const TOP: usize = 18;
 
-// Sets the places of a plane from `from` up to `to`.
-fn set(plane: &mut [i16], from: usize, to: usize, value: i16)
-    requires { to ≤ length plane.old }
-{
-    let mut i = from;
-    while i < to {
-        plane[i] = value;
-        i += 1;
-    }
-}
-
 // Fills a rectangle.
 fn rectangle(plane: &mut [i16], left: usize, top: usize, width: usize, height: usize, value: i16)
     requires { (left + width ≤ 64) × (top + height ≤ 64) × (length plane.old ≡ 4096) }
 {
-    let mut row: usize = 0;
-    while row < height {
-        let from = 64 * (top + row) + left;
-        set(plane, from, from + width, value);
-        row += 1;
+    for row in top..top + height {
+        let from = 64 * row + left;
+        plane[from..from + width].fill(value);
     }
 }
 
-// Fills one of the seven segments of a digit: 0 at the top, 1 and 2 on the right, 3 at the bottom, 4 and 5 on the left, 6 in the middle.
-fn segment(plane: &mut [i16], left: usize, number: u8, value: i16)
+// One of the seven segments of a digit.
+#[derive(Clone, Copy)]
+enum Segment {
+    Top,
+    TopRight,
+    BottomRight,
+    Bottom,
+    BottomLeft,
+    TopLeft,
+    Middle,
+}
+
+const ZERO: [Segment; 6] = [
+    Segment::Top,
+    Segment::TopRight,
+    Segment::BottomRight,
+    Segment::Bottom,
+    Segment::BottomLeft,
+    Segment::TopLeft,
+];
+
+const FIVE: [Segment; 5] = [
+    Segment::Top,
+    Segment::BottomRight,
+    Segment::Bottom,
+    Segment::TopLeft,
+    Segment::Middle,
+];
+
+const SEVEN: [Segment; 3] = [Segment::Top, Segment::TopRight, Segment::BottomRight];
+
+// Fills a segment of a digit whose first column is `left`.
+fn fill_segment(plane: &mut [i16], left: usize, segment: Segment, value: i16)
     requires { (left ≤ 52) × (length plane.old ≡ 4096) }
 {
-    match number {
-        0 => rectangle(plane, left, TOP, 12, 4, value),
-        1 => rectangle(plane, left + 8, TOP, 4, 16, value),
-        2 => rectangle(plane, left + 8, TOP + 12, 4, 16, value),
-        3 => rectangle(plane, left, TOP + 24, 12, 4, value),
-        4 => rectangle(plane, left, TOP + 12, 4, 16, value),
-        5 => rectangle(plane, left, TOP, 4, 16, value),
-        _ => rectangle(plane, left, TOP + 12, 12, 4, value),
+    match segment {
+        Segment::Top => rectangle(plane, left, TOP, 12, 4, value),
+        Segment::TopRight => rectangle(plane, left + 8, TOP, 4, 16, value),
+        Segment::BottomRight => rectangle(plane, left + 8, TOP + 12, 4, 16, value),
+        Segment::Bottom => rectangle(plane, left, TOP + 24, 12, 4, value),
+        Segment::BottomLeft => rectangle(plane, left, TOP + 12, 4, 16, value),
+        Segment::TopLeft => rectangle(plane, left, TOP, 4, 16, value),
+        Segment::Middle => rectangle(plane, left, TOP + 12, 12, 4, value),
     }
 }
 
-// Fills a segment where its bit, by its number, is set.
-fn segment_if(plane: &mut [i16], left: usize, number: u8, bits: u8, value: i16)
-    requires { (left ≤ 52) × (number ≤ 7) × (length plane.old ≡ 4096) }
-{
-    if (bits >> number) % 2 == 0 {
-        return;
-    }
-    segment(plane, left, number, value);
-}
-
-// Draws a digit from the column `left` on, by the bits of its segments.
-fn digit(plane: &mut [i16], left: usize, bits: u8, value: i16)
+// Draws a digit from the column `left` on.
+fn digit(plane: &mut [i16], left: usize, segments: &[Segment], value: i16)
     requires { (left ≤ 52) × (length plane.old ≡ 4096) }
 {
-    let mut number: u8 = 0;
-    while number < 7 {
-        segment_if(plane, left, number, bits, value);
-        number += 1;
+    for segment in segments {
+        fill_segment(plane, left, *segment, value);
     }
 }
 
@@ -73,9 +79,9 @@ fn digit(plane: &mut [i16], left: usize, bits: u8, value: i16)
 pub fn plane(ground: i16, stroke: i16) -> [i16; bands::COEFFICIENTS_PER_COMPONENT] {
     let mut p = [ground; bands::COEFFICIENTS_PER_COMPONENT];
     rectangle(&mut p, MINUS_LEFT, MINUS_TOP, 10, 4, stroke);
-    digit(&mut p, 15, 0b0111111, stroke);
+    digit(&mut p, 15, &ZERO, stroke);
     rectangle(&mut p, 29, TOP + 24, 4, 4, stroke);
-    digit(&mut p, 35, 0b0000111, stroke);
-    digit(&mut p, 49, 0b1101101, stroke);
+    digit(&mut p, 35, &SEVEN, stroke);
+    digit(&mut p, 49, &FIVE, stroke);
     p
 }

@@ -47,10 +47,8 @@ fn low_past(x: i16, y: i16) -> i16
 fn highs(line: &[i16], low: usize, high: usize, out: &mut [i16])
     requires { ForwardHalves low high × (length line.now ≡ 64) × (length out.old ≡ 64) }
 {
-    let mut j: usize = 0;
-    while j < high {
+    for j in 0..high {
         out[low + j] = high_sample(line[2 * j], line[2 * j + 1], line[2 * j + 2]);
-        j += 1;
     }
 }
 
@@ -59,10 +57,8 @@ fn lows(line: &[i16], low: usize, high: usize, out: &mut [i16])
     requires { ForwardHalves low high × (length line.now ≡ 64) × (length out.old ≡ 64) }
 {
     out[0] = low_edge(line[0], out[low]);
-    let mut j: usize = 1;
-    while j < high {
+    for j in 1..high {
         out[j] = low_between(line[2 * j], out[low + j - 1], out[low + j]);
-        j += 1;
     }
 }
 
@@ -88,66 +84,32 @@ fn split(line: &[i16], low: usize, high: usize, out: &mut [i16])
     low_end(line, low, high, out);
 }
 
-// ---- lines of a plane
+// ---- lines of a plane: from a place on, their places `step` apart
 
-fn take_row(plane: &[i16], row: usize, count: usize, line: &mut [i16])
-    requires { (row < 64) × (count ≤ 64) × (length plane.now ≡ 4096) × (length line.old ≡ 64) }
+fn take_line(plane: &[i16], from: usize, step: usize, line: &mut [i16])
+    requires { (0 < step) × (from ≤ length plane.now) }
 {
-    let mut i: usize = 0;
-    while i < count {
-        line[i] = plane[64 * row + i];
-        i += 1;
+    for (value, place) in line.iter_mut().zip(plane[from..].iter().step_by(step)) {
+        *value = *place;
     }
 }
 
-fn put_row(line: &[i16], row: usize, count: usize, plane: &mut [i16])
-    requires { (row < 64) × (count ≤ 64) × (length plane.old ≡ 4096) × (length line.now ≡ 64) }
+fn put_line(line: &[i16], plane: &mut [i16], from: usize, step: usize)
+    requires { (0 < step) × (from ≤ length plane.old) }
 {
-    let mut i: usize = 0;
-    while i < count {
-        plane[64 * row + i] = line[i];
-        i += 1;
+    for (value, place) in line.iter().zip(plane[from..].iter_mut().step_by(step)) {
+        *place = *value;
     }
 }
 
-fn take_column(plane: &[i16], column: usize, count: usize, line: &mut [i16])
-    requires { (column < 64) × (count ≤ 64) × (length plane.now ≡ 4096) × (length line.old ≡ 64) }
-{
-    let mut i: usize = 0;
-    while i < count {
-        line[i] = plane[64 * i + column];
-        i += 1;
-    }
-}
-
-fn put_column(line: &[i16], column: usize, count: usize, plane: &mut [i16])
-    requires { (column < 64) × (count ≤ 64) × (length plane.old ≡ 4096) × (length line.now ≡ 64) }
-{
-    let mut i: usize = 0;
-    while i < count {
-        plane[64 * i + column] = line[i];
-        i += 1;
-    }
-}
-
-fn split_row(plane: &mut [i16], row: usize, low: usize, high: usize)
-    requires { (row < 64) × ForwardHalves low high × (length plane.old ≡ 4096) }
+fn split_line(plane: &mut [i16], from: usize, step: usize, low: usize, high: usize)
+    requires { (0 < step) × (from ≤ length plane.old) × ForwardHalves low high }
 {
     let mut line = [0i16; 64];
     let mut out = [0i16; 64];
-    take_row(plane, row, low + high, &mut line);
+    take_line(plane, from, step, &mut line[..low + high]);
     split(&line, low, high, &mut out);
-    put_row(&out, row, low + high, plane);
-}
-
-fn split_column(plane: &mut [i16], column: usize, low: usize, high: usize)
-    requires { (column < 64) × ForwardHalves low high × (length plane.old ≡ 4096) }
-{
-    let mut line = [0i16; 64];
-    let mut out = [0i16; 64];
-    take_column(plane, column, low + high, &mut line);
-    split(&line, low, high, &mut out);
-    put_column(&out, column, low + high, plane);
+    put_line(&out[..low + high], plane, from, step);
 }
 
 // ---- a level, and all three
@@ -155,31 +117,16 @@ fn split_column(plane: &mut [i16], column: usize, low: usize, high: usize)
 fn split_columns(plane: &mut [i16], low: usize, high: usize)
     requires { ForwardHalves low high × (length plane.old ≡ 4096) }
 {
-    let mut column: usize = 0;
-    while column < low + high {
-        split_column(plane, column, low, high);
-        column += 1;
+    for column in 0..low + high {
+        split_line(plane, column, 64, low, high);
     }
 }
 
 fn split_rows(plane: &mut [i16], low: usize, high: usize)
     requires { ForwardHalves low high × (length plane.old ≡ 4096) }
 {
-    let mut row: usize = 0;
-    while row < low + high {
-        split_row(plane, row, low, high);
-        row += 1;
-    }
-}
-
-// Copies places of a plane.
-fn copy(plane: &[i16], from: usize, count: usize, out: &mut [i16], at: usize)
-    requires { (from + count ≤ length plane.now) × (at + count ≤ length out.old) }
-{
-    let mut i: usize = 0;
-    while i < count {
-        out[at + i] = plane[from + i];
-        i += 1;
+    for row in 0..low + high {
+        split_line(plane, 64 * row, 1, low, high);
     }
 }
 
@@ -195,12 +142,10 @@ fn gather(
 )
     requires { (left + width ≤ 64) × (top + height ≤ 64) × (at + height * width ≤ 4096) × (length plane.now ≡ 4096) × (length out.old ≡ 4096) }
 {
-    let mut row: usize = 0;
-    let mut to = at;
-    while row < height {
-        copy(plane, 64 * (top + row) + left, width, out, to);
-        to += width;
-        row += 1;
+    for row in 0..height {
+        let from = 64 * (top + row) + left;
+        let to = at + row * width;
+        out[to..to + width].copy_from_slice(&plane[from..from + width]);
     }
 }
 

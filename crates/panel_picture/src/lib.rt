@@ -16,5 +16,5 @@ pub fn panel(into: &mut [i16])
     let y = forward::coefficients(drawing::plane(90, -90));
     let cb = forward::coefficients(drawing::plane(-10, 4));
     let cr = forward::coefficients(drawing::plane(6, -2));
-    planes::load_coefficients(&y, &cb, &cr, into);
+    planes::load(&y, &cb, &cr, into);
 }

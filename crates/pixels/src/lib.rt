@@ -14,7 +14,7 @@ fn component_samples(coefficients: &mut [i16], quant: [u8; 10], temp: &mut [i16]
     ensures { coefficients.new ≡ samples quant coefficients.old }
 {
     dequantizer::dequantize_bands(coefficients, quant, true);
-    dwt_extrapolate::decode(coefficients, temp);
+    dwt_extrapolate::decode_blocks(coefficients, temp);
 }
 
 // Those of one of three components, by its number.
@@ -33,9 +33,9 @@ fn all_samples(quants: [u8; 30], coefficients: &mut [i16], temp: &mut [i16])
     requires { (length coefficients.old ≡ 12288) × (length temp.old ≡ 4096) }
     ensures { coefficients.new ≡ joined (samples_of quants coefficients.old) }
 {
-    samples_at(0, quants, coefficients, temp);
-    samples_at(1, quants, coefficients, temp);
-    samples_at(2, quants, coefficients, temp);
+    for k in 0..3 {
+        samples_at(k, quants, coefficients, temp);
+    }
 }
 
 // The pixels of three components of samples.
@@ -75,21 +75,18 @@ pub fn reconstruct_to_rgba(
     quants: [u8; 30],
     use_reduce_extrapolate: bool,
     pixels: &mut [u8],
-) -> answer::Answer
+) -> Result<(), answer::Refusal>
     ensures { WritesPixels coefficients positions quants use_reduce_extrapolate pixels.old result pixels.new }
 {
     if pixels.len() < bands::PIXEL_BYTES {
-        return answer::Answer::Refused(answer::SLICE_TOO_SHORT);
+        return Err(answer::Refusal::SliceTooShort);
     }
-    if !bands::positions_in_domain(&positions) {
-        return answer::Answer::Refused(answer::OUT_OF_DOMAIN);
-    }
-    if !bands::positions_in_domain(&quants) {
-        return answer::Answer::Refused(answer::OUT_OF_DOMAIN);
+    if !bands::positions_in_domain(&positions) || !bands::positions_in_domain(&quants) {
+        return Err(answer::Refusal::OutOfDomain);
     }
     if !use_reduce_extrapolate {
-        return answer::Answer::Refused(answer::STANDARD_LAYOUT);
+        return Err(answer::Refusal::StandardLayout);
     }
     write_pixels(coefficients, quants, pixels);
-    answer::Answer::Accepted
+    Ok(())
 }

@@ -81,28 +81,14 @@ pub fn place_rows() -> [u8; 2304]
     ROWS
 }
 
-fn wide(x: u8) -> u16
-    ensures { (result ≡ x) × (result < 256) }
-{
-    x as u16
-}
-
-fn count_of(x: u8) -> usize
-    ensures { result ≡ x }
-{
-    x as usize
-}
-
 // Stores the first eight numbers of row m, `base` added to each, behind the first `n` of `list`. Eight whatever m is: no branch depends on it.
 fn store_row(rows: &[u8; 2304], m: usize, base: u16, list: &mut [u16], n: usize)
     requires { (m < 256) × (base ≤ 1024) × (n + 8 ≤ length list.old) × (2304 ≤ length rows.now) }
     ensures { list.new ≡ paste list.old n (map (λ p. base + p) (drop (9 * m) rows.now)) 8 }
 {
     let from = 9 * m;
-    let mut k: usize = 0;
-    while k < 8 {
-        list[n + k] = base + wide(rows[from + k]);
-        k += 1;
+    for k in 0..8 {
+        list[n + k] = base + u16::from(rows[from + k]);
     }
 }
 
@@ -113,5 +99,5 @@ pub fn put_ones(rows: &[u8; 2304], m: usize, base: u16, list: &mut [u16], n: usi
     ensures { Listed m base n result list.old list.new }
 {
     store_row(rows, m, base, list, n);
-    n + count_of(rows[9 * m + 8])
+    n + usize::from(rows[9 * m + 8])
 }

@@ -1,46 +1,27 @@
--- Lists copied: the first elements of one into another by a loop, and three of them one after another. For every type of element.
-use mathlib.Core.Path.{◌≡◌, refl, sym, ap, ap₂, ◌∙◌}
-use mathlib.Core.List.{List, ◌++◌, append-nil}
-use Prim.Native.Nat.{ℕ, zero, suc, ◌+◌, ◌<◌, ◌≤◌}
-use native.Mathlib.Numerals.{add-one}
+-- The first elements of three lists copied into a fourth, one after another. For every type of element.
+use mathlib.Core.Path.{◌≡◌, ap, ◌∙◌}
+use mathlib.Core.List.{List}
+use Prim.Native.Nat.{zero, suc, ◌≤◌}
 use native.Mathlib.Omega.{arith}
-use borrow.Rule.Slice.PartMut.{put_mid}
-use lib.ListN.{length, get_or, set, take, drop, length-set, drop_of_length-le}
-use lib.Seq.{set_at, drop-cons, take-suc, append_snoc, length-take-le}
+use borrow.Rule.Slice.PartMut.{put_mid, same_len_mid}
+use lib.ListN.{length, take, drop, length-drop}
+use lib.Seq.{length-take-le}
+use Rattle.std.proofs.lemmas.Slice.{drop-put_mid}
 use Rattle.planes.specs.Planes.{three, of, taken}
 use Rattle.planes.proofs.Joined.{Long, put_all}
 
--- ════ by a loop ════
-
--- the first i of a list are in their places, and the other places are as they were
-abbrev copied : {A : Type 0} → List A → List A → ℕ → List A
-copied from into i = take i from ++ drop i into
-
--- i elements of n are copied
-abbrev pub Copying : {A : Type 0} → ℕ → List A → List A → List A → ℕ → Type 0
-Copying n from into₀ into i = (i ≤ n) × (length into ≡ n) × (into ≡ copied from into₀ i)
-
-module _ {A : Type 0} (n : ℕ) (from into₀ : List A) (enough : n ≤ length from) (room : length into₀ ≡ n) where
-  pub copy_starts : Copying n from into₀ into₀ 0
-  copy_starts = (omega arith, room, refl)
-
-  -- x is the element of place i
-  pub copy_next : (into : List A) (i : ℕ) (x d : A) → Copying n from into₀ into i → i < n → x ≡ get_or from i d → Copying n from into₀ (set into i x) (i + 1)
-  copy_next into i x d c h e = (
-    omega arith,
-    length-set into i x ∙ c.1,
-    ap₂ (λ (l : List A) (y : A). set l i y) c.2 e ∙ ap (λ (l : List A). set (take i from ++ l) i (get_or from i d)) (drop-cons into₀ i d (omega arith))
-        ∙ set_at (take i from) (get_or into₀ i d) (drop (suc i) into₀) (get_or from i d) i (length-take-le i from (omega arith))
-        ∙ sym (append_snoc (take i from) (get_or from i d) (drop (suc i) into₀)) ∙ ap (λ (l : List A). l ++ drop (suc i) into₀) (sym (take-suc from i d (omega arith)))
-        ∙ sym (ap (copied from into₀) (add-one i)),
-  )
-
-  pub copy_ends : (into : List A) (i : ℕ) → Copying n from into₀ into i → n ≤ i → into ≡ take n from
-  copy_ends into i c h =
-      let all : i ≡ n = omega (arith, c.0) in
-      c.2 ∙ ap (copied from into₀) all ∙ ap (λ (l : List A). take n from ++ l) (drop_of_length-le into₀ {i = n} (omega arith)) ∙ append-nil (take n from)
-
--- ════ three of them ════
+-- where the first two have kept their lengths there is room for the third
+pub third_room : {A : Type 0} (l a b : List A) → length l ≡ 12288 → length a ≡ length (take 4096 l) → length b ≡ length (take 4096 (drop 4096 (put_mid 0 4096 l a)))
+    → length (take 4096 (drop 8192 (put_mid 4096 4096 (put_mid 0 4096 l a) b))) ≡ 4096
+third_room {A} l a b h p q =
+    let front = put_mid 0 4096 l a in
+    let whole : length front ≡ length l = same_len_mid 0 4096 l a p in
+    let first : length a ≡ 4096 = p ∙ length-take-le 4096 l (omega arith) in
+    let second : length b ≡ 4096 = q ∙ length-take-le 4096 (drop 4096 front) (omega (arith, whole, length-drop 4096 front)) in
+    let behind : drop 8192 (put_mid 4096 4096 front b) ≡ drop 8192 l =
+    drop-put_mid 4096 4096 front b 8192 (omega arith) (omega (arith, whole)) second
+    ∙ drop-put_mid 0 4096 l a 8192 (omega arith) (omega arith) first in
+    ap (λ (x : List A). length (take 4096 x)) behind ∙ length-take-le 4096 (drop 8192 l) (omega (arith, length-drop 8192 l))
 
 module _ {A : Type 0} (y cb cr into : List A) (room : length into ≡ 12288) (enoughY : 4096 ≤ length y) (enoughCb : 4096 ≤ length cb) (enoughCr : 4096 ≤ length cr) where
   -- each of the three is long enough

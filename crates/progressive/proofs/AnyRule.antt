@@ -20,8 +20,11 @@ use Rattle.srl_decoder.specs.Srl.{start, values, reader_after}
 use Rattle.srl.specs.Laws.{Legal, legal}
 use Rattle.srl.proofs.Trip.{ReadBack, stream_back}
 use Rattle.upgrade_steps.specs.Steps.{Step, Source, skipped, srl, raw, source, steps, step_of, srl_width, srl_widths, raw_width, raw_widths}
-use Rattle.answer.specs.Refusals.{slice_too_short, out_of_domain, magnitude_out_of_range, unless, first_of, long_enough, unless_refused}
-use Rattle.answer.proofs.Numbers.{first_none}
+use Rattle.std.specs.Prelude.{Option, None, Some}
+use Rattle.answer.specs.declared.Refusal.{Refusal}
+use Rattle.answer.specs.declared.Refusal.TheVariants.{SliceTooShort, OutOfDomain, MagnitudeOutOfRange}
+use Rattle.answer.specs.Answers.{unless, first_of, long_enough, unless_refused}
+use Rattle.answer.proofs.Refusing.{some_not_none, first_none}
 use Rattle.progressive_decoder.specs.Upgrade.{srl_coefficient, srl_sign, adds, raw_coefficient, sign_then, signs_after, coefficient_then, coefficients_after, srl_values, raw_numbers, upgraded_signs, upgraded_coefficients, decode_pass_refusal, decode_coefficients, decode_signs}
 use Rattle.progressive_encoder.specs.Encode.{Rule, srl_given, srl_differences, raw_given, raw_differences, srl_stream, srl_bytes, raw_bytes, any_too_large, values_fault, pass_fault, no_room_for, encode_pass_refusal}
 use Rattle.progressive_encoder.proofs.Placewise.{same_length}
@@ -29,15 +32,15 @@ use Rattle.progressive.specs.Laws.{Small, small, Sent}
 
 -- ════ the values and numbers that were written are read back ════
 
-all_legal : (ws : List ℕ) (vs : List ℤ) → length vs ≡ length ws → values_fault ws vs ≡ 0 → Legal ws vs
+all_legal : (ws : List ℕ) (vs : List ℤ) → length vs ≡ length ws → values_fault ws vs ≡ None → Legal ws vs
 unfolding any_too_large
 all_legal [] [] l e = Legal.none
 all_legal [] (v ∷ vs) l e = absurd (omega (arith, l))
 all_legal (w ∷ ws) [] l e = absurd (omega (arith, l))
 all_legal (w ∷ ws) (v ∷ vs) l e = by (ltb (2 ^ w - 1) (nat_abs v)) refl e (all_legal ws vs (omega (arith, l)))
   where
-    by : (b : Bool) → ltb (2 ^ w - 1) (nat_abs v) ≡ b → cond (b || any_too_large ws vs) magnitude_out_of_range 0 ≡ 0 → (values_fault ws vs ≡ 0 → Legal ws vs) → Legal (w ∷ ws) (v ∷ vs)
-    by true q e ih = absurd (omega (arith, e))
+    by : (b : Bool) → ltb (2 ^ w - 1) (nat_abs v) ≡ b → cond (b || any_too_large ws vs) (Some MagnitudeOutOfRange) None ≡ None → (values_fault ws vs ≡ None → Legal ws vs) → Legal (w ∷ ws) (v ∷ vs)
+    by true q e ih = absurd (some_not_none e)
     by false q e ih = legal {w = w} {v = v} (omega (arith, ltb-false (2 ^ w - 1) (nat_abs v) q, pow_pos w)) (ih e)
 
 -- the SRL stream of values that fit their widths is read back as these values, and no bit past its end is read
@@ -57,7 +60,7 @@ read_numbers_lem (small {w = w} {m = m} {ws = ws} {ms = ms} l ls) s n h =
     (read_numbers_lem ls s (n + w) (subst (λ (k : ℕ). Holds s (n + k) (bits_of_all ws ms)) (length_bits_of w m) r.1))
 
 -- the SRL values of an accepted pass
-pub pass_values : (r : Rule) (ts : List Step) (cs ps ss : List ℤ) → length ts ≤ length cs → length ts ≤ length ps → length ts ≤ length ss → pass_fault r ts cs ps ss ≡ 0
+pub pass_values : (r : Rule) (ts : List Step) (cs ps ss : List ℤ) → length ts ≤ length cs → length ts ≤ length ps → length ts ≤ length ss → pass_fault r ts cs ps ss ≡ None
     → ReadBack (srl_bytes r ts cs ps ss) (srl_widths ts ss) start (srl_differences r ts cs ps ss) (8 * length (srl_bytes r ts cs ps ss))
 pass_values r ts cs ps ss h j k e =
     read_values_lem (srl_widths ts ss) (srl_differences r ts cs ps ss) (all_legal (srl_widths ts ss) (srl_differences r ts cs ps ss) (sym (same_length r ts cs ps ss h j k)) e)
@@ -133,7 +136,7 @@ all_sent f =
       coefficients_long = g.coefficients_long;
       previous_long = g.previous_long;
       signs_long = g.signs_long;
-      srl_fits = ap (λ (b : Bool). cond b magnitude_out_of_range 0) (none_large g.legals);
+      srl_fits = ap (λ (b : Bool). cond b (Some MagnitudeOutOfRange) None) (none_large g.legals);
       raw_fits = g.smalls;
     }
 
@@ -200,23 +203,23 @@ pub record Taken (r : Rule) (cs ps ss : List ℤ) (prev curr : List ℕ) (e : Bo
   pub previous_long : long_enough ps ≡ true
   pub signs_long : long_enough ss ≡ true
   pub rows : (row_in_domain prev && row_in_domain curr) ≡ true
-  pub no_fault : pass_fault r (steps e prev curr) cs ps ss ≡ 0
+  pub no_fault : pass_fault r (steps e prev curr) cs ps ss ≡ None
 
 -- an accepted call passed every test
-pub taken : (r : Rule) (cs ps ss : List ℤ) (prev curr : List ℕ) (e : Bool) (srlOut rawOut : List ℕ) → encode_pass_refusal r cs ps prev curr ss e srlOut rawOut ≡ 0 → Taken r cs ps ss prev curr e
+pub taken : (r : Rule) (cs ps ss : List ℤ) (prev curr : List ℕ) (e : Bool) (srlOut rawOut : List ℕ) → encode_pass_refusal r cs ps prev curr ss e srlOut rawOut ≡ None → Taken r cs ps ss prev curr e
 taken r cs ps ss prev curr e srlOut rawOut = by (long_enough cs && (long_enough ps && long_enough ss)) refl (row_in_domain prev && row_in_domain curr) refl
   where
-    rest : ℕ
+    rest : Option Refusal
     rest = no_room_for (srl_bytes r (steps e prev curr) cs ps ss) srlOut (raw_bytes r (steps e prev curr) cs ps ss) rawOut
 
     by : (a : Bool) → (long_enough cs && (long_enough ps && long_enough ss)) ≡ a → (b : Bool) → (row_in_domain prev && row_in_domain curr) ≡ b
-        → first_of (unless a slice_too_short) (first_of (unless b out_of_domain) (first_of (pass_fault r (steps e prev curr) cs ps ss) rest)) ≡ 0 → Taken r cs ps ss prev curr e
+        → first_of (unless a SliceTooShort) (first_of (unless b OutOfDomain) (first_of (pass_fault r (steps e prev curr) cs ps ss) rest)) ≡ None → Taken r cs ps ss prev curr e
     by true la true lb k =
         let one = both_true (long_enough cs) (long_enough ps && long_enough ss) la in
         let two = both_true (long_enough ps) (long_enough ss) one.1 in
         record { coefficients_long = one.0; previous_long = two.0; signs_long = two.1; rows = lb; no_fault = (first_none (pass_fault r (steps e prev curr) cs ps ss) rest k).0 }
-    by true la false lb k = absurd (omega (arith, k))
-    by false la b lb k = absurd (omega (arith, k))
+    by true la false lb k = absurd (some_not_none k)
+    by false la b lb k = absurd (some_not_none k)
 
 -- a slice that is long enough has an element for each place
 pub long : {A : Type 0} (e : Bool) (prev curr : List ℕ) (l : List A) → long_enough l ≡ true → length (steps e prev curr) ≤ length l
@@ -224,12 +227,12 @@ long e prev curr l h = omega (arith, leb-true 4096 (length l) h, place_whole e (
 
 -- the writer is refused for want of room only, where slices and rows are as they must be and every value fits
 pub room_decides : (r : Rule) (cs ps ss : List ℤ) (prev curr : List ℕ) (e : Bool) (srlOut rawOut : List ℕ)
-    → long_enough cs ≡ true → long_enough ps ≡ true → long_enough ss ≡ true → (row_in_domain prev && row_in_domain curr) ≡ true → pass_fault r (steps e prev curr) cs ps ss ≡ 0
+    → long_enough cs ≡ true → long_enough ps ≡ true → long_enough ss ≡ true → (row_in_domain prev && row_in_domain curr) ≡ true → pass_fault r (steps e prev curr) cs ps ss ≡ None
     → encode_pass_refusal r cs ps prev curr ss e srlOut rawOut ≡ no_room_for (srl_bytes r (steps e prev curr) cs ps ss) srlOut (raw_bytes r (steps e prev curr) cs ps ss) rawOut
 room_decides r cs ps ss prev curr e srlOut rawOut h j k l n =
     let ts = steps e prev curr in
     let room = no_room_for (srl_bytes r ts cs ps ss) srlOut (raw_bytes r ts cs ps ss) rawOut in
-    simp (h, j, k, l) (ap (λ (f : ℕ). first_of f room) n)
+    simp (h, j, k, l) (ap (λ (f : Option Refusal). first_of f room) n)
 
 -- and then the reader comes to the same
 pub calls_come : {r : Rule} {cs ps ss ps' ss' : List ℤ} (prev curr : List ℕ) (e : Bool)
@@ -239,7 +242,7 @@ pub calls_come : {r : Rule} {cs ps ss ps' ss' : List ℤ} (prev curr : List ℕ)
     × (decode_signs (srl_bytes r (steps e prev curr) cs ps ss) prev curr e ps ss ≡ ss')
 calls_come {r} {cs} {ps} {ss} prev curr e j k l h g =
     let b = come_back h g in
-    let none : decode_pass_refusal prev curr ps ss ≡ 0 = simp (j, k, l) in
+    let none : decode_pass_refusal prev curr ps ss ≡ None = simp (j, k, l) in
     let coefficients = upgraded_coefficients (steps e prev curr) (srl_bytes r (steps e prev curr) cs ps ss) (raw_bytes r (steps e prev curr) cs ps ss) ps ss in
     let signs = upgraded_signs (steps e prev curr) (srl_bytes r (steps e prev curr) cs ps ss) ss in
-    (ap (λ (n : ℕ). unless_refused n coefficients ps) none ∙ b.0, ap (λ (n : ℕ). unless_refused n signs ss) none ∙ b.1)
+    (ap (λ (n : Option Refusal). unless_refused n coefficients ps) none ∙ b.0, ap (λ (n : Option Refusal). unless_refused n signs ss) none ∙ b.1)

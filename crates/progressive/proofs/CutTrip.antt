@@ -20,7 +20,7 @@ use Rattle.bands.specs.Bands.{position_of, bands_of}
 use Rattle.bands.specs.Positions.{row_in_domain}
 use Rattle.bands.proofs.Every.{both_pass, row_low}
 use Rattle.bands.proofs.Spread.{place_map, place_whole, bands_whole}
-use Rattle.answer.specs.Refusals.{long_enough}
+use Rattle.answer.specs.Answers.{long_enough}
 use Rattle.upgrade_steps.specs.Steps.{Step, Source, srl, raw, source, source_of, steps, step_of}
 use Rattle.upgrade_steps.specs.Cut.{cut_at, cut_sign_at, cut_all, cut_signs_all, cut_component, cut_component_signs}
 use Rattle.upgrade_steps.proofs.CutLists.{cut_length, cut_signs_length, cut_mapped, cut_signs_mapped}

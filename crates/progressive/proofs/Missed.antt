@@ -2,7 +2,7 @@
 use mathlib.Core.Path.{◌≡◌, refl, ap, ap₂}
 use mathlib.Core.Bool.{Bool, ◌&&◌}
 use mathlib.Core.List.{List, [], ◌∷◌, ◌++◌}
-use Prim.Native.Nat.{ℕ, zero, suc, ◌+◌, ◌-◌, ◌*◌, ◌≤◌}
+use Prim.Native.Nat.{ℕ, ◌+◌, ◌-◌, ◌*◌, ◌≤◌}
 use native.Mathlib.Omega.{arith}
 use lib.IntN.{ℤ}
 use lib.ListN.{length, replicate, length-append}
@@ -17,8 +17,11 @@ use Rattle.srl_decoder.specs.Srl.{Reader, start}
 use Rattle.srl_decoder.proofs.Missing.{values_ended}
 use Rattle.srl_decoder.proofs.Longer.{values_same}
 use Rattle.upgrade_steps.specs.Steps.{Step, Source, skipped, srl, raw, source, steps, srl_widths, raw_width, raw_widths}
-use Rattle.answer.specs.Refusals.{slice_too_short, out_of_domain, unless, long_enough, unless_refused}
-use Rattle.answer.proofs.Numbers.{first_none, unless_none}
+use Rattle.std.specs.Prelude.{Option, None, Some}
+use Rattle.answer.specs.declared.Refusal.{Refusal}
+use Rattle.answer.specs.declared.Refusal.TheVariants.{SliceTooShort, OutOfDomain}
+use Rattle.answer.specs.Answers.{unless, long_enough, answered, unless_refused, given_or}
+use Rattle.answer.proofs.Refusing.{first_none, unless_none}
 use Rattle.progressive_decoder.specs.Upgrade.{srl_missing, raw_missing, missing_bits, pass_missing, signs_after, coefficients_after, upgraded_signs, upgraded_coefficients, decode_pass_refusal, decode_missing}
 use Rattle.progressive_decoder.specs.Inner.{count_after}
 use Rattle.progressive_decoder.specs.declared.MissingBits.{MissingBits}
@@ -66,7 +69,7 @@ raw_written_lem r (t ∷ ts) (c ∷ cs) (p ∷ ps) (s ∷ ss) h j k = by (source
 
 module _ (r : Rule) (ts : List Step) (cs ps ss : List ℤ) (h : length ts ≤ length cs) (j : length ts ≤ length ps) (k : length ts ≤ length ss) where
   -- the SRL reader ends in the stream
-  srl_whole : pass_fault r ts cs ps ss ≡ 0 → srl_missing ts (srl_bytes r ts cs ps ss) ss ≡ 0
+  srl_whole : pass_fault r ts cs ps ss ≡ None → srl_missing ts (srl_bytes r ts cs ps ss) ss ≡ 0
   srl_whole e = omega (arith, srl_missing_lem ts (srl_bytes r ts cs ps ss) ss, (pass_values r ts cs ps ss h j k e).ends)
 
   -- the raw bits read are those written; no number need fit its width, since its low bits are always written
@@ -85,12 +88,13 @@ most srl_data raw_data prev curr e cs ss = by (decode_pass_refusal prev curr cs 
     all : MissingBits
     all = pass_missing (steps e prev curr) srl_data raw_data ss
 
-    by : (k : ℕ) → decode_pass_refusal prev curr cs ss ≡ k → ((unless_refused k all (missing_bits 0 0)).srl ≤ 32790) × ((unless_refused k all (missing_bits 0 0)).raw ≤ 61440)
-    by zero n =
-        let r = (first_none (unless (long_enough cs && long_enough ss) slice_too_short) (unless (row_in_domain prev && row_in_domain curr) out_of_domain) n).1 in
-        let p = (both_true (row_in_domain prev) (row_in_domain curr) (unless_none (row_in_domain prev && row_in_domain curr) 1 r)).0 in
+    by : (r : Option Refusal) → decode_pass_refusal prev curr cs ss ≡ r
+        → ((given_or (missing_bits 0 0) (answered r all)).srl ≤ 32790) × ((given_or (missing_bits 0 0) (answered r all)).raw ≤ 61440)
+    by None n =
+        let r = (first_none (unless (long_enough cs && long_enough ss) SliceTooShort) (unless (row_in_domain prev && row_in_domain curr) OutOfDomain) n).1 in
+        let p = (both_true (row_in_domain prev) (row_in_domain curr) (unless_none (row_in_domain prev && row_in_domain curr) OutOfDomain r)).0 in
         (srl_most e prev curr srl_data ss p, raw_most e prev curr raw_data ss p)
-    by (suc k) n = (omega arith, omega arith)
+    by (Some refusal) n = (omega arith, omega arith)
 
 -- ════ longer streams ════
 
@@ -123,7 +127,7 @@ missing = record {
       let j = long e prev curr ps t.previous_long in
       let k = long e prev curr ss t.signs_long in
       simp (t.previous_long, t.signs_long, t.rows) (ap₂ missing_bits (srl_whole r ts cs ps ss h j k t.no_fault) (raw_whole r ts cs ps ss h j k));
-  call = λ srl_data raw_data prev curr e cs ss n. ap (λ (r : ℕ). unless_refused r (pass_missing (steps e prev curr) srl_data raw_data ss) (missing_bits 0 0)) n;
+  call = λ srl_data raw_data prev curr e cs ss n. ap (λ (r : Option Refusal). given_or (missing_bits 0 0) (answered r (pass_missing (steps e prev curr) srl_data raw_data ss))) n;
   srl_ended = λ ts srl_data ss. values_ended srl_data (srl_widths ts ss) start;
   raw_ended = λ ts raw_data ss.
       let n : ℕ = raw_bits ts ss in

@@ -16,7 +16,11 @@ use Rattle.fixed.proofs.Cuts.{cut_steps, steps_rest, gain_small, abs_toward}
 use Rattle.fixed.proofs.Sign.{zero_is}
 use Rattle.bands.specs.Positions.{row_in_domain}
 use Rattle.upgrade_steps.specs.Steps.{Step, source, source_of, steps}
-use Rattle.answer.specs.Refusals.{slice_too_short, out_of_domain, magnitude_out_of_range, output_too_short, unless, first_of, long_enough}
+use Rattle.std.specs.Prelude.{Option, None, Some}
+use Rattle.answer.specs.declared.Refusal.{Refusal}
+use Rattle.answer.specs.declared.Refusal.TheVariants.{SliceTooShort, OutOfDomain, MagnitudeOutOfRange, OutputTooShort}
+use Rattle.answer.specs.Answers.{unless, first_of, long_enough, number}
+use Rattle.answer.proofs.Refusing.{some_not_none}
 use Rattle.progressive_encoder.specs.Encode.{floor_rule, srl_difference, raw_difference, srl_bytes, raw_bytes, pass_fault, encode_pass_refusal}
 use Rattle.progressive.specs.OwnCuts.{OwnCut, OwnCuts, OwnCutsSent}
 use Rattle.progressive.proofs.AnyRule.{Fitting, Fittings, fitting, all_sent}
@@ -91,18 +95,18 @@ all_fitting (OwnCuts.own {t = t} {c = c} {p = p} {s = s} o os) = fitting (place_
 -- ════ the law ════
 
 -- without a fault, what is refused is refused by 1, 2 or 7
-no_5 : (a b c d : Bool) (f : ℕ) → f ≡ 0
-    → first_of (unless a slice_too_short) (first_of (unless b out_of_domain) (first_of f (first_of (cond c output_too_short 0) (cond d output_too_short 0)))) ≢ magnitude_out_of_range
-no_5 a b c d (suc f) h e = absurd (omega (arith, h))
-no_5 false b c d zero h e = absurd (omega (arith, e))
-no_5 true false c d zero h e = absurd (omega (arith, e))
-no_5 true true true d zero h e = absurd (omega (arith, e))
-no_5 true true false true zero h e = absurd (omega (arith, e))
-no_5 true true false false zero h e = absurd (omega (arith, e))
+no_5 : (a b c d : Bool) (f : Option Refusal) → f ≡ None
+    → first_of (unless a SliceTooShort) (first_of (unless b OutOfDomain) (first_of f (first_of (cond c (Some OutputTooShort) None) (cond d (Some OutputTooShort) None)))) ≢ Some MagnitudeOutOfRange
+no_5 a b c d (Some r) h e = some_not_none h
+no_5 false b c d None h e = absurd (omega (arith, ap number e))
+no_5 true false c d None h e = absurd (omega (arith, ap number e))
+no_5 true true true d None h e = absurd (omega (arith, ap number e))
+no_5 true true false true None h e = absurd (omega (arith, ap number e))
+no_5 true true false false None h e = some_not_none (sym e)
 
 -- of a call
 calls_sent : (cs ps ss : List ℤ) (prev curr : List ℕ) (e : Bool) (srlOut rawOut : List ℕ)
-    → OwnCuts (steps e prev curr) cs ps ss → encode_pass_refusal floor_rule cs ps prev curr ss e srlOut rawOut ≢ magnitude_out_of_range
+    → OwnCuts (steps e prev curr) cs ps ss → encode_pass_refusal floor_rule cs ps prev curr ss e srlOut rawOut ≢ Some MagnitudeOutOfRange
 calls_sent cs ps ss prev curr e srlOut rawOut o =
     let ts = steps e prev curr in
     no_5 (long_enough cs && (long_enough ps && long_enough ss)) (row_in_domain prev && row_in_domain curr)

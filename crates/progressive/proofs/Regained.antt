@@ -15,6 +15,7 @@ use Rattle.fixed.proofs.Cuts.{cut_below, toward_pos, toward_neg}
 use Rattle.fixed.proofs.Sign.{with_minus, abs_minus}
 use Rattle.upgrade_steps.specs.Steps.{Step, Source, skipped, srl, raw, source, source_of, steps, raw_widths}
 use Rattle.progressive_decoder.specs.Upgrade.{srl_coefficient, srl_sign, adds, raw_coefficient, decode_coefficients, decode_signs}
+use Rattle.std.specs.Prelude.{None}
 use Rattle.progressive_encoder.specs.Encode.{floor_rule, srl_difference, raw_difference, raw_differences, srl_bytes, raw_bytes, encode_pass_refusal}
 use Rattle.progressive.specs.Laws.{Small, Sent, cut_by, cuts, cut_sign, cut_signs, Onward, Regained, Regains, regained, PassRoundTrip}
 use Rattle.progressive.proofs.AnyRule.{values_back, numbers_back, comes_to, sign_to, Comes, comes, come_back, taken, long, calls_come}
@@ -150,7 +151,7 @@ all_regained (regained {t = t} {c = c} {p = p} {s = s} r rs) =
 -- ════ the law ════
 
 calls_back : (cs ps ss : List ℤ) (prev curr : List ℕ) (e : Bool) (srlOut rawOut : List ℕ)
-    → encode_pass_refusal floor_rule cs ps prev curr ss e srlOut rawOut ≡ 0
+    → encode_pass_refusal floor_rule cs ps prev curr ss e srlOut rawOut ≡ None
     → Small (raw_widths (steps e prev curr) ss) (raw_differences floor_rule (steps e prev curr) cs ps ss)
     → Regains (steps e prev curr) cs ps ss
     → (decode_coefficients (srl_bytes floor_rule (steps e prev curr) cs ps ss) (raw_bytes floor_rule (steps e prev curr) cs ps ss) prev curr e ps ss ≡ cuts (steps e prev curr) cs ps ss)

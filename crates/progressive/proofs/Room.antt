@@ -1,5 +1,5 @@
 -- Room for both streams of a pass: how long each can be at most, and that a call with so much room is not refused by 7. Assumes nothing.
-use mathlib.Core.Path.{◌≡◌, refl}
+use mathlib.Core.Path.{◌≡◌, refl, ap}
 use mathlib.Core.Logic.{◌≢◌}
 use mathlib.Core.Bool.{Bool, true, false, cond, ◌&&◌, true≢false}
 use mathlib.Core.List.{List}
@@ -20,7 +20,9 @@ use Rattle.bits.specs.Written.{bits_of_all}
 use Rattle.bits.proofs.Packed.{length_pack}
 use Rattle.srl_encoder.specs.Finish.{stream_bits}
 use Rattle.upgrade_steps.specs.Steps.{step_of, steps, srl_widths, raw_widths}
-use Rattle.answer.specs.Refusals.{slice_too_short, out_of_domain, magnitude_out_of_range, output_too_short, unless, first_of, long_enough}
+use Rattle.std.specs.Prelude.{None, Some}
+use Rattle.answer.specs.declared.Refusal.TheVariants.{SliceTooShort, OutOfDomain, MagnitudeOutOfRange, OutputTooShort}
+use Rattle.answer.specs.Answers.{unless, first_of, long_enough, number}
 use Rattle.progressive_decoder.proofs.Missing.{slim_falls, few_values, raw_near}
 use Rattle.progressive_encoder.specs.Encode.{Rule, srl_differences, raw_differences, srl_bytes, raw_bytes, any_too_large, encode_pass_refusal}
 use Rattle.progressive.specs.Room.{FallsBy, srl_room_for, raw_room_for, RoomSuffices}
@@ -29,13 +31,13 @@ use Rattle.progressive.proofs.Missed.{count_sum}
 
 -- without a refusal by 1, 2 or 5 there is room
 no_7 : (a b f c d : Bool) → (b ≡ true → f ≡ false → c ≡ false) → (b ≡ true → d ≡ false)
-    → first_of (unless a slice_too_short) (first_of (unless b out_of_domain) (first_of (cond f magnitude_out_of_range 0) (first_of (cond c output_too_short 0) (cond d output_too_short 0)))) ≢ output_too_short
-no_7 false b f c d h k e = absurd (omega (arith, e))
-no_7 true false f c d h k e = absurd (omega (arith, e))
-no_7 true true true c d h k e = absurd (omega (arith, e))
+    → first_of (unless a SliceTooShort) (first_of (unless b OutOfDomain) (first_of (cond f (Some MagnitudeOutOfRange) None) (first_of (cond c (Some OutputTooShort) None) (cond d (Some OutputTooShort) None)))) ≢ Some OutputTooShort
+no_7 false b f c d h k e = absurd (omega (arith, ap number e))
+no_7 true false f c d h k e = absurd (omega (arith, ap number e))
+no_7 true true true c d h k e = absurd (omega (arith, ap number e))
 no_7 true true false true d h k e = absurd (true≢false (h refl refl))
 no_7 true true false false true h k e = absurd (true≢false (k refl))
-no_7 true true false false false h k e = absurd (omega (arith, e))
+no_7 true true false false false h k e = absurd (omega (arith, ap number e))
 
 module _ (w : ℕ) (r : Rule) (cs ps ss : List ℤ) (prev curr : List ℕ) (e : Bool) where
   -- the SRL stream of values that fit
@@ -59,7 +61,7 @@ module _ (w : ℕ) (r : Rule) (cs ps ss : List ℤ) (prev curr : List ℕ) (e : 
 
   -- a call, whose rows are looked at only where they are in the domain
   never_7 : (srlOut rawOut : List ℕ) → (row_in_domain prev ≡ true → FallsBy w prev curr) → srl_room_for w ≤ length srlOut → raw_room_for w ≤ length rawOut
-      → encode_pass_refusal r cs ps prev curr ss e srlOut rawOut ≢ output_too_short
+      → encode_pass_refusal r cs ps prev curr ss e srlOut rawOut ≢ Some OutputTooShort
   never_7 srlOut rawOut h j k =
       let ts = steps e prev curr in
       let x = srl_bytes r ts cs ps ss in

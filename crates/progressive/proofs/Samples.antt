@@ -3,6 +3,8 @@ use mathlib.Core.Path.{◌≡◌, refl}
 use mathlib.Core.Bool.{Bool, true, false, true≢false}
 use mathlib.Core.List.{List, [], ◌∷◌}
 use lib.IntN.{ℤ, pos, negsuc}
+use Rattle.std.specs.Prelude.{Some}
+use Rattle.answer.specs.declared.Refusal.TheVariants.{MagnitudeOutOfRange}
 use Rattle.bits.specs.Bits.{num, numbers, zeros}
 use Rattle.bits.specs.Written.{bits_of_all}
 use Rattle.fixed.specs.Fixed.{clamp_i16, add_scaled, sub_scaled, is_zero, is_one, sign_of, round_shift, shift_left_clamp}
@@ -51,7 +53,7 @@ writes : srl_differences floor_rule (from3to1 false ∷ []) (pos 7 ∷ []) (pos 
 unfolding srl_differences clamp_i16 is_zero
 writes = refl
 
-refuses : pass_fault floor_rule (from3to1 false ∷ []) (negsuc 6 ∷ []) (pos 0 ∷ []) (pos 0 ∷ []) ≡ 5
+refuses : pass_fault floor_rule (from3to1 false ∷ []) (negsuc 6 ∷ []) (pos 0 ∷ []) (pos 0 ∷ []) ≡ Some MagnitudeOutOfRange
 unfolding srl_widths srl_differences any_too_large clamp_i16 is_zero
 refuses = refl
 

@@ -1,6 +1,6 @@
 -- The round trip of a pass, as a statement: what the writer wrote is read back, and where that brings a component to the writer's target.
 -- It holds for every list of steps.
-use Rattle.std.specs.Prelude.{◌≡◌, Bool, not, List, [], ◌∷◌, ℕ, ◌^◌, ◌≤◌, ◌<◌, ℤ, pos, length}
+use Rattle.std.specs.Prelude.{◌≡◌, Bool, not, List, [], ◌∷◌, ℕ, ◌^◌, ◌≤◌, ◌<◌, ℤ, pos, length, None}
 use Rattle.std.specs.Int.Signed.{mag}
 use Rattle.fixed.specs.Fixed.{floor_shift, sign_of, with_sign}
 use Rattle.fixed.specs.Cut.{cut_level, toward_zero, downward}
@@ -20,7 +20,7 @@ pub record Sent (r : Rule) (ts : List Step) (cs ps ss : List ℤ) : Type 0 where
   pub coefficients_long : length ts ≤ length cs
   pub previous_long : length ts ≤ length ps
   pub signs_long : length ts ≤ length ss
-  pub srl_fits : pass_fault r ts cs ps ss ≡ 0
+  pub srl_fits : pass_fault r ts cs ps ss ≡ None
   pub raw_fits : Small (raw_widths ts ss) (raw_differences r ts cs ps ss)
 
 -- ════ the writer's target: the coefficient without the bits below the current position ════
@@ -91,7 +91,7 @@ pub record PassRoundTrip : Type 0 where
       → upgraded_signs ts (srl_bytes floor_rule ts cs ps ss) ss ≡ cut_signs ts cs ss
   -- the same of the two calls, one of which was accepted with some outputs
   pub calls : (cs ps ss : List ℤ) (prev curr : List ℕ) (e : Bool) (srlOut rawOut : List ℕ)
-      → encode_pass_refusal floor_rule cs ps prev curr ss e srlOut rawOut ≡ 0
+      → encode_pass_refusal floor_rule cs ps prev curr ss e srlOut rawOut ≡ None
       → Small (raw_widths (steps e prev curr) ss) (raw_differences floor_rule (steps e prev curr) cs ps ss)
       → Regains (steps e prev curr) cs ps ss
       → (decode_coefficients (srl_bytes floor_rule (steps e prev curr) cs ps ss) (raw_bytes floor_rule (steps e prev curr) cs ps ss) prev curr e ps ss ≡ cuts (steps e prev curr) cs ps ss)

@@ -1,6 +1,6 @@
 -- How much of the two streams of a pass was missing, as a statement: what both counts say, and what they can be.
 -- Where it speaks of steps, it holds for every list of them.
-use Rattle.std.specs.Prelude.{◌≡◌, Bool, List, [], ◌∷◌, ◌++◌, ℕ, ◌+◌, ◌-◌, ◌*◌, ◌≤◌, ℤ, length, replicate}
+use Rattle.std.specs.Prelude.{◌≡◌, Bool, List, [], ◌∷◌, ◌++◌, ℕ, ◌+◌, ◌-◌, ◌*◌, ◌≤◌, ℤ, length, replicate, None}
 use Rattle.bits.specs.Missing.{InStream}
 use Rattle.srl_decoder.specs.Srl.{start, reader_after}
 use Rattle.upgrade_steps.specs.Steps.{Step, steps, srl_widths, raw_widths}
@@ -25,10 +25,10 @@ raw_bits ts ss = sum (raw_widths ts ss)
 pub record PassMissingBits : Type 0 where
   -- a whole pass misses nothing: the streams that the writer made, read from the previous coefficients with the same signs and rows
   pub whole : (r : Rule) (cs ps ss : List ℤ) (prev curr : List ℕ) (e : Bool) (srlOut rawOut : List ℕ)
-      → encode_pass_refusal r cs ps prev curr ss e srlOut rawOut ≡ 0
+      → encode_pass_refusal r cs ps prev curr ss e srlOut rawOut ≡ None
       → decode_missing (srl_bytes r (steps e prev curr) cs ps ss) (raw_bytes r (steps e prev curr) cs ps ss) prev curr e ps ss ≡ missing_bits 0 0
   -- an accepted call has the counts of its pass
-  pub call : (srl_data raw_data prev curr : List ℕ) (e : Bool) (cs ss : List ℤ) → decode_pass_refusal prev curr cs ss ≡ 0
+  pub call : (srl_data raw_data prev curr : List ℕ) (e : Bool) (cs ss : List ℤ) → decode_pass_refusal prev curr cs ss ≡ None
       → decode_missing srl_data raw_data prev curr e cs ss ≡ pass_missing (steps e prev curr) srl_data raw_data ss
   -- a count says where the stream ended: it is 0 if and only if every bit that the pass read lies in the stream
   pub srl_ended : (ts : List Step) (srl_data : List ℕ) (ss : List ℤ)

@@ -1,9 +1,9 @@
 -- A pass by the source's rule that goes on from the coefficients' own cut at the previous positions, as a statement: every value fits its width.
 -- It holds for every list of steps.
-use Rattle.std.specs.Prelude.{◌≡◌, ◌≢◌, Bool, false, List, [], ◌∷◌, ℕ, ◌+◌, ℤ}
+use Rattle.std.specs.Prelude.{◌≡◌, ◌≢◌, Bool, false, List, [], ◌∷◌, ℕ, ◌+◌, ℤ, Some}
 use Rattle.fixed.specs.Fixed.{sign_of}
 use Rattle.fixed.specs.Cut.{toward_zero}
-use Rattle.answer.specs.Refusals.{magnitude_out_of_range}
+use Rattle.answer.specs.declared.Refusal.TheVariants.{MagnitudeOutOfRange}
 use Rattle.upgrade_steps.specs.Steps.{Step, steps}
 use Rattle.progressive_encoder.specs.Encode.{floor_rule, encode_pass_refusal}
 use Rattle.progressive.specs.Laws.{Sent}
@@ -28,4 +28,4 @@ pub record OwnCutsSent : Type 0 where
   pub sent : (ts : List Step) (cs ps ss : List ℤ) → OwnCuts ts cs ps ss → Sent floor_rule ts cs ps ss
   -- so the writer never refuses it by 5
   pub never_5 : (cs ps ss : List ℤ) (prev curr : List ℕ) (e : Bool) (srlOut rawOut : List ℕ)
-      → OwnCuts (steps e prev curr) cs ps ss → encode_pass_refusal floor_rule cs ps prev curr ss e srlOut rawOut ≢ magnitude_out_of_range
+      → OwnCuts (steps e prev curr) cs ps ss → encode_pass_refusal floor_rule cs ps prev curr ss e srlOut rawOut ≢ Some MagnitudeOutOfRange

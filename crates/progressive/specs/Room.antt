@@ -1,8 +1,8 @@
 -- Room for the two streams of a pass, as a statement (docs/SCOPE.md, "Upgrade pass"): bytes that a caller works out from the positions, with which
 -- neither writer refuses by 7.
-use Rattle.std.specs.Prelude.{◌≡◌, ◌≢◌, Bool, false, List, ℕ, ◌+◌, ◌*◌, ◌^◌, ◌≤◌, ℤ, pos, length, replicate}
+use Rattle.std.specs.Prelude.{◌≡◌, ◌≢◌, Bool, false, List, ℕ, ◌+◌, ◌*◌, ◌^◌, ◌≤◌, ℤ, pos, length, replicate, Some}
 use Rattle.bands.specs.Bands.{position_of}
-use Rattle.answer.specs.Refusals.{output_too_short}
+use Rattle.answer.specs.declared.Refusal.TheVariants.{OutputTooShort}
 use Rattle.upgrade_steps.specs.Steps.{Step, steps}
 use Rattle.progressive_encoder.specs.Encode.{Rule, floor_rule, srl_bytes, raw_bytes, encode_pass_refusal}
 
@@ -31,11 +31,11 @@ pub record RoomSuffices : Type 0 where
   -- a pass that lowers no position by more than w
   pub lowered : (w : ℕ) (r : Rule) (cs ps ss : List ℤ) (prev curr : List ℕ) (e : Bool) (srlOut rawOut : List ℕ)
       → FallsBy w prev curr → srl_room_for w ≤ length srlOut → raw_room_for w ≤ length rawOut
-      → encode_pass_refusal r cs ps prev curr ss e srlOut rawOut ≢ output_too_short
+      → encode_pass_refusal r cs ps prev curr ss e srlOut rawOut ≢ Some OutputTooShort
   -- any pass: a position above 15 is refused by 2
   pub any_pass : (r : Rule) (cs ps ss : List ℤ) (prev curr : List ℕ) (e : Bool) (srlOut rawOut : List ℕ)
       → srl_room_for 15 ≤ length srlOut → raw_room_for 15 ≤ length rawOut
-      → encode_pass_refusal r cs ps prev curr ss e srlOut rawOut ≢ output_too_short
+      → encode_pass_refusal r cs ps prev curr ss e srlOut rawOut ≢ Some OutputTooShort
   -- "for any pass that is 16,515,074 bytes and 7,680"
   pub srl_most : srl_room_for 15 ≡ 16515074
   pub raw_most : raw_room_for 15 ≡ 7680

@@ -1,15 +1,17 @@
 -- Known passes of one place, as a table: what the symmetric rule gives, with its streams, and beside it what the source's rule gives.
 -- `progressive::small_cases` proves it.
-use Rattle.std.specs.Prelude.{◌≡◌, Bool, true, false, List, [], ◌∷◌, ◌++◌, map, ℕ, ◌-◌, ℤ, pos, negsuc}
-use Rattle.answer.specs.Refusals.{unless_refused}
+use Rattle.std.specs.Prelude.{◌≡◌, Bool, true, false, List, [], ◌∷◌, ◌++◌, map, ℕ, ◌-◌, ℤ, pos, negsuc, Option, None, Some}
+use Rattle.answer.specs.declared.Refusal.{Refusal}
+use Rattle.answer.specs.declared.Refusal.TheVariants.{MagnitudeOutOfRange}
+use Rattle.answer.specs.Answers.{unless_refused}
 use Rattle.upgrade_steps.specs.Steps.{Step}
 use Rattle.progressive_encoder.specs.Encode.{Rule, floor_rule, symmetric_rule, srl_differences, raw_differences, srl_bytes, raw_bytes, pass_fault}
 
--- what a place gives: a value for the SRL stream or a number for the raw one, and the refusal or 0
+-- what a place gives: a value for the SRL stream or a number for the raw one, and the refusal if any
 pub record Given : Type 0 where
   pub values : List ℤ
   pub numbers : List ℕ
-  pub refusal : ℕ
+  pub refusal : Option Refusal
 
 -- a target at a place with this sign, over the previous coefficient, from a position to another; what each rule gives, and the streams of the symmetric one
 pub record SmallCase : Type 0 where
@@ -26,15 +28,15 @@ pub record SmallCase : Type 0 where
 
 -- an SRL value
 abbrev pub value : ℤ → Given
-value v = record { values = v ∷ []; numbers = []; refusal = 0 }
+value v = record { values = v ∷ []; numbers = []; refusal = None }
 
 -- one that is refused by 5
 abbrev pub refused : ℤ → Given
-refused v = record { values = v ∷ []; numbers = []; refusal = 5 }
+refused v = record { values = v ∷ []; numbers = []; refusal = Some MagnitudeOutOfRange }
 
 -- a raw number
 abbrev pub number : ℕ → Given
-number m = record { values = []; numbers = m ∷ []; refusal = 0 }
+number m = record { values = []; numbers = m ∷ []; refusal = None }
 
 -- at a zero sign outside the bottom: 7 and -7; -1; the cut of a difference, which is not the difference of cuts; differences of more than sixteen bits; -32768
 abbrev pub unknown : List SmallCase

@@ -1,7 +1,7 @@
 // Upgrade passes over one component, read and written, and dequantizing: a port of progressive.rs. Each is a crate of its own, so that each
 // is proved by itself; here they are handed on, and here are their laws.
 // Positions and quantizers go in by value, a row of ten in band order; coefficients, signs and streams are slices that the caller lends.
-// A refusal has a number (docs/SCOPE.md, "Refusals") and alters nothing.
+// A refused call alters nothing (docs/SCOPE.md, "Refusals").
 
 #![tactic(auto)]
 
@@ -13,9 +13,9 @@ ghost use Rattle.progressive.specs.CutTrip.{CutRoundTrip};
 ghost use Rattle.progressive.specs.Room.{RoomSuffices};
 ghost use Rattle.progressive.specs.SmallCases.{SmallCases};
 
-pub use answer::Answer;
+pub use answer::Refusal;
 pub use dequantizer::dequantize_component_ccq;
-pub use progressive_decoder::{MissingBits, PassDecoded, decode_upgrade_pass};
+pub use progressive_decoder::{MissingBits, decode_upgrade_pass};
 pub use progressive_encoder::{Written, encode_upgrade_pass, encode_upgrade_pass_symmetric};
 
 // What a writer wrote is read back, by whatever rule, and where the source's rule brings a component to its target.

@@ -7,8 +7,8 @@ use Prim.Native.Nat.{ℕ, zero, suc, ◌+◌, ◌-◌, ◌*◌, ◌≤◌, ◌<�
 use native.Mathlib.Numerals.{add-one}
 use native.Mathlib.Omega.{arith}
 use lib.IntN.{ℤ, pos}
-use lib.ListN.{length, get_or, set, take, drop, replicate, length-drop, drop_of_length-le}
-use lib.Seq.{length-take-le, drop-cons, drop-drop, get_or-take, set-get_or}
+use lib.ListN.{length, get_or, set, drop, replicate, length-drop, drop_of_length-le}
+use lib.Seq.{drop-cons, drop-drop, set-get_or}
 use Rattle.bits.specs.Bits.{num}
 use Rattle.srl_decoder.specs.Srl.{Reader, reader, nonzero, behind, next_value, next_reader}
 use Rattle.srl_decoder.specs.Inner.{Same}
@@ -123,63 +123,60 @@ module _ (s d : List ℕ) (t : Step) where
       ∙ over_run is cs ss n kp run p m
       ∙ ap (λ (k : ℕ). over srl s d t (drop run is) (walked cs ss (reader n kp k p) m)) {x = run - length is} {y = suc run - suc (length is)} (omega arith)
 
-  -- ════ a turn of a loop, at the j-th of n places ════
+  -- ════ a turn of a loop, at the j-th place of a list ════
 
   -- what is left of SRL places, with the slices and the reader as they are: the zeros up to place j are given
-  abbrev pub left : ℕ → List ℕ → List ℤ → List ℤ → ℕ → ℕ → ℕ → Bool → ℕ → Walked
-  left n list cs ss j at kp pending m = over srl s d t (drop j (take n list)) (walked cs ss (reader at kp (j - n) pending) m)
+  abbrev pub left : List ℕ → List ℤ → List ℤ → ℕ → ℕ → ℕ → Bool → ℕ → Walked
+  left list cs ss j at kp pending m = over srl s d t (drop j list) (walked cs ss (reader at kp (j - length list) pending) m)
 
-  module _ (n : ℕ) (list : List ℕ) (fits : n ≤ length list) where
-    front : length (take n list) ≡ n
-    front = length-take-le n list fits
-
-    rest : (j : ℕ) → length (drop j (take n list)) ≡ n - j
-    rest j = length-drop j (take n list) ∙ ap (λ (k : ℕ). k - j) front
+  module _ (list : List ℕ) where
+    abbrev n : ℕ
+    n = length list
 
     -- the next place
-    next : (j i : ℕ) → j < n → i ≡ get_or list j 0 → drop j (take n list) ≡ i ∷ drop (j + 1) (take n list)
+    next : (j i : ℕ) → j < n → i ≡ get_or list j 0 → drop j list ≡ i ∷ drop (j + 1) list
     next j i h e =
-        drop-cons (take n list) j 0 (omega (arith, front)) ∙ ap₂ (λ (x k : ℕ). x ∷ drop k (take n list)) (get_or-take n list j 0 h ∙ sym e) (sym (add-one j))
+        drop-cons list j 0 h ∙ ap₂ (λ (x k : ℕ). x ∷ drop k list) (sym e) (sym (add-one j))
 
     -- none
-    pub turn_end : (o : Source) (j : ℕ) (w : Walked) → n ≤ j → over o s d t (drop j (take n list)) w ≡ w
+    pub turn_end : (o : Source) (j : ℕ) (w : Walked) → n ≤ j → over o s d t (drop j list) w ≡ w
     unfolding over
-    turn_end o j w h = ap (λ (is : List ℕ). over o s d t is w) (drop_of_length-le (take n list) {i = j} (omega (arith, front)))
+    turn_end o j w h = ap (λ (is : List ℕ). over o s d t is w) (drop_of_length-le list {i = j} h)
 
     -- raw bits
     pub turn_raw : (cs ss : List ℤ) (r : Reader) (j at i : ℕ) → j < n → i ≡ get_or list j 0
-        → over raw s d t (drop j (take n list)) (walked cs ss r at)
-        ≡ over raw s d t (drop (j + 1) (take n list)) (walked (set cs i (raw_coefficient (adds t (get_or ss i (pos 0))) t.position (num d at t.width) (get_or cs i (pos 0)))) ss r (at + t.width))
+        → over raw s d t (drop j list) (walked cs ss r at)
+        ≡ over raw s d t (drop (j + 1) list) (walked (set cs i (raw_coefficient (adds t (get_or ss i (pos 0))) t.position (num d at t.width) (get_or cs i (pos 0)))) ss r (at + t.width))
     unfolding over
     turn_raw cs ss r j at i h e =
         let cs' = set cs i (raw_coefficient (adds t (get_or ss i (pos 0))) t.position (num d at t.width) (get_or cs i (pos 0))) in
         ap (λ (is : List ℕ). over raw s d t is (walked cs ss r at)) (next j i h e)
-        ∙ ap (λ (l : List ℤ). over raw s d t (drop (j + 1) (take n list)) (walked cs' l r (at + t.width))) (set-get_or ss i (pos 0))
+        ∙ ap (λ (l : List ℤ). over raw s d t (drop (j + 1) list) (walked cs' l r (at + t.width))) (set-get_or ss i (pos 0))
 
-    pub turn_start : (cs ss : List ℤ) (at kp run : ℕ) (pending : Bool) (m : ℕ) → over srl s d t (take n list) (walked cs ss (reader at kp run pending) m) ≡ left n list cs ss run at kp pending m
+    pub turn_start : (cs ss : List ℤ) (at kp run : ℕ) (pending : Bool) (m : ℕ) → over srl s d t list (walked cs ss (reader at kp run pending) m) ≡ left list cs ss run at kp pending m
     turn_start cs ss at kp run pending m =
-        over_run (take n list) cs ss at kp run pending m ∙ ap (λ (k : ℕ). over srl s d t (drop run (take n list)) (walked cs ss (reader at kp (run - k) pending) m)) front
+        over_run list cs ss at kp run pending m
 
     -- code words
     pub turn_codes : (cs ss : List ℤ) (j at kp run at' kp' : ℕ) (pending pending' : Bool) (m : ℕ) → j < n → Same s (n - j) (reader at kp 0 pending) (reader at' kp' run pending')
-        → left n list cs ss j at kp pending m ≡ left n list cs ss (j + run) at' kp' pending' m
+        → left list cs ss j at kp pending m ≡ left list cs ss (j + run) at' kp' pending' m
     turn_codes cs ss j at kp run at' kp' pending pending' m h same =
-        let is = drop j (take n list) in
+        let is = drop j list in
         let z : j - n ≡ 0 = omega arith in
-        let y : run - length is ≡ j + run - n = omega (arith, rest j) in
+        let y : run - length is ≡ j + run - n = omega (arith, length-drop j list) in
         ap (λ (k : ℕ). over srl s d t is (walked cs ss (reader at kp k pending) m)) z
-        ∙ over_same is cs ss (reader at kp 0 pending) (reader at' kp' run pending') m (subst (λ (k : ℕ). Same s k (reader at kp 0 pending) (reader at' kp' run pending')) (sym (rest j)) same)
+        ∙ over_same is cs ss (reader at kp 0 pending) (reader at' kp' run pending') m (subst (λ (k : ℕ). Same s k (reader at kp 0 pending) (reader at' kp' run pending')) (sym (length-drop j list)) same)
         ∙ over_run is cs ss at' kp' run pending' m
-        ∙ ap₂ (λ (l : List ℕ) (k : ℕ). over srl s d t l (walked cs ss (reader at' kp' k pending') m)) (drop-drop run j (take n list)) y
+        ∙ ap₂ (λ (l : List ℕ) (k : ℕ). over srl s d t l (walked cs ss (reader at' kp' k pending') m)) (drop-drop run j list) y
 
     -- a nonzero value
     pub turn_value : (cs ss : List ℤ) (j at kp i : ℕ) (pending : Bool) (m : ℕ) → j < n → pending ≡ true → i ≡ get_or list j 0
-        → left n list cs ss j at kp pending m
-        ≡ left n list (set cs i (srl_coefficient t.position (nonzero s at t.width) (get_or cs i (pos 0)))) (set ss i (srl_sign (nonzero s at t.width) (get_or ss i (pos 0)))) (j + 1) (behind s at t.width) kp false m
+        → left list cs ss j at kp pending m
+        ≡ left list (set cs i (srl_coefficient t.position (nonzero s at t.width) (get_or cs i (pos 0)))) (set ss i (srl_sign (nonzero s at t.width) (get_or ss i (pos 0)))) (j + 1) (behind s at t.width) kp false m
     unfolding over
     turn_value cs ss j at kp i pending m h e f =
         let v = nonzero s at t.width in
         let z : j - n ≡ 0 = omega arith in
         let z' : 0 ≡ j + 1 - n = omega arith in
         (λ x. over srl s d t (next j i h f x) (walked cs ss (reader at kp (z x) (e x)) m))
-        ∙ ap (λ (k : ℕ). over srl s d t (drop (j + 1) (take n list)) (walked (set cs i (srl_coefficient t.position v (get_or cs i (pos 0)))) (set ss i (srl_sign v (get_or ss i (pos 0)))) (reader (behind s at t.width) kp k false) m)) z'
+        ∙ ap (λ (k : ℕ). over srl s d t (drop (j + 1) list) (walked (set cs i (srl_coefficient t.position v (get_or cs i (pos 0)))) (set ss i (srl_sign v (get_or ss i (pos 0)))) (reader (behind s at t.width) kp k false) m)) z'

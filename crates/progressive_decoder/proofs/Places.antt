@@ -1,5 +1,5 @@
 -- The places of a band's signs in two lists: one place more, eight more, and how many and how large they are.
-use mathlib.Core.Path.{◌≡◌, refl, sym, ap, ap₂, ◌∙◌}
+use mathlib.Core.Path.{◌≡◌, refl, sym, ap, ap₂, ◌∙◌, subst}
 use mathlib.Core.Bool.{Bool, true, false, cond, not}
 use mathlib.Core.List.{List, [], ◌∷◌, ◌++◌, map, append-nil}
 use Prim.Native.Nat.{ℕ, zero, suc, ◌+◌, ◌-◌, ◌*◌, ◌≤◌, ◌<◌}
@@ -8,7 +8,7 @@ use native.Mathlib.Numerals.{add-one}
 use native.Mathlib.Omega.{arith}
 use lib.IntN.{ℤ, pos}
 use lib.ListN.{length, get_or, set, take}
-use lib.Seq.{length-take-le, take-length, take-suc-set, take-set-le, get_or-take}
+use lib.Seq.{take-length, take-suc-set, take-set-le}
 use Rattle.fixed.specs.Fixed.{is_zero}
 use Rattle.places.specs.Inner.{places_of, mask_of, ones_of, Listed}
 use Rattle.places.proofs.Ones.{places_suc, places_more, mask_not, ones_both}
@@ -107,8 +107,5 @@ place_within f (x ∷ ss) j h = by (f x) j h (place_within f ss)
 pub split_whole : (t : Step) (ss : List ℤ) (n : ℕ) (zeros others : List ℕ) → Split t ss (length ss) n zeros others → (take n zeros ≡ srl_places t ss) × (take (length ss - n) others ≡ raw_places t ss)
 split_whole t ss n zeros others p = (p.srl ∙ ap (srl_places t) (take-length ss), p.raw ∙ ap (raw_places t) (take-length ss))
 
-pub list_within : (f : ℤ → Bool) (ss : List ℤ) (n : ℕ) (l : List ℕ) → n ≤ length l → take n l ≡ places_of f ss → PlacesWithin l n (length ss)
-list_within f ss n l h e j k =
-    let m : length (places_of f ss) ≡ n = ap length (sym e) ∙ length-take-le n l h in
-    let same : get_or (places_of f ss) j 0 ≡ get_or l j 0 = ap (λ (is : List ℕ). get_or is j 0) (sym e) ∙ get_or-take n l j 0 k in
-    omega (arith, place_within f ss j (omega (arith, m)), same)
+pub list_within : (f : ℤ → Bool) (ss : List ℤ) {l : List ℕ} → l ≡ places_of f ss → PlacesWithin l (length ss)
+list_within f ss e = subst (λ (l : List ℕ). PlacesWithin l (length ss)) (sym e) (place_within f ss)

@@ -95,9 +95,9 @@ unfoldable pub over : Source → List ℕ → List ℕ → Step → List ℕ →
 over o srl_data raw_data t [] w = w
 over o srl_data raw_data t (i ∷ is) w = over o srl_data raw_data t is (stepped_from o srl_data raw_data t i w)
 
--- the first n numbers of a list are places of a slice
-abbrev pub PlacesWithin : List ℕ → ℕ → ℕ → Type 0
-PlacesWithin list n len = (j : ℕ) → j < n → get_or list j 0 < len
+-- the numbers of a list are places of a slice
+abbrev pub PlacesWithin : List ℕ → ℕ → Type 0
+PlacesWithin list len = (j : ℕ) → j < length list → get_or list j 0 < len
 
 -- the sign that a nonzero value sets
 abbrev pub sign_by : Bool → ℤ

@@ -1,6 +1,6 @@
 -- An upgrade pass over one component, read (docs/SCOPE.md, "Upgrade pass"; MS-RDPEGFX 3.3.8.2.1.2): the coefficients and signs after it.
 -- A pass is a list of steps, one for each place (`Steps` of `upgrade_steps`). Everything below holds for every list of steps; what a slice has past them stays.
-use Rattle.std.specs.Prelude.{◌≡◌, Bool, true, false, ◌&&◌, ◌||◌, List, [], ◌∷◌, ℕ, zero, suc, ℤ, pos, negsuc}
+use Rattle.std.specs.Prelude.{◌≡◌, Bool, true, false, ◌&&◌, ◌||◌, List, [], ◌∷◌, ℕ, zero, suc, ℤ, pos, negsuc, Option, Result}
 use Rattle.fixed.specs.Fixed.{add_scaled, sub_scaled, is_one}
 use Rattle.bands.specs.Positions.{row_in_domain}
 use Rattle.bits.specs.Bits.{numbers}
@@ -8,10 +8,10 @@ use Rattle.bits.specs.Missing.{read_numbers, missing_in}
 use Rattle.srl_decoder.specs.Srl.{start, values}
 use Rattle.srl_decoder.specs.Missing.{values_missing}
 use Rattle.upgrade_steps.specs.Steps.{Step, Source, skipped, srl, raw, source, steps, srl_widths, raw_widths}
-use Rattle.answer.specs.Refusals.{slice_too_short, out_of_domain, unless, first_of, long_enough, answered, unless_refused}
-use Rattle.answer.specs.declared.Answer.{Answer}
+use Rattle.answer.specs.Answers.{unless, first_of, long_enough, answered, unless_refused, given_or}
+use Rattle.answer.specs.declared.Refusal.{Refusal}
+use Rattle.answer.specs.declared.Refusal.TheVariants.{SliceTooShort, OutOfDomain}
 use Rattle.progressive_decoder.specs.declared.MissingBits.{MissingBits}
-use Rattle.progressive_decoder.specs.declared.PassDecoded.{PassDecoded}
 
 -- ════ what a value does at its place ════
 
@@ -105,14 +105,15 @@ pass_missing ts srl_data raw_data ss = missing_bits (srl_missing ts srl_data ss)
 
 -- ════ `decode_upgrade_pass` ════
 
--- "order: .. 1, 2"
-abbrev pub decode_pass_refusal : List ℕ → List ℕ → List ℤ → List ℤ → ℕ
+-- "order: .. 1, 2"; "stream bytes never cause [a refusal]", so they are not among its arguments
+abbrev pub decode_pass_refusal : List ℕ → List ℕ → List ℤ → List ℤ → Option Refusal
 decode_pass_refusal prev curr cs ss =
-    first_of (unless (long_enough cs && long_enough ss) slice_too_short) (unless (row_in_domain prev && row_in_domain curr) out_of_domain)
+    first_of (unless (long_enough cs && long_enough ss) SliceTooShort) (unless (row_in_domain prev && row_in_domain curr) OutOfDomain)
 
--- the answer: "stream bytes never cause [a refusal]", so they are not among its arguments
-abbrev pub decode_pass_answer : List ℕ → List ℕ → List ℤ → List ℤ → Answer
-decode_pass_answer prev curr cs ss = answered (decode_pass_refusal prev curr cs ss)
+-- what the call answers: the counts of missing bits, or the refusal
+abbrev pub decode_pass_answer : List ℕ → List ℕ → List ℕ → List ℕ → Bool → List ℤ → List ℤ → Result MissingBits Refusal
+decode_pass_answer srl_data raw_data prev curr e cs ss =
+    answered (decode_pass_refusal prev curr cs ss) (pass_missing (steps e prev curr) srl_data raw_data ss)
 
 -- the coefficients then
 abbrev pub decode_coefficients : List ℕ → List ℕ → List ℕ → List ℕ → Bool → List ℤ → List ℤ → List ℤ
@@ -126,12 +127,10 @@ decode_signs srl_data prev curr e cs ss =
 
 -- the counts of missing bits: "a refusal gives 0 for every count"
 abbrev pub decode_missing : List ℕ → List ℕ → List ℕ → List ℕ → Bool → List ℤ → List ℤ → MissingBits
-decode_missing srl_data raw_data prev curr e cs ss =
-    unless_refused (decode_pass_refusal prev curr cs ss) (pass_missing (steps e prev curr) srl_data raw_data ss) (missing_bits 0 0)
+decode_missing srl_data raw_data prev curr e cs ss = given_or (missing_bits 0 0) (decode_pass_answer srl_data raw_data prev curr e cs ss)
 
--- what the call fixes: its answer, the counts of missing bits, and both slices
-pub record DecodesPass (srl_data raw_data prev curr : List ℕ) (e : Bool) (cs ss : List ℤ) (r : PassDecoded) (cs' ss' : List ℤ) : Type 0 where
-  pub answer : r.answer ≡ decode_pass_answer prev curr cs ss
-  pub missing : r.missing ≡ decode_missing srl_data raw_data prev curr e cs ss
+-- what the call fixes: its answer, with the counts of missing bits, and both slices
+pub record DecodesPass (srl_data raw_data prev curr : List ℕ) (e : Bool) (cs ss : List ℤ) (r : Result MissingBits Refusal) (cs' ss' : List ℤ) : Type 0 where
+  pub answer : r ≡ decode_pass_answer srl_data raw_data prev curr e cs ss
   pub coefficients : cs' ≡ decode_coefficients srl_data raw_data prev curr e cs ss
   pub sign : ss' ≡ decode_signs srl_data prev curr e cs ss

@@ -1,5 +1,5 @@
 // A band's places in two lists: those that have an SRL value, and the others. Eight at a time, so that no branch depends on the signs.
-ghost use Rattle.std.specs.Prelude.{◌≡◌, false, cond, ◌+◌, ◌≤◌, ◌<◌, pos, length, get_or};
+ghost use Rattle.std.specs.Prelude.{◌≡◌, false, cond, ◌+◌, ◌/◌, ◌≤◌, ◌<◌, pos, length, get_or};
 ghost use Rattle.fixed.specs.Fixed.{is_zero};
 ghost use Rattle.places.specs.Inner.{mask_of, place_rows};
 ghost use Rattle.upgrade_steps.specs.Steps.{Step};
@@ -11,10 +11,7 @@ fn zero_count(sign: &[i8], i: usize) -> usize
     requires { i < length sign.now }
     ensures { (result ≡ cond (is_zero (get_or sign.now i (pos 0))) 1 0) × (result ≤ 1) }
 {
-    if fixed::is_zero_sign(sign[i]) {
-        return 1;
-    }
-    0
+    fixed::is_zero_sign(sign[i]) as usize
 }
 
 // 1 where the place has an SRL value, and 0 where it has none.
@@ -22,10 +19,7 @@ fn srl_count(t: upgrade_steps::BandStep, sign: &[i8], i: usize) -> usize
     requires { i < length sign.now }
     ensures { result ≡ cond (from_srl (band_step t) (get_or sign.now i (pos 0))) 1 0 }
 {
-    if t.bottom {
-        return 0;
-    }
-    zero_count(sign, i)
+    if t.bottom { 0 } else { zero_count(sign, i) }
 }
 
 // Puts the places from `from` to `to` into the lists, behind the `count` of `zeros` that are in; how many are in then.
@@ -47,12 +41,10 @@ fn split_places(
     ensures { Split (band_step t) sign.now to result zeros.new others.new }
 {
     let mut n = count;
-    let mut i = from;
-    while i < to {
+    for i in from..to {
         zeros[n] = i as u16;
         others[i - n] = i as u16;
         n += srl_count(t, sign, i);
-        i += 1;
     }
     n
 }
@@ -101,14 +93,11 @@ fn split_eight(
     places::put_ones(rows, m, i as u16, zeros, n)
 }
 
-// How far a band's places are taken eight at a time: in the bottom the signs say nothing.
-fn eights_end(t: upgrade_steps::BandStep, len: usize) -> usize
-    ensures { result ≡ cond t.bottom 0 len }
+// How many times eight of a band's places are taken at once: in the bottom the signs say nothing.
+fn eights_in(t: upgrade_steps::BandStep, len: usize) -> usize
+    ensures { result ≡ cond t.bottom 0 (len / 8) }
 {
-    if t.bottom {
-        return 0;
-    }
-    len
+    if t.bottom { 0 } else { len / 8 }
 }
 
 // Puts the places that have an SRL value into `zeros`, and the others into `others`; how many have one.
@@ -126,12 +115,10 @@ pub fn split(
     ensures { Split (band_step t) sign.now (length sign.now) result zeros.new others.new }
 {
     let len = sign.len();
-    let end = eights_end(t, len);
+    let eights = eights_in(t, len);
     let mut n: usize = 0;
-    let mut i: usize = 0;
-    while i + 8 <= end {
-        n = split_eight(sign, i, n, zeros, others, rows);
-        i += 8;
+    for k in 0..eights {
+        n = split_eight(sign, 8 * k, n, zeros, others, rows);
     }
-    split_places(t, sign, i, len, n, zeros, others)
+    split_places(t, sign, 8 * eights, len, n, zeros, others)
 }

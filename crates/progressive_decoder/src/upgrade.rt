@@ -1,5 +1,5 @@
 // The reader of a pass: band by band, with a reader for each stream. A band's places are split into those that have an SRL value and the others.
-ghost use Rattle.std.specs.Prelude.{◌≡◌, true, not, List, ℕ, ◌+◌, ◌-◌, ◌*◌, ◌%◌, ◌^◌, ◌≤◌, ◌<◌, pos, length, get_or, set, take};
+ghost use Rattle.std.specs.Prelude.{◌≡◌, true, not, List, ℕ, ◌+◌, ◌-◌, ◌*◌, ◌%◌, ◌^◌, ◌≤◌, ◌<◌, pos, length, get_or, set};
 ghost use Rattle.bits.specs.Bits.{bit_at, zeros, bits_read};
 ghost use Rattle.bits.specs.Inner.{Top, Front};
 ghost use Rattle.srl_decoder.specs.Srl.{Reader, most_zeros, behind};
@@ -29,30 +29,21 @@ fn moved(c: i16, m: u16, position: u8, adds: bool) -> i16
 {
     let sum = fixed::add_scaled(c, m, position);
     let difference = fixed::sub_scaled(c, m, position);
-    if adds {
-        return sum;
-    }
-    difference
+    if adds { sum } else { difference }
 }
 
 // Whether raw bits are added.
 fn adds_raw(t: upgrade_steps::BandStep, s: i8) -> bool
     ensures { result ≡ adds (band_step t) s }
 {
-    if t.bottom {
-        return true;
-    }
-    fixed::is_positive_sign(s)
+    t.bottom || fixed::is_positive_sign(s)
 }
 
 // The sign that a nonzero value sets.
 fn sign_by(negative: bool) -> i8
     ensures { result ≡ sign_by negative }
 {
-    if negative {
-        return -1;
-    }
-    1
+    if negative { -1 } else { 1 }
 }
 
 // ---- the lists, read
@@ -69,50 +60,45 @@ fn refill(raw_data: &[u8], at: usize, bits: u64, count: usize, width: u8) -> Wor
     requires { (width ≤ 15) × Top count bits raw_data.now at }
     ensures { Top result.count result.bits raw_data.now at × (width ≤ result.count) }
 {
-    if count < width as usize {
-        return Word {
-            bits: bits::reader::ahead_at(raw_data, at),
-            count: 64 - at % 8,
-        };
+    if count >= width as usize {
+        return Word { bits, count };
     }
-    Word { bits, count }
+    Word {
+        bits: bits::reader::ahead_at(raw_data, at),
+        count: 64 - at % 8,
+    }
 }
 
-// The raw bits of the first `n` places of a list; the count of bits read then.
+// The raw bits of the places of a list; the count of bits read then.
 fn raw_list(
     raw_data: &[u8],
     from: usize,
     t: upgrade_steps::BandStep,
     list: &[u16],
-    n: usize,
     coefficients: &mut [i16],
     sign: &[i8],
 ) -> usize
     requires { Width t.width
         × (from ≤ 2 ^ 60)
-        × (n ≤ 1024)
-        × (n ≤ length list.now)
-        × PlacesWithin list.now n (length coefficients.old)
+        × (length list.now ≤ 1024)
+        × PlacesWithin list.now (length coefficients.old)
         × (length sign.now ≡ length coefficients.old) }
     ensures { (s : List ℕ) (q : Reader)
-        → over raw s raw_data.now (band_step t) (take n list.now) (walked coefficients.old sign.now q from)
+        → over raw s raw_data.now (band_step t) list.now (walked coefficients.old sign.now q from)
         ≡ walked coefficients.new sign.now q result }
 {
     let width = t.width;
     let mut at = from;
     let mut bits: u64 = 0;
     let mut count: usize = 0;
-    let mut j: usize = 0;
-    while j < n {
+    for place in list {
         let word = refill(raw_data, at, bits, count, width);
         let m = bits::reader::top(word.bits, width) as u16;
         bits = bits::reader::behind(word.bits, width as u32);
         count = word.count - width as usize;
         at += width as usize;
-        let i = list[j] as usize;
-        let c = coefficients[i];
-        coefficients[i] = moved(c, m, t.position, adds_raw(t, sign[i]));
-        j += 1;
+        let i = *place as usize;
+        coefficients[i] = moved(coefficients[i], m, t.position, adds_raw(t, sign[i]));
     }
     at
 }
@@ -152,19 +138,17 @@ fn put_value(
         (raw_coefficient (not v.negative) position v.magnitude (get_or coefficients.old i (pos 0))))
         × (sign.new ≡ set sign.old i (sign_by v.negative)) }
 {
-    let c = coefficients[i];
-    coefficients[i] = moved(c, v.magnitude, position, !v.negative);
+    coefficients[i] = moved(coefficients[i], v.magnitude, position, !v.negative);
     sign[i] = sign_by(v.negative);
 }
 
-// The SRL values of the first `n` places of a list. `j` is the place of the next nonzero value, or of the next code word: it may lie past the list.
+// The SRL values of the places of a list. `j` is the place of the next nonzero value, or of the next code word: it may lie past the list.
 // A turn takes code words and the value behind them from one word of the stream.
 fn srl_list(
     srl_data: &[u8],
     from: srl_decoder::SrlState,
     t: upgrade_steps::BandStep,
     list: &[u16],
-    n: usize,
     coefficients: &mut [i16],
     sign: &mut [i8],
 ) -> srl_decoder::SrlState
@@ -172,16 +156,16 @@ fn srl_list(
         × (from.reader.bit_idx ≤ 7)
         × (from.kp ≤ 80)
         × (bits_read from.reader ≤ 2 ^ 41)
-        × (n ≤ 1024)
-        × (n ≤ length list.now)
-        × PlacesWithin list.now n (length coefficients.old)
+        × (length list.now ≤ 1024)
+        × PlacesWithin list.now (length coefficients.old)
         × (length sign.old ≡ length coefficients.old) }
     ensures { ((d : List ℕ) (m : ℕ)
-        → over srl srl_data.now d (band_step t) (take n list.now)
+        → over srl srl_data.now d (band_step t) list.now
         (walked coefficients.old sign.old (opened from) m)
         ≡ walked coefficients.new sign.new (opened result) m)
         × (result.reader.bit_idx ≤ 7) }
 {
+    let n = list.len();
     let mut at = bits::reader::count_of(from.reader);
     let mut kp = from.kp;
     let mut pending = from.nonzero_pending;
@@ -236,18 +220,16 @@ fn upgrade_band(
     if t.width == 0 {
         return from;
     }
-    let state = from.srl;
     let n = crate::split::split(t, sign, zeros, others, rows);
     let raw = raw_list(
         raw_data,
         from.raw,
         t,
-        others,
-        sign.len() - n,
+        &others[..sign.len() - n],
         coefficients,
         sign,
     );
-    let srl = srl_list(srl_data, state, t, zeros, n, coefficients, sign);
+    let srl = srl_list(srl_data, from.srl, t, &zeros[..n], coefficients, sign);
     Readers { srl, raw }
 }
 
@@ -305,8 +287,7 @@ fn missing_by(srl_data: &[u8], raw_data: &[u8], ends: Readers) -> MissingBits
         × (ends.raw < 2 ^ 32) }
     ensures { result ≡ missing_bits (bits_read ends.srl.reader - 8 * length srl_data.now) (ends.raw - 8 * length raw_data.now) }
 {
-    let state = ends.srl;
-    let srl = bits::reader::past_end(srl_data, state.reader);
+    let srl = bits::reader::past_end(srl_data, ends.srl.reader);
     let raw = bits::reader::past_end(raw_data, bits::reader::place(ends.raw));
     MissingBits {
         srl: srl as u32,

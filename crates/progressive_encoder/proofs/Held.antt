@@ -31,8 +31,7 @@ each_append Each.none h = h
 each_append (Each.one e l) h = Each.one e (each_append l h)
 
 -- so is the one at a place
-pub each_at : {P : ℕ → Type 0} (l : List ℕ) (n i : ℕ) → Each P (take n l) → i < n → i < length l → P (get_or l i 0)
-each_at [] n i e h k = absurd (omega arith)
-each_at (x ∷ l) zero i e h k = absurd (omega arith)
-each_at (x ∷ l) (suc n) zero (Each.one e es) h k = e
-each_at (x ∷ l) (suc n) (suc i) (Each.one e es) h k = each_at l n i es (omega arith) (omega arith)
+pub each_at : {P : ℕ → Type 0} (l : List ℕ) (i : ℕ) → Each P l → i < length l → P (get_or l i 0)
+each_at [] i e h = absurd (omega arith)
+each_at (x ∷ l) zero (Each.one e es) h = e
+each_at (x ∷ l) (suc i) (Each.one e es) h = each_at l i es (omega arith)

@@ -16,7 +16,7 @@ use Rattle.bits.proofs.Puts.{after_append, write_append}
 use Rattle.bits.proofs.Packed.{padded, sets_append}
 use Rattle.bits.proofs.Words.{words_none, words_then, words_renamed}
 use Rattle.srl_encoder.specs.Finish.{flush, stream_bits}
-use Rattle.srl_encoder.specs.Inner.{call_of, flushed, flushed_out, WroteEnd}
+use Rattle.srl_encoder.specs.Inner.{flushed, flushed_out, WroteEnd}
 use Rattle.srl_encoder.specs.declared.encoder.CallState.{CallState}
 use Rattle.srl_encoder.proofs.Runs.{run_kp_le}
 use Rattle.progressive_encoder.specs.Encode.{srl_stream}
@@ -49,7 +49,7 @@ raw_stored o bs w c d = let r = padded bs o w.writer w.out c d in record { count
 
 -- ════ events ════
 
-pub events_none : (l o : List ℕ) (z : ℕ) → StoresEvents (take 0 l) o (call_of 0 0 0 8 z) z o
+pub events_none : (l o : List ℕ) (z : ℕ) → StoresEvents (take 0 l) o (record { sink = fresh_sink; kp = 8; zeros = z }) z o
 unfolding events_then events_kp
 events_none l o z = record { wrote = words_none o fresh_sink fresh_sound; kp = refl; zeros = refl; low = omega arith; few = omega arith }
 

@@ -11,10 +11,8 @@ use lib.Seq.{length-take-le}
 use Rattle.bits.specs.Written.{bits_of, bits_of_all, pack}
 use Rattle.bits.proofs.Puts.{length_bits_of}
 use Rattle.bits.proofs.Packed.{length_pack}
-use Rattle.srl_encoder.specs.Encode.{nonzero_bits, run_bits, run_kp}
+use Rattle.srl_encoder.specs.Encode.{nonzero_bits, run_bits}
 use Rattle.srl_encoder.specs.Finish.{flush, stream_bits}
-use Rattle.srl_encoder.specs.Inner.{plan_bits, Planned}
-use Rattle.srl_encoder.specs.declared.encoder.RunPlan.{RunPlan}
 use Rattle.srl_encoder.proofs.Runs.{length_run, run_kp_le}
 use Rattle.srl_encoder.proofs.Nonzeros.{nonzero_le}
 use Rattle.progressive_encoder.specs.Encode.{srl_stream, raw_stream}
@@ -69,15 +67,6 @@ event_large l j h =
     let x = get_or l j 0 in
     let b = ltb (2 ^ event_width x - 1) (event_magnitude x) in
     ap any_event_too_large (one_more l j h) ∙ large_append (take j l) (x ∷ []) ∙ ap (λ (a : Bool). any_event_too_large (take j l) || a) (or-false b)
-
--- as the code plans it: the run, and the value behind it
-pub event_planned : (kp x : ℕ) (r : RunPlan) (m w z : ℕ) → m ≡ event_magnitude x → w ≡ event_width x → z ≡ event_zeros x → Planned kp z r → (b : Bool) → b ≡ event_negative x → plan_bits r ++ nonzero_bits w b (m - 1) ≡ event_bits kp x
-event_planned kp x r m w z d e f p b g =
-    ap (λ (l : List Bool). l ++ nonzero_bits w b (m - 1)) (sym p.bits)
-    ∙ (λ i. run_bits (suc (f i)) kp (f i) ++ nonzero_bits (e i) (g i) (d i - 1))
-
-pub planned_kp : (kp x : ℕ) (r : RunPlan) (z : ℕ) → z ≡ event_zeros x → Planned kp z r → r.kp - 6 ≡ event_kp kp x
-planned_kp kp x r z f p = sym p.next ∙ (λ i. run_kp (suc (f i)) kp (f i))
 
 -- at most so many bits
 pub event_small : (kp x : ℕ) → kp ≤ 80 → Event x → length (event_bits kp x) ≤ 80000

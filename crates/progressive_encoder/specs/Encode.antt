@@ -1,14 +1,15 @@
 -- An upgrade pass over one component, written (docs/SCOPE.md, "Upgrade pass"; MS-RDPEGFX 3.2.8.1.5.2): the bytes of both streams. The steps, and where a place's
 -- value goes, are the reader's too (`Steps` of `upgrade_steps`).
-use Rattle.std.specs.Prelude.{◌≡◌, Bool, true, false, cond, ◌&&◌, ◌||◌, List, [], ◌∷◌, ◌++◌, ℕ, zero, suc, ◌-◌, ◌/◌, ◌^◌, ltb, ℤ, pos, negsuc, nat_abs, ◌-ℤ◌, length}
+use Rattle.std.specs.Prelude.{◌≡◌, Bool, true, false, cond, ◌&&◌, ◌||◌, List, [], ◌∷◌, ◌++◌, ℕ, ◌-◌, ◌/◌, ◌^◌, ltb, ℤ, pos, negsuc, nat_abs, ◌-ℤ◌, length, Option, None, Some, Result}
 use Rattle.fixed.specs.Fixed.{clamp_i16, floor_shift, is_negative, with_sign}
 use Rattle.bands.specs.Positions.{row_in_domain}
 use Rattle.bits.specs.Written.{bits_of_all, pack}
 use Rattle.srl_encoder.specs.Finish.{stream_bits}
 use Rattle.upgrade_steps.specs.Steps.{Step, Source, skipped, srl, raw, source, steps, srl_widths, raw_widths}
-use Rattle.answer.specs.Refusals.{slice_too_short, out_of_domain, magnitude_out_of_range, unless, first_of, long_enough, no_room, stored}
+use Rattle.answer.specs.declared.Refusal.{Refusal}
+use Rattle.answer.specs.declared.Refusal.TheVariants.{SliceTooShort, OutOfDomain, MagnitudeOutOfRange}
+use Rattle.answer.specs.Answers.{unless, first_of, long_enough, no_room, answered, stored, number_of_answer, given_or}
 use Rattle.progressive_encoder.specs.declared.Written.{Written}
-use Rattle.progressive_encoder.specs.declared.Written.TheVariants.{Bytes, Refused}
 
 -- ════ a rule: what a writer gives for a place. q is the current position, c the coefficient and p the previous one ════
 
@@ -108,7 +109,7 @@ srl_bytes r ts cs ps ss = srl_stream (srl_widths ts ss) (srl_differences r ts cs
 abbrev pub raw_bytes : Rule → List Step → List ℤ → List ℤ → List ℤ → List ℕ
 raw_bytes r ts cs ps ss = raw_stream (raw_widths ts ss) (raw_differences r ts cs ps ss)
 
--- ════ refusals: 0 is none ════
+-- ════ refusals ════
 
 -- whether a value has "a magnitude above the maximum of its width"
 unfoldable pub any_too_large : List ℕ → List ℤ → Bool
@@ -117,35 +118,38 @@ any_too_large (w ∷ ws) [] = false
 any_too_large (w ∷ ws) (v ∷ vs) = ltb (2 ^ w - 1) (nat_abs v) || any_too_large ws vs
 
 -- 5 where one has
-abbrev pub values_fault : List ℕ → List ℤ → ℕ
-values_fault ws vs = cond (any_too_large ws vs) magnitude_out_of_range 0
+abbrev pub values_fault : List ℕ → List ℤ → Option Refusal
+values_fault ws vs = cond (any_too_large ws vs) (Some MagnitudeOutOfRange) None
 
 -- of a pass
-abbrev pub pass_fault : Rule → List Step → List ℤ → List ℤ → List ℤ → ℕ
+abbrev pub pass_fault : Rule → List Step → List ℤ → List ℤ → List ℤ → Option Refusal
 pass_fault r ts cs ps ss = values_fault (srl_widths ts ss) (srl_differences r ts cs ps ss)
 
 -- "7: the answer exceeds an output slice", of either stream
-abbrev pub no_room_for : List ℕ → List ℕ → List ℕ → List ℕ → ℕ
+abbrev pub no_room_for : List ℕ → List ℕ → List ℕ → List ℕ → Option Refusal
 no_room_for srlBs srlOut rawBs rawOut =
     first_of (no_room (length srlOut) (length srlBs)) (no_room (length rawOut) (length rawBs))
 
 -- "the writer of a pass gives 1, 2, 5 and 7", the first of them in this order
-abbrev pub encode_pass_refusal : Rule → List ℤ → List ℤ → List ℕ → List ℕ → List ℤ → Bool → List ℕ → List ℕ → ℕ
+abbrev pub encode_pass_refusal : Rule → List ℤ → List ℤ → List ℕ → List ℕ → List ℤ → Bool → List ℕ → List ℕ → Option Refusal
 encode_pass_refusal r cs ps prev curr ss e srlOut rawOut =
-    first_of (unless (long_enough cs && (long_enough ps && long_enough ss)) slice_too_short)
-    (first_of (unless (row_in_domain prev && row_in_domain curr) out_of_domain)
+    first_of (unless (long_enough cs && (long_enough ps && long_enough ss)) SliceTooShort)
+    (first_of (unless (row_in_domain prev && row_in_domain curr) OutOfDomain)
     (first_of (pass_fault r (steps e prev curr) cs ps ss)
     (no_room_for (srl_bytes r (steps e prev curr) cs ps ss) srlOut (raw_bytes r (steps e prev curr) cs ps ss) rawOut)))
 
 -- ════ what `encode_upgrade_pass` answers, and what it leaves in the two outputs ════
 
--- "a refusal gives its number, zero lengths and counts"
-abbrev pub written : ℕ → ℕ → ℕ → Written
-written zero n m = Bytes n m
-written (suc k) n m = Refused (suc k)
+-- by how many bytes each stream has
+abbrev pub bytes_of : ℕ → ℕ → Written
+bytes_of n m = record { srl = n; raw = m }
+
+-- these, or the refusal
+abbrev pub written : Option Refusal → ℕ → ℕ → Result Written Refusal
+written refusal n m = answered refusal (bytes_of n m)
 
 -- the answer: how many bytes of each stream, or a refusal
-abbrev pub encode_pass_answer : Rule → List ℤ → List ℤ → List ℕ → List ℕ → List ℤ → Bool → List ℕ → List ℕ → Written
+abbrev pub encode_pass_answer : Rule → List ℤ → List ℤ → List ℕ → List ℕ → List ℤ → Bool → List ℕ → List ℕ → Result Written Refusal
 encode_pass_answer r cs ps prev curr ss e srlOut rawOut =
     written (encode_pass_refusal r cs ps prev curr ss e srlOut rawOut)
     (length (srl_bytes r (steps e prev curr) cs ps ss))
@@ -162,24 +166,21 @@ encode_raw_out r cs ps prev curr ss e srlOut rawOut =
     stored (encode_pass_refusal r cs ps prev curr ss e srlOut rawOut) (raw_bytes r (steps e prev curr) cs ps ss) rawOut
 
 -- what the call fixes: its answer, and both outputs
-pub record EncodesPass (rule : Rule) (cs ps : List ℤ) (prev curr : List ℕ) (ss : List ℤ) (e : Bool) (srlOut rawOut : List ℕ) (r : Written) (srlOut' rawOut' : List ℕ) : Type 0 where
+pub record EncodesPass (rule : Rule) (cs ps : List ℤ) (prev curr : List ℕ) (ss : List ℤ) (e : Bool) (srlOut rawOut : List ℕ) (r : Result Written Refusal) (srlOut' rawOut' : List ℕ) : Type 0 where
   pub answer : r ≡ encode_pass_answer rule cs ps prev curr ss e srlOut rawOut
   pub srl : srlOut' ≡ encode_srl_out rule cs ps prev curr ss e srlOut rawOut
   pub raw : rawOut' ≡ encode_raw_out rule cs ps prev curr ss e srlOut rawOut
 
--- ════ an answer by its parts ════
+-- ════ an answer by its parts: "a refusal gives its number, zero lengths and counts" ════
 
--- the number and the counts of bytes of each case
-abbrev pub written_number : Written → ℕ
-written_number (Bytes n m) = 0
-written_number (Refused k) = k
+-- the number, 0 where the pass was written
+abbrev pub written_number : Result Written Refusal → ℕ
+written_number r = number_of_answer r
 
--- the bytes of the SRL stream; "zero lengths" with a refusal
-abbrev pub srl_count : Written → ℕ
-srl_count (Bytes n m) = n
-srl_count (Refused k) = 0
+-- the bytes of the SRL stream
+abbrev pub srl_count : Result Written Refusal → ℕ
+srl_count r = (given_or (bytes_of 0 0) r).srl
 
 -- the bytes of the raw stream
-abbrev pub raw_count : Written → ℕ
-raw_count (Bytes n m) = m
-raw_count (Refused k) = 0
+abbrev pub raw_count : Result Written Refusal → ℕ
+raw_count r = (given_or (bytes_of 0 0) r).raw

@@ -2,31 +2,25 @@
 -- stream, and the values for the SRL stream that are not 0, each with the zeros before it. Both streams are measured and stored from these.
 -- The look's promise is a relation of what stands before some places and what stands after them, whatever comes behind them; so places in a row are
 -- relations in a row (proofs/Placewise.antt).
-use Rattle.std.specs.Prelude.{◌≡◌, Bool, true, false, cond, ◌||◌, List, [], ◌∷◌, ◌++◌, ℕ, zero, suc, ◌+◌, ◌-◌, ◌*◌, ◌/◌, ◌%◌, ◌^◌, ◌≤◌, ◌<◌, ltb, eqb, ℤ, pos, length, get_or, take, replicate}
+use Rattle.std.specs.Prelude.{◌≡◌, Bool, false, cond, ◌||◌, List, [], ◌∷◌, ◌++◌, ℕ, zero, suc, ◌+◌, ◌-◌, ◌*◌, ◌/◌, ◌%◌, ◌^◌, ◌≤◌, ◌<◌, ltb, eqb, ℤ, pos, length, get_or, take, replicate, Option, Result}
 use Rattle.std.proofs.lemmas.List.Edits.{sets}
 use Rattle.bits.specs.Written.{bits_of, bits_of_all, pack}
 use Rattle.bits.specs.Inner.{WroteWords}
 use Rattle.bits.specs.declared.writer.WordWriter.{WordWriter}
-use Rattle.answer.specs.Refusals.{first_of, stored}
+use Rattle.answer.specs.declared.Refusal.{Refusal}
+use Rattle.answer.specs.Answers.{first_of, stored}
 use Rattle.fixed.specs.Fixed.{is_zero}
 use Rattle.srl_encoder.specs.Encode.{nonzero_bits, run_bits, run_kp}
 use Rattle.srl_encoder.specs.Finish.{flush, stream_bits}
 use Rattle.srl_encoder.specs.declared.encoder.CallState.{CallState}
 use Rattle.upgrade_steps.specs.Steps.{Step, srl_widths, raw_widths}
 use Rattle.upgrade_steps.specs.Inner.{from_srl}
-use Rattle.progressive_encoder.specs.Encode.{Rule, floor_rule, symmetric_rule, srl_differences, raw_differences, srl_stream, raw_stream, any_too_large, values_fault, no_room_for, written}
+use Rattle.progressive_encoder.specs.Encode.{Rule, srl_differences, raw_differences, srl_stream, raw_stream, any_too_large, values_fault, no_room_for, bytes_of, written}
 use Rattle.progressive_encoder.specs.declared.Written.{Written}
 use Rattle.progressive_encoder.specs.declared.events.Events.{Events}
 use Rattle.progressive_encoder.specs.declared.look.Found.{Found}
 use Rattle.progressive_encoder.specs.declared.measure.EventsMeasured.{EventsMeasured}
 use Rattle.progressive_encoder.specs.declared.measure.Lengths.{Lengths}
-
--- ════ the rule, as the code has it ════
-
--- by the flag `symmetric`
-abbrev pub rule_of : Bool → Rule
-rule_of true = symmetric_rule
-rule_of false = floor_rule
 
 -- ════ what places give ════
 
@@ -234,11 +228,11 @@ pub record Looked : Type 0 where
 
 -- of what the code has of them
 abbrev pub looked_by : List ℕ → List ℕ → Found → Looked
-looked_by raws words f = record { numbers = words_of raws f.numbers; events = listed_of words f.events f.zeros }
+looked_by raws words f = record { numbers = words_of raws f.numbers; events = listed_by words f.events }
 
 -- before the first place
 abbrev pub nothing_found : Found
-nothing_found = record { numbers = 0; events = 0; zeros = 0 }
+nothing_found = record { numbers = 0; events = record { count = 0; zeros = 0 } }
 
 -- some places are looked at
 pub record Looks (l : Lists) (x y : Looked) : Type 0 where
@@ -359,14 +353,14 @@ pub record StoresRaw (bs : List Bool) (o : List ℕ) (n : ℕ) (o' : List ℕ) :
 
 -- ════ both streams: the answer, and what the two outputs hold then ════
 
--- what is refused of what places give, or 0
-abbrev pub lists_refusal : Lists → List ℕ → List ℕ → ℕ
+-- what is refused of what places give
+abbrev pub lists_refusal : Lists → List ℕ → List ℕ → Option Refusal
 lists_refusal l srlOut rawOut =
     first_of (values_fault l.widths l.values)
     (no_room_for (srl_stream l.widths l.values) srlOut (raw_stream l.number_widths l.numbers) rawOut)
 
 -- the answer
-abbrev pub lists_answer : Lists → List ℕ → List ℕ → Written
+abbrev pub lists_answer : Lists → List ℕ → List ℕ → Result Written Refusal
 lists_answer l srlOut rawOut =
     written (lists_refusal l srlOut rawOut) (length (srl_stream l.widths l.values)) (length (raw_stream l.number_widths l.numbers))
 
@@ -380,12 +374,12 @@ lists_raw_out l srlOut rawOut = stored (lists_refusal l srlOut rawOut) (raw_stre
 
 -- both streams are stored, where there is room for both
 pub record StoresStreams (l : Lists) (srlOut rawOut : List ℕ) (r : Written) (srlOut' rawOut' : List ℕ) : Type 0 where
-  pub answer : r ≡ written 0 (length (srl_stream l.widths l.values)) (length (raw_stream l.number_widths l.numbers))
+  pub answer : r ≡ bytes_of (length (srl_stream l.widths l.values)) (length (raw_stream l.number_widths l.numbers))
   pub srl : srlOut' ≡ sets srlOut 0 (srl_stream l.widths l.values)
   pub raw : rawOut' ≡ sets rawOut 0 (raw_stream l.number_widths l.numbers)
 
 -- both streams are refused or stored
-pub record WritesStreams (l : Lists) (srlOut rawOut : List ℕ) (r : Written) (srlOut' rawOut' : List ℕ) : Type 0 where
+pub record WritesStreams (l : Lists) (srlOut rawOut : List ℕ) (r : Result Written Refusal) (srlOut' rawOut' : List ℕ) : Type 0 where
   pub answer : r ≡ lists_answer l srlOut rawOut
   pub srl : srlOut' ≡ lists_srl_out l srlOut rawOut
   pub raw : rawOut' ≡ lists_raw_out l srlOut rawOut

@@ -2,9 +2,10 @@
 ghost use Rattle.std.specs.Prelude.{◌≡◌, List, ◌+◌, ◌-◌, ◌*◌, ◌<◌, ◌≤◌, ℤ, length};
 ghost use Rattle.bits.specs.Bits.{bit_of};
 ghost use Rattle.upgrade_steps.specs.Inner.{band_step};
-ghost use Rattle.progressive_encoder.specs.Inner.{rule_of, place_lists, GoesOver, listed_of, listed_by, ListsEvents, FewEvents, class_of, TakesEvents, event_magnitude, event_negative, event_width, event_zeros};
+ghost use Rattle.progressive_encoder.specs.Inner.{place_lists, GoesOver, listed_by, ListsEvents, FewEvents, class_of, TakesEvents, event_magnitude, event_negative, event_width, event_zeros};
 
-use crate::{classes, rule};
+use crate::classes;
+use crate::rule::Rule;
 
 // How many events are in the list, and how many zeros are pending behind them.
 #[derive(Clone, Copy)]
@@ -13,7 +14,7 @@ pub struct Events {
     pub zeros: usize,
 }
 
-// A value as a word: its magnitude, whether it is negative, its width, and the zeros before it.
+// A value as a word: its magnitude, whether it is negative, its width, and the zeros before it. In one word each value is one store and one load.
 fn event_word(m: u16, negative: bool, width: u8, zeros: usize) -> u64
     requires { (width ≤ 15) × (zeros ≤ 4096) }
     ensures { result ≡ m + 65536 * (bit_of negative + 2 * (width + 16 * zeros)) }
@@ -24,48 +25,45 @@ fn event_word(m: u16, negative: bool, width: u8, zeros: usize) -> u64
 }
 
 // One place, of a known class.
-fn list_place(
+fn list_place<R: Rule>(
     c: i16,
     p: i16,
     class: u8,
-    symmetric: bool,
     t: upgrade_steps::BandStep,
     words: &mut [u64],
-    count: usize,
-    zeros: usize,
+    done: Events,
 ) -> Events
     requires { (1 ≤ t.width)
         × (t.width ≤ 15)
         × (t.position ≤ 15)
         × (4096 ≤ length words.old)
-        × (count < 4096)
-        × (zeros < 4096) }
-    ensures { ((s : ℤ) → class ≡ class_of (rule_of symmetric) (band_step t) c p s
-        → GoesOver ListsEvents FewEvents (place_lists (rule_of symmetric) (band_step t) c p s) 1
-        (listed_of words.old count zeros) (listed_by words.new result))
-        × (result.count ≤ count + 1)
-        × (result.zeros ≤ zeros + 1) }
+        × (done.count < 4096)
+        × (done.zeros < 4096) }
+    ensures { ((s : ℤ) → class ≡ class_of R.rule (band_step t) c p s
+        → GoesOver ListsEvents FewEvents (place_lists R.rule (band_step t) c p s) 1
+        (listed_by words.old done) (listed_by words.new result))
+        × (result.count ≤ done.count + 1)
+        × (result.zeros ≤ done.zeros + 1) }
 {
     if class < 2 {
         return Events {
-            count,
-            zeros: zeros + 1 - (class as usize),
+            zeros: done.zeros + 1 - (class as usize),
+            ..done
         };
     }
-    let m = rule::value_magnitude(symmetric, c, p, t.position);
-    let negative = rule::value_is_negative(symmetric, c, p, t.position);
-    words[count] = event_word(m, negative, t.width, zeros);
+    let m = R::value_magnitude(c, p, t.position);
+    let negative = R::value_is_negative(c, p, t.position);
+    words[done.count] = event_word(m, negative, t.width, done.zeros);
     Events {
-        count: count + 1,
+        count: done.count + 1,
         zeros: 0,
     }
 }
 
 // The places from `from` up to `to`.
-fn list_places(
+fn list_places<R: Rule>(
     coefficients: &[i16],
     prev_coefficients: &[i16],
-    symmetric: bool,
     t: upgrade_steps::BandStep,
     classes: &[u8],
     from: usize,
@@ -83,29 +81,23 @@ fn list_places(
         × (4096 ≤ length words.old)
         × (start.count + (to - from) ≤ 4096)
         × (start.zeros + (to - from) ≤ 4096) }
-    ensures { TakesEvents (rule_of symmetric) (band_step t)
+    ensures { TakesEvents R.rule (band_step t)
         coefficients.now prev_coefficients.now classes.now from to
         (listed_by words.old start) (listed_by words.new result) }
 {
-    let mut count = start.count;
-    let mut zeros = start.zeros;
-    let mut i = from;
-    while i < to {
+    let mut done = start;
+    for i in from..to {
         let c = coefficients[i];
         let p = prev_coefficients[i];
-        let next = list_place(c, p, classes[i], symmetric, t, words, count, zeros);
-        count = next.count;
-        zeros = next.zeros;
-        i += 1;
+        done = list_place::<R>(c, p, classes[i], t, words, done);
     }
-    Events { count, zeros }
+    done
 }
 
 // Eight places: where none has a value other than 0, the zeros are only counted.
-fn list_eight(
+fn list_eight<R: Rule>(
     coefficients: &[i16],
     prev_coefficients: &[i16],
-    symmetric: bool,
     t: upgrade_steps::BandStep,
     classes: &[u8],
     i: usize,
@@ -121,20 +113,19 @@ fn list_eight(
         × (4096 ≤ length words.old)
         × (start.count + 8 ≤ 4096)
         × (start.zeros + 8 ≤ 4096) }
-    ensures { TakesEvents (rule_of symmetric) (band_step t)
+    ensures { TakesEvents R.rule (band_step t)
         coefficients.now prev_coefficients.now classes.now i (i + 8)
         (listed_by words.old start) (listed_by words.new result) }
 {
     if classes::at_most(classes, i) < 2 {
         return Events {
-            count: start.count,
             zeros: start.zeros + classes::zeros_of_eight(classes, i),
+            ..start
         };
     }
-    list_places(
+    list_places::<R>(
         coefficients,
         prev_coefficients,
-        symmetric,
         t,
         classes,
         i,
@@ -145,10 +136,9 @@ fn list_eight(
 }
 
 // All places of a band that is not skipped and whose places have these classes.
-pub fn list_events(
+pub fn list_events<R: Rule>(
     coefficients: &[i16],
     prev_coefficients: &[i16],
-    symmetric: bool,
     t: upgrade_steps::BandStep,
     classes: &[u8],
     words: &mut [u64],
@@ -162,39 +152,33 @@ pub fn list_events(
         × (4096 ≤ length words.old)
         × (start.count + length coefficients.now ≤ 4096)
         × (start.zeros + length coefficients.now ≤ 4096) }
-    ensures { TakesEvents (rule_of symmetric) (band_step t)
+    ensures { TakesEvents R.rule (band_step t)
         coefficients.now prev_coefficients.now classes.now 0 (length coefficients.now)
         (listed_by words.old start) (listed_by words.new result) }
 {
     let len = coefficients.len();
-    let mut count = start.count;
-    let mut zeros = start.zeros;
-    let mut i: usize = 0;
-    while i + 8 <= len {
-        let next = list_eight(
+    let eights = len / 8;
+    let mut done = start;
+    for k in 0..eights {
+        done = list_eight::<R>(
             coefficients,
             prev_coefficients,
-            symmetric,
             t,
             classes,
-            i,
+            8 * k,
             words,
-            Events { count, zeros },
+            done,
         );
-        count = next.count;
-        zeros = next.zeros;
-        i += 8;
     }
-    list_places(
+    list_places::<R>(
         coefficients,
         prev_coefficients,
-        symmetric,
         t,
         classes,
-        i,
+        8 * eights,
         len,
         words,
-        Events { count, zeros },
+        done,
     )
 }
 

@@ -1,65 +1,62 @@
 // Upgrade passes over one component, written: a part of progressive.rs. `progressive` hands it on under the source's name.
 // Positions go in by value, a row of ten in band order; coefficients, signs and streams are slices that the caller lends.
-// A refusal has a number (docs/SCOPE.md, "Refusals") and alters nothing.
+// A refused call alters nothing (docs/SCOPE.md, "Refusals").
 
 #![tactic(auto)]
 
 ghost use Rattle.progressive_encoder.specs.Encode.{floor_rule, symmetric_rule, EncodesPass};
 ghost use Rattle.progressive_encoder.specs.Pending.{FewPendingZeros};
-ghost use Rattle.progressive_encoder.specs.Inner.{rule_of};
 
 mod classes;
 mod events;
 mod look;
 mod measure;
 mod numbers;
-mod rule;
+pub mod rule;
 mod store;
 pub mod writer;
 
-// What a writer of a pass answers: how many bytes of the SRL stream and of the raw stream it wrote, or a refusal.
-#[derive(Clone, Copy)]
-pub enum Written {
-    Bytes(usize, usize),
-    Refused(u8),
+use answer::Refusal;
+use rule::{FloorRule, SymmetricRule};
+
+// How many bytes of the SRL stream and of the raw stream a writer of a pass wrote.
+#[derive(Clone, Copy, Debug, PartialEq, Eq)]
+pub struct Written {
+    pub srl: usize,
+    pub raw: usize,
 }
 
 // Writes a pass by a rule: what brings a component from `prev_coefficients`, at the positions `prev`, nearer to `coefficients`, at the positions
 // `curr`. Nothing is stored before all of it is measured.
-fn encode_by(
+fn encode_by<R: rule::Rule>(
     coefficients: &[i16],
     prev_coefficients: &[i16],
     prev: [u8; 10],
     curr: [u8; 10],
     sign: &[i8],
     use_reduce_extrapolate: bool,
-    symmetric: bool,
     srl_out: &mut [u8],
     raw_out: &mut [u8],
-) -> Written
-    ensures { EncodesPass (rule_of symmetric) coefficients.now prev_coefficients.now prev curr sign.now
+) -> Result<Written, Refusal>
+    ensures { EncodesPass R.rule coefficients.now prev_coefficients.now prev curr sign.now
         use_reduce_extrapolate srl_out.old raw_out.old result srl_out.new raw_out.new }
 {
-    if coefficients.len() < bands::COEFFICIENTS_PER_COMPONENT {
-        return Written::Refused(answer::SLICE_TOO_SHORT);
-    }
-    if prev_coefficients.len() < bands::COEFFICIENTS_PER_COMPONENT {
-        return Written::Refused(answer::SLICE_TOO_SHORT);
-    }
-    if sign.len() < bands::COEFFICIENTS_PER_COMPONENT {
-        return Written::Refused(answer::SLICE_TOO_SHORT);
+    if coefficients.len() < bands::COEFFICIENTS_PER_COMPONENT
+        || prev_coefficients.len() < bands::COEFFICIENTS_PER_COMPONENT
+        || sign.len() < bands::COEFFICIENTS_PER_COMPONENT
+    {
+        return Err(Refusal::SliceTooShort);
     }
     if !upgrade_steps::positions::rows_ok(prev, curr) {
-        return Written::Refused(answer::OUT_OF_DOMAIN);
+        return Err(Refusal::OutOfDomain);
     }
-    writer::write_pass(
+    writer::write_pass::<R>(
         coefficients,
         prev_coefficients,
         prev,
         curr,
         sign,
         use_reduce_extrapolate,
-        symmetric,
         srl_out,
         raw_out,
     )
@@ -75,18 +72,17 @@ pub fn encode_upgrade_pass(
     use_reduce_extrapolate: bool,
     srl_out: &mut [u8],
     raw_out: &mut [u8],
-) -> Written
+) -> Result<Written, Refusal>
     ensures { EncodesPass floor_rule coefficients.now prev_coefficients.now prev curr sign.now
         use_reduce_extrapolate srl_out.old raw_out.old result srl_out.new raw_out.new }
 {
-    encode_by(
+    encode_by::<FloorRule>(
         coefficients,
         prev_coefficients,
         prev,
         curr,
         sign,
         use_reduce_extrapolate,
-        false,
         srl_out,
         raw_out,
     )
@@ -103,18 +99,17 @@ pub fn encode_upgrade_pass_symmetric(
     use_reduce_extrapolate: bool,
     srl_out: &mut [u8],
     raw_out: &mut [u8],
-) -> Written
+) -> Result<Written, Refusal>
     ensures { EncodesPass symmetric_rule coefficients.now prev_coefficients.now prev curr sign.now
         use_reduce_extrapolate srl_out.old raw_out.old result srl_out.new raw_out.new }
 {
-    encode_by(
+    encode_by::<SymmetricRule>(
         coefficients,
         prev_coefficients,
         prev,
         curr,
         sign,
         use_reduce_extrapolate,
-        true,
         srl_out,
         raw_out,
     )

@@ -1,9 +1,9 @@
 // How long both streams are, from the lists of a look. Nothing is stored.
-ghost use Rattle.std.specs.Prelude.{◌≡◌, ◌||◌, ◌+◌, ◌*◌, ◌≤◌, ◌<◌, ◌^◌, length, take};
+ghost use Rattle.std.specs.Prelude.{◌≡◌, ◌||◌, ◌+◌, ◌*◌, ◌≤◌, ◌<◌, ◌^◌, length};
 ghost use Rattle.srl_encoder.specs.Finish.{flush};
 ghost use Rattle.progressive_encoder.specs.Inner.{Lists, srl_length, number_bits, Event, Each, looked_by, MeasuresEvent, MeasuresEvents, FewFound, FoundAll, Roomy, MeasuresStreams};
 
-use crate::events;
+use crate::events::{self, Events};
 use crate::look::Found;
 
 // What some events take: how many bits, kp behind them, and whether a value is too large for its width.
@@ -34,67 +34,47 @@ fn measure_event(x: u64, done: EventsMeasured) -> EventsMeasured
     EventsMeasured {
         bits: done.bits + srl_encoder::encoder::planned_length(plan, m, width),
         kp: srl_rules::lowered(plan.kp),
-        too_large: either(done.too_large, most < m),
+        too_large: done.too_large | (most < m),
     }
 }
 
-fn either(a: bool, b: bool) -> bool
-    ensures { result ≡ (a || b) }
+// Some events.
+fn measure_events(events: &[u64]) -> EventsMeasured
+    requires { (length events.now ≤ 4096) × Each Event events.now }
+    ensures { MeasuresEvents events.now result }
 {
-    if a { true } else { b }
+    let mut done = EventsMeasured {
+        bits: 0,
+        kp: 8,
+        too_large: false,
+    };
+    for x in events {
+        done = measure_event(*x, done);
+    }
+    done
 }
 
-// The first `count` events. The loop keeps the parts of what is measured: a struct that went round it would be copied each time.
-fn measure_events(words: &[u64], count: usize) -> EventsMeasured
-    requires { (count ≤ 4096) × (count ≤ length words.now) × Each Event (take count words.now) }
-    ensures { MeasuresEvents (take count words.now) result }
-{
-    let mut bits: usize = 0;
-    let mut kp: u8 = 8;
-    let mut too_large = false;
-    let mut j: usize = 0;
-    while j < count {
-        let done = EventsMeasured {
-            bits,
-            kp,
-            too_large,
-        };
-        let next = measure_event(words[j], done);
-        bits = next.bits;
-        kp = next.kp;
-        too_large = next.too_large;
-        j += 1;
-    }
-    EventsMeasured {
-        bits,
-        kp,
-        too_large,
-    }
-}
-
-// How many bits the first `count` numbers take.
-fn number_bits(raws: &[u32], count: usize) -> usize
-    requires { (count ≤ 4096) × (count ≤ length raws.now) }
-    ensures { (result ≡ length (number_bits (take count raws.now))) × (result ≤ 65536 * count) }
+// How many bits some numbers take.
+fn number_bits(raws: &[u32]) -> usize
+    requires { length raws.now ≤ 4096 }
+    ensures { (result ≡ length (number_bits raws.now)) × (result ≤ 65536 * length raws.now) }
 {
     let mut bits: usize = 0;
-    let mut j: usize = 0;
-    while j < count {
-        bits += crate::numbers::width_of(raws[j]) as usize;
-        j += 1;
+    for x in raws {
+        bits += crate::numbers::width_of(*x) as usize;
     }
     bits
 }
 
 // How many bytes the SRL stream has: none where it has no value.
-fn srl_length(measured: EventsMeasured, found: Found) -> usize
-    requires { (measured.kp ≤ 80) × (found.events ≤ 4096) × (found.zeros ≤ 4096) × (measured.bits + 10000 < 2 ^ 64) }
-    ensures { result ≡ srl_length (found.events + found.zeros) (measured.bits + length (flush measured.kp found.zeros)) }
+fn srl_length(measured: EventsMeasured, events: Events) -> usize
+    requires { (measured.kp ≤ 80) × (events.count ≤ 4096) × (events.zeros ≤ 4096) × (measured.bits + 10000 < 2 ^ 64) }
+    ensures { result ≡ srl_length (events.count + events.zeros) (measured.bits + length (flush measured.kp events.zeros)) }
 {
-    if found.events + found.zeros == 0 {
+    if events.count + events.zeros == 0 {
         return 0;
     }
-    let n = srl_encoder::encoder::flush_length(measured.kp, found.zeros);
+    let n = srl_encoder::encoder::flush_length(measured.kp, events.zeros);
     (measured.bits + n + 7) / 8 + 1
 }
 
@@ -103,11 +83,11 @@ pub fn measure_lists(raws: &[u32], words: &[u64], found: Found) -> Lengths
     requires { Roomy raws.now words.now × FewFound (looked_by raws.now words.now found) 4096 }
     ensures { (l : Lists) → FoundAll l (looked_by raws.now words.now found) → MeasuresStreams l result }
 {
-    let measured = measure_events(words, found.events);
-    let raw = number_bits(raws, found.numbers);
+    let measured = measure_events(&words[..found.events.count]);
+    let raw = number_bits(&raws[..found.numbers]);
     Lengths {
         too_large: measured.too_large,
-        srl: srl_length(measured, found),
+        srl: srl_length(measured, found.events),
         raw: (raw + 7) / 8,
     }
 }

@@ -2,9 +2,10 @@
 // give one go into the list.
 ghost use Rattle.std.specs.Prelude.{◌≡◌, ◌+◌, ◌-◌, ◌*◌, ◌%◌, ◌^◌, ◌≤◌, List, ℤ, length};
 ghost use Rattle.upgrade_steps.specs.Inner.{band_step};
-ghost use Rattle.progressive_encoder.specs.Inner.{rule_of, Part, GoesOverBand, words_of, ListsNumbers, FewWords, Classed, Numbered, TakesNumbers, number_of, number_width_of};
+ghost use Rattle.progressive_encoder.specs.Inner.{Part, GoesOverBand, words_of, ListsNumbers, FewWords, Classed, Numbered, TakesNumbers, number_of, number_width_of};
 
-use crate::{classes, rule};
+use crate::classes;
+use crate::rule::Rule;
 
 // The low bits of a number.
 fn low_bits(m: u16, width: u8) -> u16
@@ -15,10 +16,9 @@ fn low_bits(m: u16, width: u8) -> u16
 }
 
 // The low bits of what each place would give. There is no branch, so the compiler does several places at a time.
-fn number_places(
+fn number_places<R: Rule>(
     coefficients: &[i16],
     prev_coefficients: &[i16],
-    symmetric: bool,
     t: upgrade_steps::BandStep,
     numbers: &mut [u16],
 )
@@ -26,14 +26,11 @@ fn number_places(
         × (length coefficients.now ≤ length numbers.old)
         × (t.width ≤ 15)
         × (t.position ≤ 15) }
-    ensures { Numbered (rule_of symmetric) (band_step t) coefficients.now prev_coefficients.now numbers.new }
+    ensures { Numbered R.rule (band_step t) coefficients.now prev_coefficients.now numbers.new }
 {
-    let floors = rule::by_floors(symmetric, t.bottom);
-    let mut i: usize = 0;
-    while i < coefficients.len() {
-        let m = rule::raw_number(floors, coefficients[i], prev_coefficients[i], t.position);
+    for i in 0..coefficients.len() {
+        let m = R::number(t.bottom, coefficients[i], prev_coefficients[i], t.position);
         numbers[i] = low_bits(m, t.width);
-        i += 1;
     }
 }
 
@@ -66,11 +63,9 @@ fn take_places(
         (words_of raws.old start) (words_of raws.new result) }
 {
     let mut n = start;
-    let mut i = from;
-    while i < to {
+    for i in from..to {
         raws[n] = number_word(numbers[i], t.width);
         n += (classes[i] % 2) as usize;
-        i += 1;
     }
     n
 }
@@ -117,20 +112,18 @@ fn take_all(
     ensures { TakesNumbers (band_step t) classes.now numbers.now 0 len
         (words_of raws.old start) (words_of raws.new result) }
 {
+    let eights = len / 8;
     let mut n = start;
-    let mut i: usize = 0;
-    while i + 8 <= len {
-        n = take_eight(classes, numbers, t, i, raws, n);
-        i += 8;
+    for k in 0..eights {
+        n = take_eight(classes, numbers, t, 8 * k, raws, n);
     }
-    take_places(classes, numbers, t, i, len, raws, n)
+    take_places(classes, numbers, t, 8 * eights, len, raws, n)
 }
 
 // The numbers of a band that is not skipped, whose places have these classes: how many are in the list then.
-pub fn list_numbers(
+pub fn list_numbers<R: Rule>(
     coefficients: &[i16],
     prev_coefficients: &[i16],
-    symmetric: bool,
     t: upgrade_steps::BandStep,
     classes: &[u8],
     raws: &mut [u32],
@@ -145,13 +138,13 @@ pub fn list_numbers(
         × (4096 ≤ length raws.old)
         × (start + length coefficients.now ≤ 4096) }
     ensures { (ss : List ℤ) → Part coefficients.now prev_coefficients.now ss
-        → Classed (rule_of symmetric) (band_step t) coefficients.now prev_coefficients.now ss classes.now
-        → GoesOverBand (rule_of symmetric) ListsNumbers FewWords (band_step t)
+        → Classed R.rule (band_step t) coefficients.now prev_coefficients.now ss classes.now
+        → GoesOverBand R.rule ListsNumbers FewWords (band_step t)
         coefficients.now prev_coefficients.now ss
         (words_of raws.old start) (words_of raws.new result) }
 {
     let mut numbers = [0u16; 1024];
-    number_places(coefficients, prev_coefficients, symmetric, t, &mut numbers);
+    number_places::<R>(coefficients, prev_coefficients, t, &mut numbers);
     take_all(classes, &numbers, t, coefficients.len(), raws, start)
 }
 

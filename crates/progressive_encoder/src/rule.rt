@@ -1,9 +1,81 @@
-// What a place gives for both streams, by the writer's rule: `symmetric` picks the rule. The flag does not change in a loop, so that a loop pays
-// nothing for it.
-ghost use Rattle.std.specs.Prelude.{◌≡◌, ◌&&◌, ◌≤◌, nat_abs};
+// What a place gives for both streams, by the writer's rule. A writer is generic over its rule, so that its loops pay nothing for the choice.
+ghost use Rattle.std.specs.Prelude.{◌≡◌, ◌≤◌, nat_abs};
 ghost use Rattle.fixed.specs.Fixed.{is_zero, with_sign};
-ghost use Rattle.progressive_encoder.specs.Encode.{srl_difference, raw_difference, floors_apart, cut_number};
-ghost use Rattle.progressive_encoder.specs.Inner.{rule_of};
+ghost use Rattle.progressive_encoder.specs.Encode.{Rule as PlaceRule, floor_rule, symmetric_rule, srl_difference, raw_difference, floors_apart};
+
+// A rule, by what it gives for a place with the coefficient `c` and the previous one `p`.
+pub trait Rule {
+    ghost rule: { PlaceRule };
+
+    // The magnitude of the value for the SRL stream. By the symmetric rule it may have sixteen bits.
+    fn value_magnitude(c: i16, p: i16, position: u8) -> u16
+        requires { position ≤ 15 }
+        ensures { result ≡ nat_abs (rule.value position c p) };
+
+    // Whether the value is negative. Of the value 0 either answer is right.
+    fn value_is_negative(c: i16, p: i16, position: u8) -> bool
+        ensures { rule.value position c p ≡ with_sign result (nat_abs (rule.value position c p)) };
+
+    // Whether the value is 0.
+    fn value_is_zero(c: i16, p: i16, position: u8) -> bool
+        requires { position ≤ 15 }
+        ensures { result ≡ is_zero (rule.value position c p) };
+
+    // The number for the raw stream, of which the low bits are written.
+    fn number(bottom: bool, c: i16, p: i16, position: u8) -> u16
+        requires { position ≤ 15 }
+        ensures { result ≡ rule.number bottom position c p };
+}
+
+// The source's rule: at a zero sign by floors, and elsewhere by magnitudes, in the bottom too.
+pub struct FloorRule;
+
+impl Rule for FloorRule {
+    ghost rule = { floor_rule };
+
+    fn value_magnitude(c: i16, p: i16, position: u8) -> u16 {
+        fixed::magnitude(srl_difference(c, p, position))
+    }
+
+    fn value_is_negative(c: i16, p: i16, position: u8) -> bool {
+        fixed::is_negative(srl_difference(c, p, position))
+    }
+
+    fn value_is_zero(c: i16, p: i16, position: u8) -> bool {
+        fixed::shift_right_floor(c, position) == fixed::shift_right_floor(p, position)
+    }
+
+    fn number(_bottom: bool, c: i16, p: i16, position: u8) -> u16 {
+        raw_difference(c, p, position)
+    }
+}
+
+// The rule that cuts a negative coefficient as its positive twin: at a zero sign the difference with its sign kept and its magnitude shifted, in the
+// bottom the difference of the floors.
+pub struct SymmetricRule;
+
+impl Rule for SymmetricRule {
+    ghost rule = { symmetric_rule };
+
+    fn value_magnitude(c: i16, p: i16, position: u8) -> u16 {
+        fixed::distance(c, p) >> position
+    }
+
+    fn value_is_negative(c: i16, p: i16, _position: u8) -> bool {
+        fixed::is_below(c, p)
+    }
+
+    fn value_is_zero(c: i16, p: i16, position: u8) -> bool {
+        fixed::distance(c, p) >> position == 0
+    }
+
+    fn number(bottom: bool, c: i16, p: i16, position: u8) -> u16 {
+        if bottom {
+            return floors_apart(c, p, position);
+        }
+        raw_difference(c, p, position)
+    }
+}
 
 // The value for the SRL stream by the source's rule.
 fn srl_difference(c: i16, p: i16, position: u8) -> i16
@@ -13,38 +85,6 @@ fn srl_difference(c: i16, p: i16, position: u8) -> i16
         fixed::shift_right_floor(c, position),
         fixed::shift_right_floor(p, position),
     )
-}
-
-// The magnitude of the value for the SRL stream. By the symmetric rule it may have sixteen bits.
-pub fn value_magnitude(symmetric: bool, c: i16, p: i16, position: u8) -> u16
-    requires { position ≤ 15 }
-    ensures { result ≡ nat_abs ((rule_of symmetric).value position c p) }
-{
-    if symmetric {
-        return fixed::distance(c, p) >> position;
-    }
-    fixed::magnitude(srl_difference(c, p, position))
-}
-
-// Whether the value is negative. Of the value 0 either answer is right.
-pub fn value_is_negative(symmetric: bool, c: i16, p: i16, position: u8) -> bool
-    ensures { (rule_of symmetric).value position c p ≡ with_sign result (nat_abs ((rule_of symmetric).value position c p)) }
-{
-    if symmetric {
-        return fixed::is_below(c, p);
-    }
-    fixed::is_negative(srl_difference(c, p, position))
-}
-
-// Whether the value is 0.
-pub fn value_is_zero(symmetric: bool, c: i16, p: i16, position: u8) -> bool
-    requires { position ≤ 15 }
-    ensures { result ≡ is_zero ((rule_of symmetric).value position c p) }
-{
-    if symmetric {
-        return fixed::distance(c, p) >> position == 0;
-    }
-    fixed::shift_right_floor(c, position) == fixed::shift_right_floor(p, position)
 }
 
 // How far the magnitudes are apart, shifted, if the first is larger.
@@ -67,22 +107,4 @@ fn floors_apart(c: i16, p: i16, position: u8) -> u16
         return 0;
     }
     fixed::distance(a, b)
-}
-
-// Whether numbers for the raw stream go by floors: in the bottom, by the symmetric rule.
-pub fn by_floors(symmetric: bool, bottom: bool) -> bool
-    ensures { result ≡ (symmetric && bottom) }
-{
-    if symmetric { bottom } else { false }
-}
-
-// The number for the raw stream, of which the low bits are written: by floors, or by magnitudes.
-pub fn raw_number(floors: bool, c: i16, p: i16, position: u8) -> u16
-    requires { position ≤ 15 }
-    ensures { result ≡ cut_number floors position c p }
-{
-    if floors {
-        return floors_apart(c, p, position);
-    }
-    raw_difference(c, p, position)
 }

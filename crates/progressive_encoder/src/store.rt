@@ -1,18 +1,15 @@
 // Both streams, stored from the lists of a look. The caller has measured them.
 ghost use Rattle.std.specs.Prelude.{◌≡◌, List, ℕ, ◌+◌, ◌^◌, ◌≤◌, ◌<◌, length, take};
 ghost use Rattle.bits.specs.Inner.{SoundWord};
-ghost use Rattle.srl_encoder.specs.Inner.{call_of};
-ghost use Rattle.progressive_encoder.specs.Inner.{Lists, number_bits, NumberWord, Event, Each, looked_by, FewFound, FoundAll, Roomy, StoresEvent, StoresEvents, StoresStreams, StoresRaw, StoresSrl};
+ghost use Rattle.progressive_encoder.specs.Inner.{Lists, number_bits, NumberWord, Event, Each, looked_by, FewFound, FoundAll, Roomy, fresh_sink, StoresEvent, StoresEvents, StoresStreams, StoresRaw, StoresSrl};
 
 use crate::look::Found;
 use crate::{Written, events, numbers};
+use bits::writer::WordWriter;
+use srl_encoder::encoder::CallState;
 
 // One event, stored behind what a writer has.
-fn store_event(
-    out: &mut [u8],
-    x: u64,
-    c: srl_encoder::encoder::CallState,
-) -> srl_encoder::encoder::CallState
+fn store_event(out: &mut [u8], x: u64, c: CallState) -> CallState
     requires { Event x × SoundWord c.sink × (c.kp ≤ 80) × (c.sink.at + 100000 < 2 ^ 64) }
     ensures { StoresEvent x out.old c result out.new }
 {
@@ -25,89 +22,66 @@ fn store_event(
         events::is_negative_of(x),
         events::width_of(x),
     );
-    srl_encoder::encoder::CallState {
+    CallState {
         sink,
         kp: srl_rules::lowered(plan.kp),
         zeros: c.zeros,
     }
 }
 
-fn state_of(at: usize, word: u64, held: u8, kp: u8, zeros: usize) -> srl_encoder::encoder::CallState
-    ensures { result ≡ call_of at word held kp zeros }
+// At the start of a stream.
+fn fresh_sink() -> WordWriter
+    ensures { result ≡ fresh_sink }
 {
-    srl_encoder::encoder::CallState {
-        sink: bits::writer::WordWriter { at, word, held },
-        kp,
-        zeros,
+    WordWriter {
+        at: 0,
+        word: 0,
+        held: 0,
     }
 }
 
-// The first `count` events; `zeros` are pending behind them. The loop keeps the writer's parts: a struct that went round it would be copied each time.
-fn store_events(
-    words: &[u64],
-    count: usize,
-    zeros: usize,
-    out: &mut [u8],
-) -> srl_encoder::encoder::CallState
-    requires { (count ≤ 4096) × (count ≤ length words.now) × Each Event (take count words.now) }
-    ensures { StoresEvents (take count words.now) out.old result zeros out.new }
+// Some events; `zeros` are pending behind them.
+fn store_events(events: &[u64], zeros: usize, out: &mut [u8]) -> CallState
+    requires { (length events.now ≤ 4096) × Each Event events.now }
+    ensures { StoresEvents events.now out.old result zeros out.new }
 {
-    let mut at: usize = 0;
-    let mut word: u64 = 0;
-    let mut held: u8 = 0;
-    let mut kp: u8 = 8;
-    let mut j: usize = 0;
-    while j < count {
-        let next = store_event(out, words[j], state_of(at, word, held, kp, zeros));
-        let k = next.sink;
-        at = k.at;
-        word = k.word;
-        held = k.held;
-        kp = next.kp;
-        j += 1;
+    let mut done = CallState {
+        sink: fresh_sink(),
+        kp: 8,
+        zeros,
+    };
+    for x in events {
+        done = store_event(out, *x, done);
     }
-    state_of(at, word, held, kp, zeros)
+    done
 }
 
 // The SRL stream: how many bytes it has. Without a value it has none.
 fn store_srl(words: &[u64], found: Found, out: &mut [u8]) -> usize
-    requires { (found.events ≤ 4096)
-        × (found.zeros ≤ 4096)
-        × (found.events ≤ length words.now)
-        × Each Event (take found.events words.now) }
+    requires { (found.events.count ≤ 4096)
+        × (found.events.zeros ≤ 4096)
+        × (found.events.count ≤ length words.now)
+        × Each Event (take found.events.count words.now) }
     ensures { (l : Lists) (raws : List ℕ) → FoundAll l (looked_by raws words.now found) → StoresSrl l out.old result out.new }
 {
-    if found.events + found.zeros == 0 {
+    if found.events.count + found.events.zeros == 0 {
         return 0;
     }
-    let c = store_events(words, found.events, found.zeros, out);
+    let c = store_events(&words[..found.events.count], found.events.zeros, out);
     srl_encoder::encoder::put_last(out, c)
 }
 
 // The raw stream: how many bytes it has.
-fn store_raw(raws: &[u32], count: usize, out: &mut [u8]) -> usize
-    requires { (count ≤ 4096) × (count ≤ length raws.now) × Each NumberWord (take count raws.now) }
-    ensures { StoresRaw (number_bits (take count raws.now)) out.old result out.new }
+fn store_raw(raws: &[u32], out: &mut [u8]) -> usize
+    requires { (length raws.now ≤ 4096) × Each NumberWord raws.now }
+    ensures { StoresRaw (number_bits raws.now) out.old result out.new }
 {
-    let mut at: usize = 0;
-    let mut word: u64 = 0;
-    let mut held: u8 = 0;
-    let mut j: usize = 0;
-    while j < count {
-        let x = raws[j];
-        let sink = bits::writer::WordWriter { at, word, held };
-        let k = bits::writer::put_word(
-            out,
-            sink,
-            numbers::number_of(x),
-            numbers::width_of(x) as u8,
-        );
-        at = k.at;
-        word = k.word;
-        held = k.held;
-        j += 1;
+    let mut sink = fresh_sink();
+    for x in raws {
+        let number = numbers::number_of(*x);
+        sink = bits::writer::put_word(out, sink, number, numbers::width_of(*x) as u8);
     }
-    bits::writer::end_words(out, bits::writer::WordWriter { at, word, held })
+    bits::writer::end_words(out, sink)
 }
 
 // Both streams, with room for both.
@@ -122,7 +96,7 @@ pub fn store_lists(
     ensures { (l : Lists) → FoundAll l (looked_by raws.now words.now found)
         → StoresStreams l srl_out.old raw_out.old result srl_out.new raw_out.new }
 {
-    let n = store_srl(words, found, srl_out);
-    let m = store_raw(raws, found.numbers, raw_out);
-    Written::Bytes(n, m)
+    let srl = store_srl(words, found, srl_out);
+    let raw = store_raw(&raws[..found.numbers], raw_out);
+    Written { srl, raw }
 }

@@ -6,27 +6,31 @@ use Prim.Native.Nat.{ℕ, zero, suc}
 use native.Mathlib.Omega.{arith}
 use Rattle.bands.specs.Bands.{bands_of}
 use Rattle.bands.specs.Positions.{row_in_domain, rows_in_domain}
-use Rattle.answer.specs.Refusals.{out_of_domain, unless, answered, unless_refused}
-use Rattle.answer.specs.declared.Answer.{Answer}
+use Rattle.std.specs.Prelude.{Option, None, Some}
+use Rattle.std.specs.Result.{result_err}
+use Rattle.answer.specs.Answers.{unless, answered, unless_refused}
+use Rattle.answer.specs.declared.Refusal.{Refusal}
+use Rattle.answer.specs.declared.Refusal.TheVariants.{OutOfDomain}
+use Rattle.answer.proofs.Refusing.{some_not_none}
 use Rattle.planes.specs.Planes.{component, row_of, joined, of, three}
 use Rattle.tile.specs.Tile.{upgraded, rows_refusal, upgrade_refusal}
 use Rattle.tile.specs.declared.TileState.{TileState}
 use Rattle.tile.proofs.Accepted.{by_rows}
 use Rattle.zero_signs.specs.ZeroSigns.{zero_signs_of}
 use Rattle.reach.specs.Component.{ComponentGains}
-use Rattle.reach.specs.Reach.{TileFits, Pass, Call, after_calls, answers_to, answers_by, passes_of, ThreeRows, AllRows, last_rows, Lower, NoRaise, last_of, Picture, picture_of, TileGains, ThreeStreams, AllStreams, Reached, Exact, ReachablePictures}
+use Rattle.reach.specs.Reach.{TileFits, Pass, Call, after_call, after_calls, answers_to, answers_by, passes_of, ThreeRows, AllRows, last_rows, Lower, NoRaise, last_of, Picture, picture_of, TileGains, ThreeStreams, AllStreams, Reached, Exact, ReachablePictures}
 use Rattle.reach.proofs.Tiles.{tile_refl, tile_same, step_fits, step_trans, step_whole, StreamsTo, Halfway, halfway}
 
 -- an accepted pass has its rows in the domain
-accepted_rows : (a b : Bool) → unless (a && b) out_of_domain ≡ 0 → a ≡ true
+accepted_rows : (a b : Bool) → unless (a && b) OutOfDomain ≡ None → a ≡ true
 accepted_rows true b e = refl
-accepted_rows false b e = absurd (omega (arith, e))
+accepted_rows false b e = absurd (some_not_none e)
 
 -- the tile that a call gives by its refusal, and its positions
-abbrev given : ℕ → TileState → Call → TileState
+abbrev given : Option Refusal → TileState → Call → TileState
 given n t k = unless_refused n (upgraded t k.srl_data k.raw_data k.pass.rows k.pass.quality) t
 
-abbrev positions_by : ℕ → TileState → Pass → List ℕ
+abbrev positions_by : Option Refusal → TileState → Pass → List ℕ
 positions_by n t o = unless_refused n (joined (of o.rows)) t.prog_quant
 
 -- ════ whatever the streams hold ════
@@ -39,24 +43,24 @@ pub record Holds (t : TileState) (last : List ℕ) (u : TileState) : Type 0 wher
 
 module _ (k : Call) (ks : List Call) {t : TileState} (f : TileFits t) (w : ThreeRows k.pass.rows)
     (ih : (u : TileState) → TileFits u → NoRaise u.base_quant u.prog_quant (passes_of ks) → Holds u (last_of u (passes_of ks)) (after_calls u ks)) where
-  always_step : (n : ℕ) → (n ≡ 0 → rows_in_domain k.pass.rows ≡ true) → (n ≡ 0 → Lower t.prog_quant (joined (of k.pass.rows)))
+  always_step : (n : Option Refusal) → (n ≡ None → rows_in_domain k.pass.rows ≡ true) → (n ≡ None → Lower t.prog_quant (joined (of k.pass.rows)))
       → NoRaise t.base_quant (positions_by n t k.pass) (passes_of ks)
       → Holds t (last_rows t.base_quant (positions_by n t k.pass) (passes_of ks)) (after_calls (given n t k) ks)
   unfolding upgraded
-  always_step zero d l r =
-      let u = given zero t k in
+  always_step None d l r =
+      let u = given None t k in
       let h = ih u (step_fits f k.pass w (l refl) (d refl) k.srl_data k.raw_data) r in
       record { kind = step_trans f k.pass w (l refl) k.srl_data k.raw_data (last_of u (passes_of ks)) (picture_of (after_calls u ks)) h.kind; positions = h.positions; fits = h.fits }
-  always_step (suc n) d l r = ih t f r
+  always_step (Some n) d l r = ih t f r
 
-refusal_rows : (positions quants : List ℕ) (o : Pass) → rows_refusal positions quants o.rows ≡ 0 → rows_in_domain o.rows ≡ true
+refusal_rows : (positions quants : List ℕ) (o : Pass) → rows_refusal positions quants o.rows ≡ None → rows_in_domain o.rows ≡ true
 refusal_rows positions quants o e = accepted_rows (rows_in_domain o.rows) (row_in_domain positions && row_in_domain quants) e
 
 always : (ks : List Call) (t : TileState) → TileFits t → AllRows (passes_of ks) → NoRaise t.base_quant t.prog_quant (passes_of ks) → Holds t (last_of t (passes_of ks)) (after_calls t ks)
 unfolding last_rows NoRaise after_calls
 always [] t f w n = record { kind = tile_refl f; positions = refl; fits = f }
 always (k ∷ ks) t f (AllRows.one w ws) n =
-    subst (λ (m : ℕ). Holds t (last_of t (passes_of (k ∷ ks))) (after_calls (given m t k) ks)) (sym (by_rows t f.numbers k.pass.rows))
+    subst (λ (m : Option Refusal). Holds t (last_of t (passes_of (k ∷ ks))) (after_calls (given m t k) ks)) (sym (by_rows t f.numbers k.pass.rows))
     (always_step k ks f w (λ u g r. always ks u g ws r) (rows_refusal t.prog_quant t.base_quant k.pass.rows)
     (refusal_rows t.prog_quant t.base_quant k.pass) n.0 n.1)
 
@@ -78,7 +82,7 @@ unfolding no_streams
 three_empty = record { three = refl; bytes = λ k h i. rw (nothing k) (omega arith); short = λ k h. rw (nothing k) (omega arith) }
 
 -- a first pass, and the rest
-record First (n : ℕ) (t : TileState) (o : Pass) (os : List Pass) (x : Picture) : Type 0 where
+record First (n : Option Refusal) (t : TileState) (o : Pass) (os : List Pass) (x : Picture) : Type 0 where
   srl_data : List (List ℕ)
   raw_data : List (List ℕ)
   srl : ThreeStreams srl_data
@@ -87,11 +91,11 @@ record First (n : ℕ) (t : TileState) (o : Pass) (os : List Pass) (x : Picture)
 
 module _ (o : Pass) (os : List Pass) {t : TileState} (f : TileFits t) (w : ThreeRows o.rows) (x : Picture)
     (ih : (u : TileState) → TileFits u → NoRaise u.base_quant u.prog_quant os → TileGains u (last_of u os) x → Reached u os x) where
-  whole_step : (n : ℕ) → (n ≡ 0 → rows_in_domain o.rows ≡ true) → (n ≡ 0 → Lower t.prog_quant (joined (of o.rows)))
+  whole_step : (n : Option Refusal) → (n ≡ None → rows_in_domain o.rows ≡ true) → (n ≡ None → Lower t.prog_quant (joined (of o.rows)))
       → NoRaise t.base_quant (positions_by n t o) os → TileGains t (last_rows t.base_quant (positions_by n t o) os) x → First n t o os x
   unfolding upgraded
-  whole_step (suc n) d l r g = record { srl_data = no_streams; raw_data = no_streams; srl = three_empty; raw = three_empty; rest = ih t f r g }
-  whole_step zero d l r g = record { srl_data = s.srl_data; raw_data = s.raw_data; srl = s.srl; raw = s.raw; rest = ih u (step_fits f o w (l refl) (d refl) s.srl_data s.raw_data) r here }
+  whole_step (Some n) d l r g = record { srl_data = no_streams; raw_data = no_streams; srl = three_empty; raw = three_empty; rest = ih t f r g }
+  whole_step None d l r g = record { srl_data = s.srl_data; raw_data = s.raw_data; srl = s.srl; raw = s.raw; rest = ih u (step_fits f o w (l refl) (d refl) s.srl_data s.raw_data) r here }
     where
       last : List ℕ
       last = last_rows t.base_quant (joined (of o.rows)) os
@@ -119,7 +123,7 @@ whole : (os : List Pass) (t : TileState) → TileFits t → AllRows os → (x : 
 unfolding last_rows NoRaise after_calls
 whole [] t f w x n g = record { calls = []; streams = AllStreams.none; same = refl; gives = tile_same f x g }
 whole (o ∷ os) t f (AllRows.one w ws) x n g =
-    join (subst (λ (m : ℕ). First m t o os x) (sym (by_rows t f.numbers o.rows))
+    join (subst (λ (m : Option Refusal). First m t o os x) (sym (by_rows t f.numbers o.rows))
     (whole_step o os f w x (λ u h r k. whole os u h ws x r k) (rows_refusal t.prog_quant t.base_quant o.rows)
     (refusal_rows t.prog_quant t.base_quant o) n.0 n.1 g))
   where
@@ -137,18 +141,24 @@ whole (o ∷ os) t f (AllRows.one w ws) x n g =
 abbrev pub Right : TileState → Type 0
 Right t = t.zero_signs ≡ zero_signs_of t.use_reduce_extrapolate t.sign
 
-answers_step : (n : ℕ) (k : Call) (ks : List Call) (t : TileState) → Right t → ((u : TileState) → Right u → answers_to u ks ≡ answers_by u.base_quant u.prog_quant (passes_of ks))
+answers_step : (n : Option Refusal) (k : Call) (ks : List Call) (t : TileState) → Right t → ((u : TileState) → Right u → answers_to u ks ≡ answers_by u.base_quant u.prog_quant (passes_of ks))
     → answers_to (given n t k) ks ≡ answers_by t.base_quant (positions_by n t k.pass) (passes_of ks)
 unfolding upgraded
-answers_step zero k ks t r ih = ih (given zero t k) refl
-answers_step (suc n) k ks t r ih = ih t r
+answers_step None k ks t r ih = ih (given None t k) refl
+answers_step (Some n) k ks t r ih = ih t r
+
+refused_by : {A : Type 0} (n : Option Refusal) (given : A) → result_err (answered n given) ≡ n
+refused_by None given = refl
+refused_by (Some n) given = refl
 
 pub answers : (ks : List Call) (t : TileState) → Right t → answers_to t ks ≡ answers_by t.base_quant t.prog_quant (passes_of ks)
 unfolding answers_to answers_by
 answers [] t r = refl
 answers (k ∷ ks) t r =
     let n = rows_refusal t.prog_quant t.base_quant k.pass.rows in
-    ap (λ (m : ℕ). answered m ∷ answers_to (given m t k) ks) (by_rows t r k.pass.rows) ∙ ap (λ (l : List Answer). answered n ∷ l) (answers_step n k ks t r (answers ks))
+    ap (λ (m : Option Refusal). m ∷ answers_to (after_call t k) ks) (refused_by (upgrade_refusal t k.pass.rows) _)
+    ∙ ap (λ (m : Option Refusal). m ∷ answers_to (given m t k) ks) (by_rows t r k.pass.rows)
+    ∙ ap (λ (l : List (Option Refusal)). n ∷ l) (answers_step n k ks t r (answers ks))
 
 -- ════ the theorem ════
 

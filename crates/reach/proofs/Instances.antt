@@ -14,7 +14,10 @@ use Rattle.bands.specs.Bands.{per_place, bands_of, is_bottom_band, position_of}
 use Rattle.bands.specs.Positions.{every, rows_in_domain}
 use Rattle.bands.proofs.Every.{both_true}
 use Rattle.bands.proofs.Spread.{place_whole, bands_whole, place_map, one_of_ten}
-use Rattle.answer.specs.Refusals.{slice_too_short, out_of_domain, unless, first_of, long_enough}
+use Rattle.std.specs.Prelude.{None}
+use Rattle.answer.specs.Answers.{unless, first_of, long_enough}
+use Rattle.answer.specs.declared.Refusal.TheVariants.{SliceTooShort, OutOfDomain}
+use Rattle.answer.proofs.Refusing.{some_not_none}
 use Rattle.planes.specs.Planes.{component, joined, of, taken}
 use Rattle.tile.specs.Tile.{fresh, loaded, load_refusal}
 use Rattle.planes.proofs.Joined.{three_of_lem, Long, joined_long, component_joined, row_joined}
@@ -29,16 +32,16 @@ use Rattle.reach.proofs.AnyList.{reachable_pictures_lem}
 
 -- ════ a loaded tile ════
 
-accepted_load : (a b c d : Bool) → first_of (unless (a && b) slice_too_short) (unless (c && d) out_of_domain) ≡ 0 → (c ≡ true) × (d ≡ true)
+accepted_load : (a b c d : Bool) → first_of (unless (a && b) SliceTooShort) (unless (c && d) OutOfDomain) ≡ None → (c ≡ true) × (d ≡ true)
 accepted_load true true c d e = by (c && d) refl e
   where
-    by : (z : Bool) → (c && d) ≡ z → unless z out_of_domain ≡ 0 → (c ≡ true) × (d ≡ true)
+    by : (z : Bool) → (c && d) ≡ z → unless z OutOfDomain ≡ None → (c ≡ true) × (d ≡ true)
     by true z e = both_true c d z
-    by false z e = absurd (omega (arith, e))
-accepted_load true false c d e = absurd (omega (arith, e))
-accepted_load false b c d e = absurd (omega (arith, e))
+    by false z e = absurd (some_not_none e)
+accepted_load true false c d e = absurd (some_not_none e)
+accepted_load false b c d e = absurd (some_not_none e)
 
-loaded_fits : (cs ss : List (List ℤ)) (rows quants : List (List ℕ)) (e : Bool) → ThreeRows rows → ThreeRows quants → load_refusal cs ss rows quants ≡ 0
+loaded_fits : (cs ss : List (List ℤ)) (rows quants : List (List ℕ)) (e : Bool) → ThreeRows rows → ThreeRows quants → load_refusal cs ss rows quants ≡ None
     → ((k : ℕ) → k < 3 → ComponentFits (bands_of e) (of rows k) (take 4096 (of cs k)) (take 4096 (of ss k)))
     → TileFits (loaded cs ss rows quants e)
 unfolding loaded
@@ -134,7 +137,7 @@ lower_at p q l j h = omega (arith, get_or-replicate 30 j p 0 h, get_or-replicate
 
 none_raised : (e : Bool) → NoRaise (dark e).base_quant (dark e).prog_quant sharpening
 unfolding NoRaise loaded
-none_raised e = (λ a. lower_at 3 2 (omega arith), ((λ a. absurd (omega (arith, a))), ((λ a. lower_at 2 1 (omega arith)), tt)))
+none_raised e = (λ a. lower_at 3 2 (omega arith), ((λ a. absurd (some_not_none a)), ((λ a. lower_at 2 1 (omega arith)), tt)))
 
 -- ════ and what they reach ════
 

@@ -13,7 +13,9 @@ use Rattle.bands.specs.Bands.{bands_of, is_bottom_band}
 use Rattle.bands.proofs.Spread.{bands_whole}
 use Rattle.upgrade_steps.specs.Steps.{Step, Source, skipped, srl, raw, source, source_of}
 use Rattle.progressive_decoder.specs.Upgrade.{sign_then, signs_after, srl_values, upgraded_signs}
-use Rattle.answer.specs.Refusals.{unless_refused}
+use Rattle.std.specs.Prelude.{Option, None, Some}
+use Rattle.answer.specs.Answers.{unless_refused}
+use Rattle.answer.specs.declared.Refusal.{Refusal}
 use Rattle.components.specs.Components.{steps_of, pass_signs}
 use Rattle.planes.specs.Planes.{component, of}
 use Rattle.tile.specs.Tile.{upgraded, upgrade_refusal}
@@ -90,9 +92,9 @@ upgraded_kept t h srl_data raw_data rows q = record {
     long : Long 4096 (λ k. upgraded_signs (steps_of e p rows k) (of srl_data k) (component k ss))
     long k l = signs_long (steps_of e p rows k) (component k ss) _ ∙ parts_long 4096 ss h k l
 
-call_kept : (n : ℕ) (t : TileState) → length t.sign ≡ 12288 → (c : Call) → KeptIn t (unless_refused n (upgraded t c.srl_data c.raw_data c.pass.rows c.pass.quality) t)
-call_kept zero t h c = upgraded_kept t h c.srl_data c.raw_data c.pass.rows c.pass.quality
-call_kept (suc n) t h c = record { long = h; kept = λ k i p e. refl }
+call_kept : (n : Option Refusal) (t : TileState) → length t.sign ≡ 12288 → (c : Call) → KeptIn t (unless_refused n (upgraded t c.srl_data c.raw_data c.pass.rows c.pass.quality) t)
+call_kept None t h c = upgraded_kept t h c.srl_data c.raw_data c.pass.rows c.pass.quality
+call_kept (Some n) t h c = record { long = h; kept = λ k i p e. refl }
 
 kept_trans : {t u v : TileState} → KeptIn t u → KeptIn u v → KeptIn t v
 kept_trans a b = record { long = b.long; kept = λ k i p e. b.kept k i p (λ z. e (sym (a.kept k i p e) ∙ z)) ∙ a.kept k i p e }

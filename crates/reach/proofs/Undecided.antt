@@ -3,7 +3,7 @@ use mathlib.Core.Path.{◌≡◌, refl, sym, ap, ap₂, ◌∙◌}
 use mathlib.Core.Logic.{◌≢◌}
 use mathlib.Core.Bool.{Bool, true, false, true≢false, cond, not, ◌&&◌}
 use mathlib.Core.List.{List, [], ◌∷◌, map}
-use Prim.Native.Nat.{ℕ, zero, suc, ◌+◌, ◌-◌, min, ◌≤◌, ◌<◌}
+use Prim.Native.Nat.{ℕ, suc, ◌+◌, ◌-◌, min, ◌≤◌, ◌<◌}
 use native.Mathlib.Decide.{dec_lt}
 use native.Mathlib.Omega.{arith}
 use lib.Dec.{T, eqb→eq}
@@ -16,7 +16,11 @@ use Rattle.bands.proofs.Spread.{bands_whole}
 use Rattle.bands.specs.Positions.{every, row_in_domain, rows_in_domain}
 use Rattle.bands.specs.declared.BandInfo.{BandInfo}
 use Rattle.bands.proofs.Laid.{laid, layout_laid, first, rest, ordered}
-use Rattle.answer.specs.Refusals.{out_of_domain, unless, answered, unless_refused}
+use Rattle.std.specs.Prelude.{Option, None, Some}
+use Rattle.answer.specs.Answers.{unless, unless_refused}
+use Rattle.answer.specs.declared.Refusal.{Refusal}
+use Rattle.answer.specs.declared.Refusal.TheVariants.{OutOfDomain}
+use Rattle.answer.proofs.Refusing.{some_not_none}
 use Rattle.planes.specs.Planes.{component, row_of, joined, of, taken}
 use Rattle.planes.proofs.Joined.{row_joined, parts_long}
 use Rattle.zero_signs.specs.ZeroSigns.{zeros_in, signs_in, band_zeros, zero_signs_of}
@@ -140,7 +144,7 @@ module _ (t u : TileState) (same : u.use_reduce_extrapolate ≡ t.use_reduce_ext
         ∙ ap (λ (n : ℕ). n + set_in (component k t.sign) (component k u.sign)) (sym (ap total (row_u k h) ∙ sum_whole e (component k u.sign) (long_u k h)));
   }
 
-upgraded_falls : (t : TileState) → length t.sign ≡ 12288 → (k : Call) → upgrade_refusal t k.pass.rows ≡ 0 → Falls t (upgraded t k.srl_data k.raw_data k.pass.rows k.pass.quality)
+upgraded_falls : (t : TileState) → length t.sign ≡ 12288 → (k : Call) → upgrade_refusal t k.pass.rows ≡ None → Falls t (upgraded t k.srl_data k.raw_data k.pass.rows k.pass.quality)
 unfolding upgraded
 upgraded_falls t long k a =
     let u = upgraded t k.srl_data k.raw_data k.pass.rows k.pass.quality in
@@ -152,17 +156,17 @@ upgraded_falls t long k a =
     upgraded_right : (t : TileState) (k : Call) → Right (upgraded t k.srl_data k.raw_data k.pass.rows k.pass.quality)
     upgraded_right t k = refl
 
-call_falls : (t : TileState) → length t.sign ≡ 12288 → (k : Call) → upgrade_refusal t k.pass.rows ≡ 0 → Falls t (after_call t k)
+call_falls : (t : TileState) → length t.sign ≡ 12288 → (k : Call) → upgrade_refusal t k.pass.rows ≡ None → Falls t (after_call t k)
 call_falls t long k a = by (upgrade_refusal t k.pass.rows) a
   where
-    by : (n : ℕ) → n ≡ 0 → Falls t (unless_refused n (upgraded t k.srl_data k.raw_data k.pass.rows k.pass.quality) t)
-    by zero d = upgraded_falls t long k a
-    by (suc n) d = absurd (omega (arith, d))
+    by : (n : Option Refusal) → n ≡ None → Falls t (unless_refused n (upgraded t k.srl_data k.raw_data k.pass.rows k.pass.quality) t)
+    by None d = upgraded_falls t long k a
+    by (Some n) d = absurd (some_not_none d)
 
 -- ════ no refusal 8 ════
 
 -- the rows alone give 2 or none
-not_eight : (low : Bool) → is_not_eight (answered (unless low out_of_domain)) ≡ true
+not_eight : (low : Bool) → is_not_eight (unless low OutOfDomain) ≡ true
 not_eight true = refl
 not_eight false = refl
 

@@ -1,5 +1,5 @@
 -- What a member would ask of the theorem: that fitting lasts, that no sign is lost, and that its hypotheses are met by real tiles.
-use Rattle.std.specs.Prelude.{◌≡◌, ◌≢◌, ◌⊎◌, ◌↔◌, Bool, false, cond, List, [], ◌∷◌, ℕ, ◌<◌, ℤ, pos, negsuc, get_or, length, replicate, take}
+use Rattle.std.specs.Prelude.{◌≡◌, ◌≢◌, ◌⊎◌, ◌↔◌, Bool, false, cond, List, [], ◌∷◌, ℕ, ◌<◌, ℤ, pos, negsuc, get_or, length, replicate, take, None}
 use Rattle.fixed.specs.Fixed.{sign_of}
 use Rattle.bands.specs.Bands.{per_place, bands_of, is_bottom_band}
 use Rattle.planes.specs.Planes.{component, joined, three, of}
@@ -78,7 +78,7 @@ pub record HypothesesMet : Type 0 where
   -- the fresh tile fits
   pub fresh_fits : TileFits fresh
   -- so does every loaded tile of which the components that were loaded fit their rows
-  pub loaded_fits : (cs ss : List (List ℤ)) (rows quants : List (List ℕ)) (e : Bool) → ThreeRows rows → ThreeRows quants → load_refusal cs ss rows quants ≡ 0
+  pub loaded_fits : (cs ss : List (List ℤ)) (rows quants : List (List ℕ)) (e : Bool) → ThreeRows rows → ThreeRows quants → load_refusal cs ss rows quants ≡ None
       → ((k : ℕ) → k < 3 → ComponentFits (bands_of e) (of rows k) (take 4096 (of cs k)) (take 4096 (of ss k)))
       → TileFits (loaded cs ss rows quants e)
   -- one of these, in either layout, with a list of passes, one of them refused

@@ -1,13 +1,14 @@
 -- What any list of passes can make of a tile that fits: the statement (docs/SCOPE.md, "What any list of passes can reach"; docs/REACH.md explains it line by line).
--- A pass is a call of `decode_upgrade`; `decode_upgrade` is the definition that its contract cites.
-use Rattle.std.specs.Prelude.{◌≡◌, ◌↔◌, true, List, [], ◌∷◌, map, ℕ, ◌^◌, ◌≤◌, ◌<◌, ℤ, get_or, length}
+-- A pass is a call of `decode_upgrade`; `upgrade_answer` and `upgraded_tile` are the definitions that its contract cites.
+use Rattle.std.specs.Prelude.{◌≡◌, ◌↔◌, true, List, [], ◌∷◌, map, ℕ, ◌^◌, ◌≤◌, ◌<◌, ℤ, get_or, length, Option, None}
+use Rattle.std.specs.Result.{result_err}
 use Rattle.bands.specs.Bands.{bands_of}
 use Rattle.bands.specs.Positions.{row_in_domain}
-use Rattle.answer.specs.Refusals.{answered, unless_refused}
-use Rattle.answer.specs.declared.Answer.{Answer}
+use Rattle.answer.specs.Answers.{unless_refused}
+use Rattle.answer.specs.declared.Refusal.{Refusal}
 use Rattle.zero_signs.specs.ZeroSigns.{zero_signs_of}
 use Rattle.planes.specs.Planes.{component, row_of, joined, of}
-use Rattle.tile.specs.Tile.{rows_refusal, decode_upgrade}
+use Rattle.tile.specs.Tile.{rows_refusal, upgrade_answer, upgraded_tile}
 use Rattle.tile.specs.declared.TileState.{TileState}
 use Rattle.fitting.specs.Component.{ComponentFits}
 use Rattle.reach.specs.Component.{ComponentGains}
@@ -41,17 +42,17 @@ pub record Call : Type 0 where
 
 -- the tile after a call: "an accepted pass gives the tile that the definition says, a refused one the tile handed in"
 abbrev pub after_call : TileState → Call → TileState
-after_call t k = (decode_upgrade t k.srl_data k.raw_data k.pass.rows k.pass.quality).tile
+after_call t k = upgraded_tile t k.srl_data k.raw_data k.pass.rows k.pass.quality
 
 -- after some calls: "the next pass gets that tile"
 unfoldable pub after_calls : TileState → List Call → TileState
 after_calls t [] = t
 after_calls t (k ∷ ks) = after_calls (after_call t k) ks
 
--- what each call answers
-unfoldable pub answers_to : TileState → List Call → List Answer
+-- the refusal that each call answers, if any
+unfoldable pub answers_to : TileState → List Call → List (Option Refusal)
 answers_to t [] = []
-answers_to t (k ∷ ks) = (decode_upgrade t k.srl_data k.raw_data k.pass.rows k.pass.quality).answer ∷ answers_to (after_call t k) ks
+answers_to t (k ∷ ks) = result_err (upgrade_answer t k.srl_data k.raw_data k.pass.rows) ∷ answers_to (after_call t k) ks
 
 -- the passes of some calls
 abbrev pub passes_of : List Call → List Pass
@@ -78,10 +79,10 @@ unfoldable pub last_rows : List ℕ → List ℕ → List Pass → List ℕ
 last_rows quants positions [] = positions
 last_rows quants positions (o ∷ os) = last_rows quants (rows_then quants positions o) os
 
--- what each pass answers, by the rows alone
-unfoldable pub answers_by : List ℕ → List ℕ → List Pass → List Answer
+-- the refusal that each pass answers, by the rows alone
+unfoldable pub answers_by : List ℕ → List ℕ → List Pass → List (Option Refusal)
 answers_by quants positions [] = []
-answers_by quants positions (o ∷ os) = answered (rows_refusal positions quants o.rows) ∷ answers_by quants (rows_then quants positions o) os
+answers_by quants positions (o ∷ os) = rows_refusal positions quants o.rows ∷ answers_by quants (rows_then quants positions o) os
 
 -- no position of q is above that of p, "for the same band and component"
 abbrev pub Lower : List ℕ → List ℕ → Type 0
@@ -91,7 +92,7 @@ Lower p q = (j : ℕ) → j < 30 → get_or q j 0 ≤ get_or p j 0
 unfoldable pub NoRaise : List ℕ → List ℕ → List Pass → Type 0
 NoRaise quants positions [] = Unit {0}
 NoRaise quants positions (o ∷ os) =
-    (rows_refusal positions quants o.rows ≡ 0 → Lower positions (joined (of o.rows))) × NoRaise quants (rows_then quants positions o) os
+    (rows_refusal positions quants o.rows ≡ None → Lower positions (joined (of o.rows))) × NoRaise quants (rows_then quants positions o) os
 
 -- the last positions of a list of passes from a tile on
 abbrev pub last_of : TileState → List Pass → List ℕ

@@ -1,10 +1,10 @@
 -- What the numbers of zero signs tell whoever waits for a picture (docs/SCOPE.md, "Zero signs").
-use Rattle.std.specs.Prelude.{◌≡◌, Bool, true, false, cond, not, ◌&&◌, List, [], ◌∷◌, map, ℕ, ◌+◌, ◌≤◌, ◌<◌, eqb, ℤ, pos, get_or, length, replicate}
+use Rattle.std.specs.Prelude.{◌≡◌, Bool, true, false, cond, not, ◌&&◌, List, [], ◌∷◌, map, ℕ, ◌+◌, ◌≤◌, ◌<◌, eqb, ℤ, pos, get_or, length, replicate, Option, None}
 use Rattle.fixed.specs.Fixed.{is_zero}
 use Rattle.bands.specs.Bands.{layout, count_of, band_at}
 use Rattle.bands.specs.Positions.{every}
-use Rattle.answer.specs.Refusals.{impossible_state, number_of}
-use Rattle.answer.specs.declared.Answer.{Answer}
+use Rattle.answer.specs.Answers.{number}
+use Rattle.answer.specs.declared.Refusal.{Refusal}
 use Rattle.planes.specs.Planes.{component, row_of, joined}
 use Rattle.zero_signs.specs.ZeroSigns.{signs_in}
 use Rattle.tile.specs.Tile.{fresh, upgrade_refusal}
@@ -65,12 +65,12 @@ pub record TrueZeros (e : Bool) : Type 0 where
 -- ════ the theorem ════
 
 -- no answer is refusal 8
-abbrev pub is_not_eight : Answer → Bool
-is_not_eight a = not (eqb (number_of a) impossible_state)
+abbrev pub is_not_eight : Option Refusal → Bool
+is_not_eight a = not (eqb (number a) 8)
 
 pub record UndecidedFalls : Type 0 where
   -- of every tile whose array of signs is as long as its type says, by any accepted pass with any streams
-  pub falls : (t : TileState) → length t.sign ≡ 12288 → (k : Call) → upgrade_refusal t k.pass.rows ≡ 0 → Falls t (after_call t k)
+  pub falls : (t : TileState) → length t.sign ≡ 12288 → (k : Call) → upgrade_refusal t k.pass.rows ≡ None → Falls t (after_call t k)
   -- "in a list of passes from a tile that fits, 8 never occurs"
   pub never_eight : (t : TileState) → TileFits t → (ks : List Call) → every is_not_eight (answers_to t ks) ≡ true
   -- the fresh tile has "every count of the standard layout"

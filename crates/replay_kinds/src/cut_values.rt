@@ -3,7 +3,5 @@ use crate::srl_exhaustive;
 
 // A digest with 4,096 values of 15 bits of a stream more.
 pub fn with_values(digest: u64, src: &[u8]) -> u64 {
-    let mut out = [0i16; 4096];
-    let answer = srl_decoder::decode(src, srl_decoder::SrlState::new(), &mut out, 4096, 15);
-    srl_exhaustive::with_answer(digest, &out, answer)
+    srl_exhaustive::with_decoded(digest, src, &mut [0; 4096], 4096, 15)
 }

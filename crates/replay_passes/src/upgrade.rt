@@ -2,38 +2,32 @@
 // dequantized.
 ghost use Rattle.std.specs.Prelude.{◌≤◌};
 
-use replay_input::{component, digests, number, outputs};
+use answer::Refusal;
+use progressive_decoder::MissingBits;
+use progressive_encoder::Written;
+use replay_input::component::Component;
+use replay_input::{digests, number, outputs};
 
-// The number of an answer, 0 where there is no refusal.
-pub fn refusal(answer: answer::Answer) -> u8 {
-    match answer {
-        answer::Answer::Accepted => 0,
-        answer::Answer::Refused(k) => k,
-    }
-}
+pub const NONE_MISSING: MissingBits = MissingBits { srl: 0, raw: 0 };
 
 // The coefficients and the signs as one number.
-pub fn digest(befores: &[i16], signs: &[i8]) -> u64 {
-    let d = digests::with_values(0, befores, befores.len());
-    digests::with_signs(d, signs)
+pub fn digest(coefficients: &[i16], signs: &[i8]) -> u64 {
+    digests::with(digests::with(0, coefficients), signs)
 }
 
 // How many elements a case lends of a list: the number at a place, and no more than there are.
 fn lent(c: &[u8], at: usize, most: usize) -> usize
-    requires { at ≤ 1048576 }
     ensures { result ≤ most }
 {
-    number::at_most(number::u16_at(c, at) as usize, most)
+    usize::from(number::u16_at(c, at)).min(most)
 }
 
-// Whether the bits that were missing are as many as the numbers at a place say.
-pub fn same_missing(c: &[u8], at: usize, missing: progressive_decoder::MissingBits) -> bool
-    requires { at ≤ 1048576 }
-{
-    if missing.srl != number::u32_at(c, at) {
-        return false;
+// The counts of missing bits in the first 8 bytes.
+pub fn missing_of(c: &[u8]) -> MissingBits {
+    MissingBits {
+        srl: number::u32_at(c, 0),
+        raw: number::u32_at(c, 4),
     }
-    missing.raw == number::u32_at(c, at + 4)
 }
 
 // Reads a pass into the elements that the case lends.
@@ -41,11 +35,11 @@ fn read(
     c: &[u8],
     srl_data: &[u8],
     raw_data: &[u8],
-    befores: &mut [i16],
-    signs: &mut [i8],
-) -> progressive_decoder::PassDecoded {
-    let n = lent(c, 35, befores.len());
-    let m = lent(c, 37, signs.len());
+    befores: &mut [i16; 4352],
+    signs: &mut [i8; 4352],
+) -> Result<MissingBits, Refusal> {
+    let n = lent(c, 35, 4352);
+    let m = lent(c, 37, 4352);
     progressive_decoder::decode_upgrade_pass(
         srl_data,
         raw_data,
@@ -59,56 +53,39 @@ fn read(
 
 // Kind 36: whether the port agrees with a case.
 pub fn decode_agrees(c: &[u8]) -> bool {
-    let from: usize = 60;
-    let middle = from + number::u16_at(c, 39) as usize;
-    let to = middle + number::u16_at(c, 41) as usize;
-    if to != c.len() {
+    let srl_len = usize::from(number::u16_at(c, 39));
+    let raw_len = usize::from(number::u16_at(c, 41));
+    if c.len() != 60 + srl_len + raw_len {
         return false;
     }
-    let mut targets = [0i16; 4352];
-    let mut befores = [0i16; 4352];
-    let mut signs = [0i8; 4352];
-    component::fill(c, &mut targets, &mut befores, &mut signs);
-    let done = read(
-        c,
-        &c[from..middle],
-        &c[middle..to],
-        &mut befores,
-        &mut signs,
-    );
-    let answer = done.answer;
-    let missing = done.missing;
-    if refusal(answer) != number::u8_at(c, 43) {
-        return false;
-    }
-    if !same_missing(c, 52, missing) {
-        return false;
-    }
-    digest(&befores, &signs) == number::u64_at(c, 44)
+    let (srl_data, raw_data) = c[60..].split_at(srl_len);
+    let mut made = Component::of_case(c);
+    let answer = read(c, srl_data, raw_data, &mut made.befores, &mut made.signs);
+    number::u8_at(c, 43) == outputs::refusal(answer)
+        && answer.unwrap_or(NONE_MISSING) == missing_of(&c[52..])
+        && digest(&made.befores, &made.signs) == number::u64_at(c, 44)
 }
 
 // Writes a pass from the elements that the case lends into the bytes that it lends.
 fn write(
     symmetric: bool,
     c: &[u8],
-    targets: &[i16],
-    befores: &[i16],
-    signs: &[i8],
-    srl_out: &mut [u8],
-    raw_out: &mut [u8],
-) -> pass_by_rule::Counts {
-    let l = lent(c, 33, targets.len());
-    let n = lent(c, 35, befores.len());
-    let m = lent(c, 37, signs.len());
-    let srl_room = lent(c, 39, srl_out.len());
-    let raw_room = lent(c, 41, raw_out.len());
+    made: &Component,
+    srl_out: &mut [u8; 16384],
+    raw_out: &mut [u8; 16384],
+) -> Result<Written, Refusal> {
+    let l = lent(c, 33, 4352);
+    let n = lent(c, 35, 4352);
+    let m = lent(c, 37, 4352);
+    let srl_room = lent(c, 39, 16384);
+    let raw_room = lent(c, 41, 16384);
     pass_by_rule::write(
         symmetric,
-        &targets[..l],
-        &befores[..n],
+        &made.targets[..l],
+        &made.befores[..n],
         number::row_at(c, 13),
         number::row_at(c, 23),
-        &signs[..m],
+        &made.signs[..m],
         number::flag_at(c, 12),
         &mut srl_out[..srl_room],
         &mut raw_out[..raw_room],
@@ -116,55 +93,42 @@ fn write(
 }
 
 // Whether the coefficients and signs, and the bits that were missing, are the recorded ones after what was written is read back.
-fn same_read(
-    c: &[u8],
-    missing: progressive_decoder::MissingBits,
-    befores: &[i16],
-    signs: &[i8],
-) -> bool {
-    if !same_missing(c, 64, missing) {
-        return false;
-    }
-    digest(befores, signs) == number::u64_at(c, 56)
+fn same_read(c: &[u8], missing: MissingBits, made: &Component) -> bool {
+    missing == missing_of(number::tail(c, 64))
+        && digest(&made.befores, &made.signs) == number::u64_at(c, 56)
 }
 
-// Reads the streams, of some bytes, back, and compares.
+// Reads what was written back, and compares.
 fn read_back_agrees(
     c: &[u8],
-    srl: usize,
+    written: Written,
     srl_out: &[u8],
-    raw: usize,
     raw_out: &[u8],
-    befores: &mut [i16],
-    signs: &mut [i8],
+    mut made: Component,
 ) -> bool {
-    if srl > srl_out.len() {
+    if written.srl > srl_out.len() || written.raw > raw_out.len() {
         return false;
     }
-    if raw > raw_out.len() {
-        return false;
+    let srl_data = &srl_out[..written.srl];
+    let raw_data = &raw_out[..written.raw];
+    match read(c, srl_data, raw_data, &mut made.befores, &mut made.signs) {
+        Ok(missing) => same_read(c, missing, &made),
+        Err(_) => false,
     }
-    let done = read(c, &srl_out[..srl], &raw_out[..raw], befores, signs);
-    let answer = done.answer;
-    let missing = done.missing;
-    if refusal(answer) != 0 {
-        return false;
-    }
-    same_read(c, missing, befores, signs)
 }
 
 // Whether an answer and both outputs are the recorded ones.
-fn same_written(c: &[u8], counts: pass_by_rule::Counts, srl_out: &[u8], raw_out: &[u8]) -> bool {
-    if counts.refusal != number::u8_at(c, 43) {
-        return false;
-    }
-    if counts.srl != number::u16_at(c, 44) as usize {
-        return false;
-    }
-    if counts.raw != number::u16_at(c, 46) as usize {
-        return false;
-    }
-    digests::with_bytes(digests::with_bytes(0, srl_out), raw_out) == number::u64_at(c, 48)
+fn same_written(
+    c: &[u8],
+    answer: Result<Written, Refusal>,
+    srl_out: &[u8],
+    raw_out: &[u8],
+) -> bool {
+    let written = answer.unwrap_or(Written { srl: 0, raw: 0 });
+    number::u8_at(c, 43) == outputs::refusal(answer)
+        && usize::from(number::u16_at(c, 44)) == written.srl
+        && usize::from(number::u16_at(c, 46)) == written.raw
+        && digests::with(digests::with(0, srl_out), raw_out) == number::u64_at(c, 48)
 }
 
 // Kinds 37 and 47, which is by the symmetric rule: whether the port agrees with a case. A pass that is written is read back.
@@ -172,62 +136,29 @@ pub fn encode_agrees(symmetric: bool, c: &[u8]) -> bool {
     if c.len() != 72 {
         return false;
     }
-    let mut targets = [0i16; 4352];
-    let mut befores = [0i16; 4352];
-    let mut signs = [0i8; 4352];
-    component::fill(c, &mut targets, &mut befores, &mut signs);
+    let made = Component::of_case(c);
     let mut srl_out = [0u8; 16384];
     let mut raw_out = [0u8; 16384];
     outputs::fill(&mut srl_out);
     outputs::fill(&mut raw_out);
-    let done = write(
-        symmetric,
-        c,
-        &targets,
-        &befores,
-        &signs,
-        &mut srl_out,
-        &mut raw_out,
-    );
-    if !same_written(c, done, &srl_out, &raw_out) {
-        return false;
-    }
-    if done.refusal != 0 {
-        let none = progressive_decoder::MissingBits { srl: 0, raw: 0 };
-        return same_read(c, none, &befores, &signs);
-    }
-    read_back_agrees(
-        c,
-        done.srl,
-        &srl_out,
-        done.raw,
-        &raw_out,
-        &mut befores,
-        &mut signs,
-    )
+    let answer = write(symmetric, c, &made, &mut srl_out, &mut raw_out);
+    same_written(c, answer, &srl_out, &raw_out)
+        && match answer {
+            Ok(written) => read_back_agrees(c, written, &srl_out, &raw_out, made),
+            Err(_) => same_read(c, NONE_MISSING, &made),
+        }
 }
 
-// Dequantizes the elements that the case lends: the refusal.
-fn dequantize(c: &[u8], targets: &mut [i16]) -> u8 {
-    let n = lent(c, 33, targets.len());
-    refusal(dequantizer::dequantize_component_ccq(
-        &mut targets[..n],
-        number::row_at(c, 23),
-        number::flag_at(c, 12),
-    ))
-}
-
-// Kind 38: whether the port agrees with a case.
+// Kind 38: whether the port agrees with a case, which lends some elements.
 pub fn dequantize_agrees(c: &[u8]) -> bool {
     if c.len() != 48 {
         return false;
     }
-    let mut targets = [0i16; 4352];
-    let mut befores = [0i16; 4352];
-    let mut signs = [0i8; 4352];
-    component::fill(c, &mut targets, &mut befores, &mut signs);
-    if dequantize(c, &mut targets) != number::u8_at(c, 39) {
-        return false;
-    }
-    digests::with_values(0, &targets, 4352) == number::u64_at(c, 40)
+    let mut targets = Component::of_case(c).targets;
+    let n = lent(c, 33, 4352);
+    let quant = number::row_at(c, 23);
+    let extrapolate = number::flag_at(c, 12);
+    let answer = dequantizer::dequantize_component_ccq(&mut targets[..n], quant, extrapolate);
+    number::u8_at(c, 39) == outputs::refusal(answer)
+        && digests::with(0, &targets) == number::u64_at(c, 40)
 }

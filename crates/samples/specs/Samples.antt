@@ -1,14 +1,14 @@
 -- Bench samples: what the definitions that the promises cite give, as tables, one for each kind of call. `samples::bench_samples` proves them.
-use Rattle.std.specs.Prelude.{◌≡◌, Bool, true, false, cond, List, [], ◌∷◌, ◌++◌, map, ℕ, ◌≤◌, ℤ, pos, negsuc, length, replicate, take, drop}
-use Rattle.answer.specs.Refusals.{number_of}
+use Rattle.std.specs.Prelude.{◌≡◌, Bool, true, false, cond, List, [], ◌∷◌, ◌++◌, map, ℕ, ◌≤◌, ℤ, pos, negsuc, length, replicate, take, drop, Result}
+use Rattle.answer.specs.Answers.{number, number_of_answer}
+use Rattle.answer.specs.declared.Refusal.{Refusal}
 use Rattle.srl_decoder.specs.Turns.{values_turns}
 use Rattle.srl_decoder.specs.Decode.{start_state, opened, decode_answer, decode_out, decoded_number, decoded_count, decoded_missing}
 use Rattle.srl_decoder.specs.declared.SrlState.{SrlState}
 use Rattle.srl_decoder.specs.declared.Decoded.{Decoded}
-use Rattle.srl_encoder.specs.Encode.{fresh_writer, encode_answer, encode_out, encoded_count, encoded_state}
+use Rattle.srl_encoder.specs.Encode.{fresh_writer, encode_answer, encode_state, encode_out, encoded_count}
 use Rattle.srl_encoder.specs.Finish.{finish_answer, finish_out, finished_count}
-use Rattle.srl_encoder.specs.declared.Encoded.{Encoded}
-use Rattle.srl_encoder.specs.declared.Finished.{Finished}
+use Rattle.srl_encoder.specs.declared.SrlWriter.{SrlWriter}
 use Rattle.progressive_decoder.specs.Upgrade.{decode_pass_answer, decode_coefficients, decode_signs, missing_bits, decode_missing}
 use Rattle.progressive_decoder.specs.declared.MissingBits.{MissingBits}
 use Rattle.progressive_encoder.specs.Encode.{floor_rule, srl_difference, encode_pass_refusal}
@@ -39,18 +39,22 @@ abbrev pub two : List ℕ
 two = 0xee ∷ 0xee ∷ []
 
 -- what `encode` answers
-abbrev pub begun : SrlWritten → Encoded
+abbrev pub begun : SrlWritten → Result ℕ Refusal
 begun s = encode_answer fresh_writer s.given 2 s.width
 
+-- the state that it leaves
+abbrev pub left : SrlWritten → SrlWriter
+left s = encode_state fresh_writer s.given 2 s.width
+
 -- what `finish` answers then
-abbrev pub ended : SrlWritten → Finished
-ended s = finish_answer (encoded_state (begun s)) 2
+abbrev pub ended : SrlWritten → Result ℕ Refusal
+ended s = finish_answer (left s) 2
 
 -- the bytes that both have counted, of what each has stored
 abbrev pub written_as : SrlWritten → List ℕ
 written_as s =
     take (encoded_count (begun s)) (encode_out fresh_writer s.given two s.width)
-    ++ take (finished_count (ended s)) (finish_out (encoded_state (begun s)) two)
+    ++ take (finished_count (ended s)) (finish_out (left s) two)
 
 -- ════ SRL, read: one call of `decode` from a bit of the first byte, as at the start of a stream ════
 
@@ -82,7 +86,7 @@ abbrev pub read_as : SrlRead → List ℤ
 read_as s = decode_out s.bytes (at_bit s.bit) (replicate s.count (pos 7)) s.count s.width
 
 -- what the call answers
-abbrev pub decoded_as : SrlRead → Decoded
+abbrev pub decoded_as : SrlRead → Result Decoded Refusal
 decoded_as s = decode_answer s.bytes (at_bit s.bit) s.count s.count s.width
 
 -- the turns of the loop that counts zeros
@@ -90,7 +94,7 @@ abbrev pub turned_as : SrlRead → ℕ
 turned_as s = values_turns s.bytes (replicate s.count s.width) (opened (at_bit s.bit))
 
 -- a value that begins at the last bit, at width 16
-abbrev pub at_width16 : Decoded
+abbrev pub at_width16 : Result Decoded Refusal
 at_width16 = decode_answer (0x01 ∷ []) (at_bit 7) 1 1 16
 
 -- ════ a pass over a component in the standard layout, at the first place of its first band or of the bottom ════
@@ -125,7 +129,7 @@ pass_read =
 -- the number of the call's answer
 abbrev pub answered_as : PassRead → ℕ
 answered_as s =
-    number_of (decode_pass_answer (row s.bottom s.from) (row s.bottom s.to) (in_component s.bottom s.coefficient) (in_component s.bottom s.sign))
+    number_of_answer (decode_pass_answer [] s.raw (row s.bottom s.from) (row s.bottom s.to) false (in_component s.bottom s.coefficient) (in_component s.bottom s.sign))
 
 -- the coefficients after it
 abbrev pub upgraded_as : PassRead → List ℤ
@@ -167,10 +171,10 @@ pass_written =
 abbrev pub valued_as : PassWritten → ℤ
 valued_as s = srl_difference s.to s.coefficient s.over
 
--- the refusal of the call, with room for a hundred bytes in each output
+-- the number of the refusal of the call, with room for a hundred bytes in each output
 abbrev pub refused_as : PassWritten → ℕ
 refused_as s =
-    encode_pass_refusal floor_rule (in_component false s.coefficient) (in_component false s.over) (row false s.from) (row false s.to) (in_component false (pos 0)) false (replicate 100 0) (replicate 100 0)
+    number (encode_pass_refusal floor_rule (in_component false s.coefficient) (in_component false s.over) (row false s.from) (row false s.to) (in_component false (pos 0)) false (replicate 100 0) (replicate 100 0))
 
 -- ════ the colours of a pixel ════
 

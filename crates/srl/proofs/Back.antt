@@ -16,9 +16,12 @@ use Rattle.bits.proofs.Past.{same, past, alike_held}
 use Rattle.bits.proofs.Places.{read_place}
 use Rattle.srl_decoder.specs.Srl.{Reader, reader, start, values, reader_after}
 use Rattle.srl_decoder.specs.Missing.{read_values, values_missing}
-use Rattle.srl_decoder.specs.Decode.{start_state, opened, closed, state_after, missing_from, state_ok, decode_refusal, decoded, decode_out, decoded_state, decoded_missing}
-use Rattle.answer.specs.Refusals.{invalid_bit_count, unless, first_of, stored}
-use Rattle.answer.proofs.Numbers.{first_none, passes, room_for}
+use Rattle.srl_decoder.specs.Decode.{start_state, opened, closed, state_after, state_ok, decode_refusal, decoded, decode_state, decode_out, decoded_missing}
+use Rattle.std.specs.Prelude.{Option, None}
+use Rattle.answer.specs.declared.Refusal.{Refusal}
+use Rattle.answer.specs.declared.Refusal.TheVariants.{InvalidBitCount, MagnitudeOutOfRange}
+use Rattle.answer.specs.Answers.{unless, first_of, unless_refused, stored}
+use Rattle.answer.proofs.Refusing.{first_none, passes, room_for}
 use Rattle.srl_rules.specs.Rules.{width_ok}
 use Rattle.srl_encoder.specs.Encode.{value_bits, value_kp, value_zeros, call_bits, call_kp, call_zeros, call_bytes, call_after, fresh_writer, value_fault, fault}
 use Rattle.srl_encoder.specs.Finish.{stream_bits}
@@ -35,12 +38,12 @@ use Rattle.srl_decoder.proofs.Values.{AlikeReader, alike, reader_trans, values_a
 -- ════ accepted calls ════
 
 -- a value that the encoder does not refuse is legal at its width
-value_legal : (w z : ℕ) (v : ℤ) → value_fault w z v ≡ 0 → nat_abs v < 2 ^ w
+value_legal : (w z : ℕ) (v : ℤ) → value_fault w z v ≡ None → nat_abs v < 2 ^ w
 value_legal w z (pos zero) e = pow_pos w
-value_legal w z (pos (suc m)) e = omega (arith, passes m (2 ^ w - 1) 4 e)
-value_legal w z (negsuc m) e = omega (arith, passes m (2 ^ w - 1) 4 e)
+value_legal w z (pos (suc m)) e = omega (arith, passes m (2 ^ w - 1) MagnitudeOutOfRange e)
+value_legal w z (negsuc m) e = omega (arith, passes m (2 ^ w - 1) MagnitudeOutOfRange e)
 
-call_legal : (w z : ℕ) (vs : List ℤ) {ws : List ℕ} {us : List ℤ} → fault w z vs ≡ 0 → Legal ws us → Legal (replicate (length vs) w ++ ws) (vs ++ us)
+call_legal : (w z : ℕ) (vs : List ℤ) {ws : List ℕ} {us : List ℤ} → fault w z vs ≡ None → Legal ws us → Legal (replicate (length vs) w ++ ws) (vs ++ us)
 call_legal w z [] e l = l
 call_legal w z (v ∷ vs) e l =
     let f = first_none (value_fault w z v) (fault w (value_zeros z v) vs) e in
@@ -93,28 +96,28 @@ fine_rest w zero f = f
 fine_rest w (suc n) (fine h f) = fine_rest w n f
 
 -- no call is refused: its width is fine, or it asks for nothing
-no_refusal : (s : List ℕ) (st : SrlState) (w n : ℕ) (ws : List ℕ) → state_ok st ≡ true → Fine (replicate n w ++ ws) → decode_refusal s st n n w ≡ 0
+no_refusal : (s : List ℕ) (st : SrlState) (w n : ℕ) (ws : List ℕ) → state_ok st ≡ true → Fine (replicate n w ++ ws) → decode_refusal s st n n w ≡ None
 no_refusal s st w zero ws h f = simp h (by (width_ok w))
   where
-    by : (b : Bool) → first_of (unless (b || true) invalid_bit_count) 0 ≡ 0
+    by : (b : Bool) → first_of (unless (b || true) InvalidBitCount) None ≡ None
     by true = refl
     by false = refl
 no_refusal s st w (suc n) ws h (fine g f) = simp (h, g) (room_for (suc n))
 
 -- what it stores
-out_is : (s : List ℕ) (st : SrlState) (a : Ask) → decode_refusal s st a.count a.count a.width ≡ 0
+out_is : (s : List ℕ) (st : SrlState) (a : Ask) → decode_refusal s st a.count a.count a.width ≡ None
     → decode_out s st (room a) a.count a.width ≡ values s (replicate a.count a.width) (opened st)
 out_is s st a e =
     let vs = values s (replicate a.count a.width) (opened st) in
     let l : length (room a) ≡ a.count = length-replicate a.count (pos 0) in
     let n : length vs ≡ a.count = length_values s (replicate a.count a.width) (opened st) ∙ length-replicate a.count a.width in
-    ap (λ (k : ℕ). stored k vs (room a)) (ap (λ (m : ℕ). decode_refusal s st m a.count a.width) l ∙ e)
+    ap (λ (k : Option Refusal). stored k vs (room a)) (ap (λ (m : ℕ). decode_refusal s st m a.count a.width) l ∙ e)
     ∙ ap (λ (t : List ℤ). vs ++ t) (drop_of_length-le (room a) {i = length vs} (omega (arith, l, n)))
     ∙ append-nil vs
 
 -- the state after it
-next_state : (s : List ℕ) (st : SrlState) (a : Ask) → decode_refusal s st a.count a.count a.width ≡ 0 → decoded_state (answer_to s st a) ≡ state_after s st a.count a.width
-next_state s st a e = ap (λ (k : ℕ). decoded_state (decoded k a.count (state_after s st a.count a.width) (missing_from s st a.count a.width) st)) e
+next_state : (s : List ℕ) (st : SrlState) (a : Ask) → decode_refusal s st a.count a.count a.width ≡ None → decode_state s st a.count a.count a.width ≡ state_after s st a.count a.width
+next_state s st a e = ap (λ (k : Option Refusal). unless_refused k (state_after s st a.count a.width) st) e
 
 -- a state that was handed back reads on as the reader that it was made of
 closed_alike : (s : List ℕ) (st : SrlState) (r : Reader) → (opened st).read ≤ r.read → AlikeReader s (opened (closed s st r)) r
@@ -147,7 +150,7 @@ back_reads s (a ∷ asks) st r g k =
     let next = next_state s st a e in
     let after = reader_after s ws (opened st) in
     let m : decoded_missing (answer_to s st a) ≡ values_missing s ws r =
-    ap (λ (n : ℕ). decoded_missing (decoded n a.count (closed s st after) (values_missing s ws (opened st)) st)) e ∙ ap missing_in (values_read_alike s ws k)
+    ap (λ (n : Option Refusal). decoded_missing (decoded n a.count (values_missing s ws (opened st)))) e ∙ ap missing_in (values_read_alike s ws k)
     in
     let ih = back_reads s asks (closed s st after) (reader_after s ws r) (subst (λ (q : SrlState). Granted s q asks) next g.1)
     (reader_trans s (closed_alike s st after (after_mono s ws (opened st))) v.1) in (

@@ -2,19 +2,22 @@
 use mathlib.Core.Path.{◌≡◌, refl, sym, ap, ap₂, ◌∙◌}
 use mathlib.Core.Bool.{Bool, true, false, not, ◌||◌, true≢false}
 use mathlib.Core.List.{List, ◌++◌}
-use Prim.Native.Nat.{ℕ, zero, suc, ◌+◌, ◌≤◌}
+use Prim.Native.Nat.{ℕ, ◌+◌, ◌≤◌}
 use native.Mathlib.Omega.{arith}
 use lib.IntN.{ℤ}
 use lib.ListN.{length, replicate, length-replicate}
 use Rattle.bits.specs.Missing.{InStream, missing_in}
 use Rattle.bits.proofs.Past.{same}
 use Rattle.bits.proofs.Longer.{longer_bits, length_longer}
-use Rattle.answer.specs.Refusals.{unless, first_of, no_room, stored, impossible_state, invalid_bit_count}
-use Rattle.answer.proofs.Numbers.{first_none, unless_none, has_room}
+use Rattle.std.specs.Prelude.{Option, None, Some}
+use Rattle.answer.specs.declared.Refusal.{Refusal}
+use Rattle.answer.specs.declared.Refusal.TheVariants.{InvalidBitCount, ImpossibleState}
+use Rattle.answer.specs.Answers.{unless, first_of, no_room, stored}
+use Rattle.answer.proofs.Refusing.{first_none, unless_none, has_room}
 use Rattle.srl_rules.specs.Rules.{width_ok}
 use Rattle.srl_rules.proofs.Widths.{width_ok_width}
 use Rattle.srl_decoder.specs.Srl.{Reader, reader_after}
-use Rattle.srl_decoder.specs.Decode.{opened, state_after, missing_from, state_ok, due_among, width_fine, decode_refusal, decode_answer, decode_out, decoded, decoded_missing}
+use Rattle.srl_decoder.specs.Decode.{opened, missing_from, state_ok, due_among, width_fine, decode_refusal, decode_answer, decode_out, decoded, decoded_missing}
 use Rattle.srl_decoder.specs.declared.SrlState.{SrlState}
 use Rattle.srl_decoder.proofs.States.{state_ok_sound}
 use Rattle.srl_decoder.proofs.Values.{alike}
@@ -22,23 +25,23 @@ use Rattle.srl_decoder.proofs.Missing.{values_read, values_missing_lem, values_e
 use Rattle.srl_decoder.proofs.Most.{narrow_replicate, missing_most}
 use Rattle.srl_decoder.proofs.Longer.{values_same, due_same}
 use Rattle.srl.specs.Missing.{SrlMissingBits}
-use Rattle.srl.proofs.Kept.{kept}
+use Rattle.srl.proofs.Kept.{answers_kept}
 use Rattle.srl.proofs.Back.{granted, back_reads, calls_back}
 
 -- ════ a call ════
 
 -- the count of an accepted call is that of its values
-call_ended : (s : List ℕ) (st : SrlState) (room n w : ℕ) → decode_refusal s st room n w ≡ 0
+call_ended : (s : List ℕ) (st : SrlState) (room n w : ℕ) → decode_refusal s st room n w ≡ None
     → (decoded_missing (decode_answer s st room n w) ≡ 0 → InStream s (opened st).read (reader_after s (replicate n w) (opened st)).read)
     × (InStream s (opened st).read (reader_after s (replicate n w) (opened st)).read → decoded_missing (decode_answer s st room n w) ≡ 0)
 call_ended s st room n w e =
-    let m : decoded_missing (decode_answer s st room n w) ≡ missing_from s st n w = (kept.decode_done s st room n w e).2 in
+    let m : decoded_missing (decode_answer s st room n w) ≡ missing_from s st n w = (answers_kept.decode_done s st room n w e).2 in
     let v = values_ended s (replicate n w) (opened st) in
     ((λ h. v.0 (sym m ∙ h)), λ h. m ∙ v.1 h)
 
 -- the count of a refused one is 0
-call_refused : (s : List ℕ) (st : SrlState) (room n w : ℕ) {k : ℕ} → decode_refusal s st room n w ≡ suc k → decoded_missing (decode_answer s st room n w) ≡ 0
-call_refused s st room n w e = ap (λ (r : ℕ). decoded_missing (decoded r n (state_after s st n w) (missing_from s st n w) st)) e
+call_refused : (s : List ℕ) (st : SrlState) (room n w : ℕ) {k : Refusal} → decode_refusal s st room n w ≡ Some k → decoded_missing (decode_answer s st room n w) ≡ 0
+call_refused s st room n w e = ap (λ (r : Option Refusal). decoded_missing (decoded r n (missing_from s st n w))) e
 
 -- at a fine width, or where no nonzero value is due, and then as at width 1
 missing_at : (s : List ℕ) (st : SrlState) (n w : ℕ) → state_ok st ≡ true → width_fine s st n w ≡ true → missing_from s st n w ≤ n + 32777
@@ -55,12 +58,12 @@ missing_at s st n w h = by (width_ok w) refl (due_among s (opened st) n) refl
 call_most : (s : List ℕ) (st : SrlState) (room n w : ℕ) → decoded_missing (decode_answer s st room n w) ≤ room + 32777
 call_most s st room n w = by (decode_refusal s st room n w) refl
   where
-    by : (k : ℕ) → decode_refusal s st room n w ≡ k → decoded_missing (decoded k n (state_after s st n w) (missing_from s st n w) st) ≤ room + 32777
-    by zero e =
-        let a = first_none (unless (state_ok st) impossible_state) _ e in
-        let b = first_none (unless (width_fine s st n w) invalid_bit_count) (no_room room n) a.1 in
-        omega (arith, missing_at s st n w (unless_none (state_ok st) 7 a.0) (unless_none (width_fine s st n w) 3 b.0), has_room room n b.1)
-    by (suc k) e = omega arith
+    by : (k : Option Refusal) → decode_refusal s st room n w ≡ k → decoded_missing (decoded k n (missing_from s st n w)) ≤ room + 32777
+    by None e =
+        let a = first_none (unless (state_ok st) ImpossibleState) _ e in
+        let b = first_none (unless (width_fine s st n w) InvalidBitCount) (no_room room n) a.1 in
+        omega (arith, missing_at s st n w (unless_none (state_ok st) ImpossibleState a.0) (unless_none (width_fine s st n w) InvalidBitCount b.0), has_room room n b.1)
+    by (Some k) e = omega arith
 
 -- ════ longer streams ════
 
@@ -70,9 +73,9 @@ call_longer : (s : List ℕ) (st : SrlState) (out : List ℤ) (n w k : ℕ)
 call_longer s st out n w k =
     let t = s ++ replicate k 0 in
     let e : decode_refusal t st (length out) n w ≡ decode_refusal s st (length out) n w =
-    ap (λ (d : Bool). first_of (unless (state_ok st) impossible_state) (first_of (unless (width_ok w || not d) invalid_bit_count) (no_room (length out) n))) (due_same t s (longer_bits s k) (opened st) n)
+    ap (λ (d : Bool). first_of (unless (state_ok st) ImpossibleState) (first_of (unless (width_ok w || not d) InvalidBitCount) (no_room (length out) n))) (due_same t s (longer_bits s k) (opened st) n)
     in
-    (e, ap₂ (λ (r : ℕ) (vs : List ℤ). stored r vs out) e (values_same t s (longer_bits s k) (replicate n w) (opened st)).0)
+    (e, ap₂ (λ (r : Option Refusal) (vs : List ℤ). stored r vs out) e (values_same t s (longer_bits s k) (replicate n w) (opened st)).0)
 
 -- the statement, in its parts
 pub missing : SrlMissingBits

@@ -2,9 +2,12 @@
 use mathlib.Core.Path.{◌≡◌}
 use mathlib.Core.Bool.{true}
 use mathlib.Core.List.{List}
-use Prim.Native.Nat.{ℕ, zero, suc}
+use Prim.Native.Nat.{ℕ}
+use Rattle.std.specs.Prelude.{Option, None, Some}
+use Rattle.answer.specs.declared.Refusal.{Refusal}
+use Rattle.answer.specs.Answers.{unless_refused}
 use lib.ListN.{replicate}
-use Rattle.srl_decoder.specs.Decode.{state_after, missing_from, state_ok, decode_refusal, decoded, decoded_state}
+use Rattle.srl_decoder.specs.Decode.{state_after, state_ok, decode_refusal}
 use Rattle.srl.specs.Laws.{DecoderResumes}
 use Rattle.srl_decoder.specs.declared.SrlState.{SrlState}
 use Rattle.srl_decoder.proofs.States.{closed_ok}
@@ -13,6 +16,6 @@ use Rattle.srl_decoder.proofs.States.{closed_ok}
 pub resumes : DecoderResumes
 resumes = record { again = λ s st room n w h. by (decode_refusal s st room n w) s st n w h }
   where
-    by : (k : ℕ) (s : List ℕ) (st : SrlState) (n w : ℕ) → state_ok st ≡ true → state_ok (decoded_state (decoded k n (state_after s st n w) (missing_from s st n w) st)) ≡ true
-    by zero s st n w h = closed_ok s st (replicate n w) h
-    by (suc k) s st n w h = h
+    by : (k : Option Refusal) (s : List ℕ) (st : SrlState) (n w : ℕ) → state_ok st ≡ true → state_ok (unless_refused k (state_after s st n w) st) ≡ true
+    by None s st n w h = closed_ok s st (replicate n w) h
+    by (Some k) s st n w h = h

@@ -8,8 +8,10 @@ use lib.ListN.{length}
 use borrow.Author.Tests.{lt-ltb, le-leb}
 use Rattle.bits.specs.Written.{pack}
 use Rattle.bits.proofs.Packed.{pack_append}
-use Rattle.answer.specs.Refusals.{no_room}
-use Rattle.answer.proofs.Numbers.{first_none, unless_none}
+use Rattle.std.specs.Prelude.{None}
+use Rattle.answer.specs.declared.Refusal.TheVariants.{InvalidBitCount, ImpossibleState}
+use Rattle.answer.specs.Answers.{no_room}
+use Rattle.answer.proofs.Refusing.{first_none, unless_none}
 use Rattle.srl_rules.specs.Rules.{width_ok}
 use Rattle.srl_encoder.specs.Encode.{call_bits, call_kp, call_zeros, bits_from, call_bytes, call_after, writer_ok, fault, encode_refusal}
 use Rattle.srl_encoder.specs.Finish.{flush}
@@ -39,13 +41,13 @@ stream_packed st (c ∷ cs) =
 -- ════ the state after an accepted call ════
 
 -- an accepted call passed every test
-pub accepted : (st : SrlWriter) (vs : List ℤ) (room w : ℕ) → encode_refusal st vs room w ≡ 0
-    → (writer_ok st ≡ true) × (width_ok w ≡ true) × (fault w st.pending_zeros vs ≡ 0)
+pub accepted : (st : SrlWriter) (vs : List ℤ) (room w : ℕ) → encode_refusal st vs room w ≡ None
+    → (writer_ok st ≡ true) × (width_ok w ≡ true) × (fault w st.pending_zeros vs ≡ None)
 accepted st vs room w e =
     let state = first_none _ _ e in
     let width = first_none _ _ state.1 in
     let value = first_none (fault w st.pending_zeros vs) (no_room room (length (call_bytes w st vs))) width.1 in
-    (unless_none (writer_ok st) 7 state.0, unless_none (width_ok w) 3 width.0, value.0)
+    (unless_none (writer_ok st) ImpossibleState state.0, unless_none (width_ok w) InvalidBitCount width.0, value.0)
 
 -- a state that `encode` hands back with bytes is one that it accepts
 pub resumes : EncoderResumes

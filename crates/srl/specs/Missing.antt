@@ -1,9 +1,10 @@
 -- How much of an SRL stream was missing, as a statement: what the counts of `decode` say, and what they can be.
-use Rattle.std.specs.Prelude.{◌≡◌, true, List, [], ◌∷◌, ◌++◌, ℕ, suc, ◌+◌, ◌-◌, ◌*◌, ◌^◌, ◌≤◌, ◌<◌, ℤ, length, replicate}
+use Rattle.std.specs.Prelude.{◌≡◌, true, List, [], ◌∷◌, ◌++◌, ℕ, ◌+◌, ◌-◌, ◌*◌, ◌^◌, ◌≤◌, ◌<◌, ℤ, length, replicate, None, Some, Result}
+use Rattle.answer.specs.declared.Refusal.{Refusal}
 use Rattle.bits.specs.Missing.{read_num, InStream}
 use Rattle.srl_decoder.specs.Srl.{Reader, values, reader_after}
 use Rattle.srl_decoder.specs.Missing.{read_values, values_missing, Narrow}
-use Rattle.srl_decoder.specs.Decode.{start_state, opened, state_ok, decode_refusal, decode_answer, decode_out, decoded_state, decoded_missing}
+use Rattle.srl_decoder.specs.Decode.{start_state, opened, state_ok, decode_refusal, decode_answer, decode_state, decode_out, decoded_missing}
 use Rattle.srl_rules.specs.Rules.{width_ok}
 use Rattle.srl_encoder.specs.Encode.{fresh_writer}
 use Rattle.srl.specs.Laws.{EncodeCall, Ask, Accepted, stream_from, widths, asked}
@@ -13,18 +14,18 @@ use Rattle.srl_decoder.specs.declared.Decoded.{Decoded}
 -- ════ calls of `decode` in a row ════
 
 -- what a call answers that has just the room that it needs
-abbrev pub answer_to : List ℕ → SrlState → Ask → Decoded
+abbrev pub answer_to : List ℕ → SrlState → Ask → Result Decoded Refusal
 answer_to s st a = decode_answer s st a.count a.count a.width
 
 -- every call is accepted, each from the state that the one before handed back
 abbrev pub Granted : List ℕ → SrlState → List Ask → Type 0
 Granted s st [] = Unit {0}
-Granted s st (a ∷ asks) = (decode_refusal s st a.count a.count a.width ≡ 0) × Granted s (decoded_state (answer_to s st a)) asks
+Granted s st (a ∷ asks) = (decode_refusal s st a.count a.count a.width ≡ None) × Granted s (decode_state s st a.count a.count a.width) asks
 
 -- the sum of their counts of missing bits
 abbrev pub missed_back : List ℕ → SrlState → List Ask → ℕ
 missed_back s st [] = 0
-missed_back s st (a ∷ asks) = decoded_missing (answer_to s st a) + missed_back s (decoded_state (answer_to s st a)) asks
+missed_back s st (a ∷ asks) = decoded_missing (answer_to s st a) + missed_back s (decode_state s st a.count a.count a.width) asks
 
 -- every width is 1 to 15
 pub data Fine : List ℕ → Type 0 where
@@ -43,11 +44,11 @@ pub record SrlMissingBits : Type 0 where
   pub ended : (s ws : List ℕ) (r : Reader)
       → (values_missing s ws r ≡ 0 → InStream s r.read (reader_after s ws r).read) × (InStream s r.read (reader_after s ws r).read → values_missing s ws r ≡ 0)
   -- and so does that of an accepted call of `decode`
-  pub call : (s : List ℕ) (st : SrlState) (room n w : ℕ) → decode_refusal s st room n w ≡ 0
+  pub call : (s : List ℕ) (st : SrlState) (room n w : ℕ) → decode_refusal s st room n w ≡ None
       → (decoded_missing (decode_answer s st room n w) ≡ 0 → InStream s (opened st).read (reader_after s (replicate n w) (opened st)).read)
       × (InStream s (opened st).read (reader_after s (replicate n w) (opened st)).read → decoded_missing (decode_answer s st room n w) ≡ 0)
   -- a refused call has the count 0, whatever it saw
-  pub refused : (s : List ℕ) (st : SrlState) (room n w k : ℕ) → decode_refusal s st room n w ≡ suc k → decoded_missing (decode_answer s st room n w) ≡ 0
+  pub refused : (s : List ℕ) (st : SrlState) (room n w : ℕ) (k : Refusal) → decode_refusal s st room n w ≡ Some k → decoded_missing (decode_answer s st room n w) ≡ 0
   -- the counts of calls in a row add up to the count of one reading of all their values
   pub in_a_row : (s : List ℕ) (st : SrlState) (asks : List Ask) → Granted s st asks → missed_back s st asks ≡ values_missing s (asked asks) (opened st)
   -- where the first state passes the decoder's test and every width is 1 to 15, they are all accepted

@@ -7,9 +7,10 @@ ghost use Rattle.srl.specs.Laws.{Refusals, HeldRefusals, DecodedMagnitudes, Roun
 ghost use Rattle.srl.specs.Missing.{SrlMissingBits};
 ghost use Rattle.srl.specs.Turns.{SrlBoundedTurns};
 
+pub use answer::Refusal;
 pub use srl_decoder::{Decoded, SrlState, decode};
-pub use srl_encoder::{Encoded, Finished, MAX_ZERO_RUN, SrlWriter, encode, finish};
-pub use srl_held::{DecodedBy, Outcome, SrlDecoder, decode_srl, encode_srl};
+pub use srl_encoder::{MAX_ZERO_RUN, SrlWriter, encode, finish};
+pub use srl_held::{SrlDecoder, decode_srl, encode_srl};
 pub use srl_rules::{INITIAL_KP, MAX_KP};
 
 // ---- laws: each is what its function ensures

@@ -6,11 +6,10 @@ use Prim.Native.Nat.{ℕ, zero, suc, ◌+◌, ◌-◌, ◌*◌, ◌≤◌, ◌<�
 use native.Mathlib.Nat.{add-zero}
 use native.Mathlib.Numerals.{add-one}
 use native.Mathlib.Omega.{arith}
-use borrow.Author.Tests.{eqb-true, eqb-false}
-use lib.Dec.{eqb}
 use lib.IntN.{ℤ, pos}
-use lib.ListN.{length, get_or, set, take, drop, replicate, length-set, length-replicate, take-append-drop}
-use lib.Seq.{take-suc-set, drop-set-lt, append_snoc, set-get_or, get_or-set_same, get_or-set_other}
+use lib.ListN.{length, get_or, set, take, drop, replicate, length-set, length-replicate, take-append-drop, drop_of_length-le}
+use lib.Seq.{take-suc-set, drop-set-lt, append_snoc, set-get_or, get_or-set_other}
+use Rattle.std.proofs.lemmas.List.{append-nil, get_or-replicate}
 use Rattle.srl_decoder.specs.Srl.{Reader, reader, nonzero, behind, next_value, next_reader, values, reader_after}
 use Rattle.srl_decoder.specs.Inner.{Same, Brought, Clear}
 use Rattle.srl_decoder.specs.declared.decoder.CodesRead.{CodesRead}
@@ -32,6 +31,10 @@ unfoldable pub fill : List ℕ → ℕ → ℕ → ℕ → Reader → List ℤ �
 fill s w zero j r out = filled out r
 fill s w (suc k) j r out = fill s w k (suc j) (next_reader s w r) (set out j (next_value s w r))
 
+-- an output of zeros is clear
+pub clear_zeros : (out : List ℤ) (n : ℕ) → out ≡ replicate n (pos 0) → Clear out 0 n
+clear_zeros out n e i h l = ap (λ (o : List ℤ). get_or o i (pos 0)) e ∙ get_or-replicate n i (pos 0) (pos 0) l
+
 -- what is clear stays so behind a store
 clear_behind : (out : List ℤ) (j n : ℕ) (v : ℤ) → Clear out j n → Clear (set out j v) (j + 1) n
 clear_behind out j n v c i h l = get_or-set_other out j i v (pos 0) (λ e. omega arith) ∙ c i (omega arith) l
@@ -49,6 +52,15 @@ module _ (s : List ℕ) (w : ℕ) where
       ∙ ap (λ (l : List ℤ). filled l (reader_after s (replicate k w) (next_reader s w r)))
       (ap₂ (λ (a b : List ℤ). a ++ (values s (replicate k w) (next_reader s w r) ++ b)) (take-suc-set out j v (omega arith)) (drop-set-lt (suc j + k) out j v (omega arith) ∙ ap (λ (i : ℕ). drop i out) e)
       ∙ append_snoc (take j out) v (values s (replicate k w) (next_reader s w r) ++ drop (j + suc k) out))
+
+  -- over a whole output
+  pub fill_all : (r : Reader) (out : List ℤ) → fill s w (length out) 0 r out ≡ filled (values s (replicate (length out) w) r) (reader_after s (replicate (length out) w) r)
+  fill_all r out =
+      let n = length out in
+      let vs = values s (replicate n w) r in
+      fill_is n 0 r out (omega arith)
+      ∙ ap (λ (l : List ℤ). filled (vs ++ l) (reader_after s (replicate n w) r)) (drop_of_length-le out (omega arith))
+      ∙ ap (λ (l : List ℤ). filled l (reader_after s (replicate n w) r)) (append-nil vs)
 
   -- the reader after it, whatever the output
   pub fill_after : (k j : ℕ) (r : Reader) (out : List ℤ) → (fill s w k j r out).after ≡ reader_after s (replicate k w) r
@@ -128,7 +140,6 @@ module _ (s : List ℕ) (w : ℕ) where
   -- what a turn does that reads on from place j and stops at place j', behind at' bits
   pub record Turned (n j at kp : ℕ) (p : Bool) (out : List ℤ) (j' kp' at' : ℕ) (p' : Bool) (out' : List ℤ) : Type 0 where
     pub nearer : n - j' < n - j
-    pub long : length out' ≡ length out
     pub clear : Clear out' j' n
     pub left : rest n j at kp p out ≡ rest n j' at' kp' p' out'
 
@@ -138,7 +149,6 @@ module _ (s : List ℕ) (w : ℕ) where
   turn_codes n j at kp p out r h c b d =
       record {
         nearer = omega (arith, zeros_brought s at kp p (n - j) n j r b h d);
-        long = refl;
         clear = λ i x y. c i (omega arith) y;
         left = rest_codes n j at kp r.run (at + r.taken) r.kp p r.pending out h c b.same;
       }
@@ -150,7 +160,6 @@ module _ (s : List ℕ) (w : ℕ) where
   turn_value n j at kp p out r at' v c b d f e =
       record {
         nearer = omega (arith, d.1);
-        long = length-set out (j + r.run) v;
         clear = clear_behind out (j + r.run) n v (λ i x y. c i (omega arith) y);
         left = rest_codes n j at kp r.run (at + r.taken) r.kp p r.pending out (omega (arith, d.1)) c b.same
             ∙ rest_value n (j + r.run) (at + r.taken) r.kp r.pending out d.1 d.0 ∙ (λ i. rest n (j + r.run + 1) (sym e i) r.kp false (set out (j + r.run) (sym f i)));
@@ -172,11 +181,3 @@ module _ (s : List ℕ) (w : ℕ) where
   pub rest_end : (n j at kp : ℕ) (p : Bool) (out : List ℤ) → n ≤ j → rest n j at kp p out ≡ filled out (reader at kp (j - n) p)
   unfolding fill
   rest_end n j at kp p out h = let z : n - j ≡ 0 = omega arith in ap (λ (k : ℕ). fill s w k j (reader at kp (j - n) p) out) z
-
--- one place more is cleared
-pub clear_next : (out : List ℤ) (n : ℕ) → n < length out → Clear out 0 n → Clear (set out n (pos 0)) 0 (n + 1)
-clear_next out n h c i a b = by (eqb i n) refl
-  where
-    by : (t : Bool) → eqb i n ≡ t → get_or (set out n (pos 0)) i (pos 0) ≡ pos 0
-    by true e = ap (λ (j : ℕ). get_or (set out n (pos 0)) j (pos 0)) (eqb-true i n e) ∙ get_or-set_same out n (pos 0) (pos 0) h
-    by false e = let ne : (i ≡ n → ⊥) = eqb-false i n e in get_or-set_other out n i (pos 0) (pos 0) ne ∙ c i a (omega arith)

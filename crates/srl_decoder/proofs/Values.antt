@@ -7,11 +7,12 @@ use lib.Dec.{ltb}
 use lib.IntN.{ℤ}
 use lib.ListN.{length}
 use Rattle.fixed.specs.Fixed.{with_sign}
-use Rattle.bits.specs.Bits.{bit_at, num, zeros}
+use Rattle.bits.specs.Bits.{bit_at, num, zeros, place_of}
 use Rattle.bits.proofs.Places.{read_place}
 use Rattle.bits.proofs.Past.{Alike, alike_held, alike_trans, alike_on, held_alike, bit_alike, num_alike, zeros_alike}
 use Rattle.srl_decoder.specs.Srl.{Reader, reader, most_zeros, code_word, value, past, readied, next_value, next_reader, values, reader_after}
-use Rattle.srl_decoder.specs.Decode.{opened}
+use Rattle.srl_decoder.specs.Decode.{opened, closed}
+use Rattle.srl_decoder.specs.declared.SrlState.{SrlState}
 use Rattle.srl_decoder.specs.Inner.{shut, held_reader}
 
 -- ════ readers and states ════
@@ -30,9 +31,10 @@ pub data AlikeReader (s : List ℕ) : Reader → Reader → Type 0 where
 pub reader_held : (s : List ℕ) (r : Reader) → AlikeReader s (held_reader s r) r
 reader_held s r = alike (alike_held s r.read)
 
--- readers that read on alike are held at the same one
-pub held_readers : (s : List ℕ) {r q : Reader} → AlikeReader s r q → held_reader s r ≡ held_reader s q
-held_readers s (alike {kp = kp} {run = run} {pending = pending} a) = ap (λ (n : ℕ). reader n kp run pending) (held_alike s a)
+-- readers that read on alike are the same state for a caller
+pub closed_alike : (s : List ℕ) (st : SrlState) {r q : Reader} → AlikeReader s r q → closed s st r ≡ closed s st q
+closed_alike s st (alike {kp = kp} {run = run} {pending = pending} a) =
+    ap (λ (n : ℕ). record { reader = cond (ltb st.reader.byte_idx (length s)) (place_of n) st.reader; kp = kp; zero_run_remaining = run; nonzero_pending = pending }) (held_alike s a)
 
 -- readers that read on like a third read on alike
 pub reader_trans : (s : List ℕ) {p q r : Reader} → AlikeReader s p q → AlikeReader s q r → AlikeReader s p r

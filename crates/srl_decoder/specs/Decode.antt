@@ -1,13 +1,14 @@
 -- What a call of `decode` answers and stores, for every state, stream, output, count and width (docs/SCOPE.md, "SRL", "Refusals").
-use Rattle.std.specs.Prelude.{◌≡◌, Bool, true, false, cond, not, ◌&&◌, ◌||◌, List, ℕ, zero, suc, leb, ℤ, length, replicate}
+use Rattle.std.specs.Prelude.{◌≡◌, Bool, true, false, cond, not, ◌&&◌, ◌||◌, List, ℕ, zero, suc, leb, ℤ, length, replicate, Option, Result}
 use Rattle.bits.specs.Bits.{bits_read, reader_moved}
-use Rattle.answer.specs.Refusals.{invalid_bit_count, impossible_state, unless, first_of, no_room, stored}
+use Rattle.answer.specs.Answers.{unless, first_of, no_room, answered, unless_refused, stored, number_of_answer, given_or}
+use Rattle.answer.specs.declared.Refusal.{Refusal}
+use Rattle.answer.specs.declared.Refusal.TheVariants.{InvalidBitCount, ImpossibleState}
 use Rattle.srl_rules.specs.Rules.{width_ok}
 use Rattle.srl_decoder.specs.Srl.{Reader, reader, readied, next_reader, values, reader_after}
 use Rattle.srl_decoder.specs.Missing.{values_missing}
 use Rattle.srl_decoder.specs.declared.SrlState.{SrlState}
 use Rattle.srl_decoder.specs.declared.Decoded.{Decoded}
-use Rattle.srl_decoder.specs.declared.Decoded.TheVariants.{Values, Refused}
 
 -- ════ the public state ════
 
@@ -58,46 +59,46 @@ abbrev pub width_fine : List ℕ → SrlState → ℕ → ℕ → Bool
 width_fine s st n w = width_ok w || not (due_among s (opened st) n)
 
 -- "order: 8, .. 4, .. 7"
-abbrev pub decode_refusal : List ℕ → SrlState → ℕ → ℕ → ℕ → ℕ
+abbrev pub decode_refusal : List ℕ → SrlState → ℕ → ℕ → ℕ → Option Refusal
 decode_refusal s st room n w =
-    first_of (unless (state_ok st) impossible_state) (first_of (unless (width_fine s st n w) invalid_bit_count) (no_room room n))
+    first_of (unless (state_ok st) ImpossibleState) (first_of (unless (width_fine s st n w) InvalidBitCount) (no_room room n))
 
--- ════ the answer, and what `out` holds then ════
+-- ════ the answer, and what the state and `out` hold then ════
 
 -- "a refusal gives its number, zero lengths and counts, and the state handed in, and alters no lent element"
-abbrev pub decoded : ℕ → ℕ → SrlState → ℕ → SrlState → Decoded
-decoded zero n next m st = Values n next m
-decoded (suc k) n next m st = Refused (suc k) st
+abbrev pub decoded : Option Refusal → ℕ → ℕ → Result Decoded Refusal
+decoded refusal n m = answered refusal (record { count = n; missing = m })
 
 -- what `decode` answers
-abbrev pub decode_answer : List ℕ → SrlState → ℕ → ℕ → ℕ → Decoded
-decode_answer s st room n w = decoded (decode_refusal s st room n w) n (state_after s st n w) (missing_from s st n w) st
+abbrev pub decode_answer : List ℕ → SrlState → ℕ → ℕ → ℕ → Result Decoded Refusal
+decode_answer s st room n w = decoded (decode_refusal s st room n w) n (missing_from s st n w)
+
+-- what the state is after it
+abbrev pub decode_state : List ℕ → SrlState → ℕ → ℕ → ℕ → SrlState
+decode_state s st room n w = unless_refused (decode_refusal s st room n w) (state_after s st n w) st
 
 -- what `out` holds after it
 abbrev pub decode_out : List ℕ → SrlState → List ℤ → ℕ → ℕ → List ℤ
 decode_out s st out n w = stored (decode_refusal s st (length out) n w) (values_from s st n w) out
 
--- what the call fixes: its answer, and the output
-pub record DecodesSrl (s : List ℕ) (st : SrlState) (o : List ℤ) (n w : ℕ) (r : Decoded) (o' : List ℤ) : Type 0 where
+-- what the call fixes: its answer, the state, and the output
+pub record DecodesSrl (s : List ℕ) (st : SrlState) (o : List ℤ) (n w : ℕ) (r : Result Decoded Refusal) (st' : SrlState) (o' : List ℤ) : Type 0 where
   pub answer : r ≡ decode_answer s st (length o) n w
+  pub state : st' ≡ decode_state s st (length o) n w
   pub out : o' ≡ decode_out s st o n w
 
 -- the number of each case
-abbrev pub decoded_number : Decoded → ℕ
-decoded_number (Values n st m) = 0
-decoded_number (Refused k st) = k
+abbrev pub decoded_number : Result Decoded Refusal → ℕ
+decoded_number = number_of_answer
 
--- the count of values of each case: "zero lengths and counts" with a refusal
-abbrev pub decoded_count : Decoded → ℕ
-decoded_count (Values n st m) = n
-decoded_count (Refused k st) = 0
+-- "zero lengths and counts" with a refusal
+abbrev pub no_values : Decoded
+no_values = record { count = 0; missing = 0 }
 
--- the state of each case
-abbrev pub decoded_state : Decoded → SrlState
-decoded_state (Values n st m) = st
-decoded_state (Refused k st) = st
+-- the count of values of each case
+abbrev pub decoded_count : Result Decoded Refusal → ℕ
+decoded_count r = (given_or no_values r).count
 
--- the count of missing bits of each case: "a refusal gives 0 for every count"
-abbrev pub decoded_missing : Decoded → ℕ
-decoded_missing (Values n st m) = m
-decoded_missing (Refused k st) = 0
+-- the count of missing bits of each case
+abbrev pub decoded_missing : Result Decoded Refusal → ℕ
+decoded_missing r = (given_or no_values r).missing

@@ -1,11 +1,14 @@
 -- For inner functions only: what those of the decoder ask and promise.
-use Rattle.std.specs.Prelude.{◌≡◌, Bool, false, cond, not, ◌&&◌, List, ℕ, zero, suc, ◌+◌, ◌*◌, ◌/◌, ◌%◌, ◌^◌, ◌≤◌, ◌<◌, ltb, ℤ, pos, length, get_or, replicate}
+use Rattle.std.specs.Prelude.{◌≡◌, Bool, false, not, ◌&&◌, List, ℕ, zero, suc, ◌+◌, ◌*◌, ◌/◌, ◌%◌, ◌^◌, ◌≤◌, ◌<◌, ltb, ℤ, pos, length, get_or, replicate, Result}
 use Rattle.bits.specs.Bits.{place_of, held}
 use Rattle.bits.specs.Turns.{still_held}
+use Rattle.answer.specs.Answers.{no_room, unless_refused, stored}
+use Rattle.answer.specs.declared.Refusal.{Refusal}
 use Rattle.srl_decoder.specs.Srl.{Reader, reader, next_value, next_reader, reader_after}
-use Rattle.srl_decoder.specs.Decode.{opened, missing_from, due_among}
+use Rattle.srl_decoder.specs.Decode.{opened, values_from, state_after, missing_from, due_among, decoded}
 use Rattle.srl_decoder.specs.Turns.{dry_run}
 use Rattle.srl_decoder.specs.declared.SrlState.{SrlState}
+use Rattle.srl_decoder.specs.declared.Decoded.{Decoded}
 use Rattle.srl_decoder.specs.declared.decoder.CodesRead.{CodesRead}
 use Rattle.srl_decoder.specs.declared.decoder.Stored.{Stored}
 use Rattle.srl_decoder.specs.declared.decoder.DryRun.{DryRun}
@@ -14,35 +17,22 @@ use Rattle.srl_decoder.specs.declared.decoder.DryRun.{DryRun}
 abbrev pub shut : Reader → SrlState
 shut r = record { reader = place_of r.read; kp = r.kp; zero_run_remaining = r.run; nonzero_pending = r.pending }
 
--- a state by its parts
-abbrev pub state_by : ℕ → ℕ → ℕ → ℕ → Bool → SrlState
-state_by byte bit kp run pending =
-    record { reader = record { byte_idx = byte; bit_idx = bit }; kp = kp; zero_run_remaining = run; nonzero_pending = pending }
-
 -- a reader as far as the stream goes
 abbrev pub held_reader : List ℕ → Reader → Reader
 held_reader s r = reader (held s r.read) r.kp r.run r.pending
 
--- what storing values leaves, once the reader stands at r, m bits were missing and the loop turned t times
-abbrev pub stored_by : List ℕ → Reader → ℕ → ℕ → Stored
-stored_by s r m t = record { state = shut (held_reader s r); missing = m; turns = t }
-
--- what `store_values` hands back
-pub record StoresValues (s : List ℕ) (st : SrlState) (n w : ℕ) (r : Stored) : Type 0 where
-  pub state : r.state ≡ shut (held_reader s (reader_after s (replicate n w) (opened st)))
-  pub missing : r.missing ≡ missing_from s st n w
+-- what `store_values` hands back, and what the output holds then
+pub record StoresValues (s : List ℕ) (st : SrlState) (n w : ℕ) (r : Stored) (o' : List ℤ) : Type 0 where
+  pub state : r.state ≡ shut (reader_after s (replicate n w) (opened st))
   -- "at most once for each value that is asked for, in the stream and past its end"
   pub turns : r.turns ≤ n
+  pub out : o' ≡ values_from s st n w
 
--- the state that goes back to the caller, who handed in st
-abbrev pub handed : List ℕ → SrlState → SrlState → SrlState
-handed s st done =
-    record {
-      reader = cond (ltb st.reader.byte_idx (length s)) done.reader st.reader;
-      kp = done.kp;
-      zero_run_remaining = done.zero_run_remaining;
-      nonzero_pending = done.nonzero_pending;
-    }
+-- what `store_if_room` answers, and what the state and the output hold then
+pub record StoresIfRoom (s : List ℕ) (st : SrlState) (o : List ℤ) (n w : ℕ) (r : Result Decoded Refusal) (st' : SrlState) (o' : List ℤ) : Type 0 where
+  pub answer : r ≡ decoded (no_room (length o) n) n (missing_from s st n w)
+  pub state : st' ≡ unless_refused (no_room (length o) n) (state_after s st n w) st
+  pub out : o' ≡ stored (no_room (length o) n) (values_from s st n w) o
 
 -- a state from which a code word can be read, and a value behind it
 abbrev pub SoundState : SrlState → Type 0

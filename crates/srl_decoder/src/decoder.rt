@@ -1,14 +1,15 @@
 // The decoder: code words, nonzero values, and calls, which go from one nonzero value to the next.
-ghost use Rattle.std.specs.Prelude.{◌≡◌, true, false, List, ◌++◌, ℕ, ◌*◌, ◌^◌, ◌+◌, ◌-◌, ◌≤◌, ◌<◌, length, drop};
-ghost use Rattle.bits.specs.Bits.{bit_at, zeros, bits_read};
+ghost use Rattle.std.specs.Prelude.{◌≡◌, true, false, List, ℕ, ◌*◌, ◌^◌, ◌+◌, ◌≤◌, ◌<◌, length};
+ghost use Rattle.bits.specs.Bits.{bit_at, zeros, bits_read, reader_moved};
 ghost use Rattle.bits.specs.Inner.{Top, Front};
 ghost use Rattle.srl_decoder.specs.Srl.{most_zeros, behind, code_word};
-ghost use Rattle.srl_decoder.specs.Decode.{opened, values_from, state_after, missing_from, state_ok, decoded};
-ghost use Rattle.answer.specs.Refusals.{no_room, stored};
+ghost use Rattle.srl_decoder.specs.Decode.{opened, state_ok};
 ghost use Rattle.srl_rules.specs.Inner.{Width};
-ghost use Rattle.srl_decoder.specs.Inner.{SoundState, shut, state_by, held_reader, stored_by, StoresValues, reads_on, FindsDue, handed, read_behind, below, Brought, Clear};
+ghost use Rattle.srl_decoder.specs.Inner.{SoundState, shut, StoresValues, StoresIfRoom, reads_on, FindsDue, read_behind, below, Brought};
 
 use crate::{Decoded, SrlState};
+use answer::Refusal;
+use bits::reader::BitReader;
 
 // A nonzero value: its magnitude, its sign, and how many bits it takes.
 #[derive(Clone, Copy)]
@@ -27,11 +28,10 @@ pub struct CodesRead {
     pub pending: bool,
 }
 
-// What storing values leaves: the state, how many of the bits read were missing, and how often the loop turned.
+// What storing values leaves: the state, whose place has run on past the stream's end, and how often the loop turned.
 #[derive(Clone, Copy)]
 pub struct Stored {
     pub state: SrlState,
-    pub missing: u64,
     pub turns: usize,
 }
 
@@ -46,14 +46,7 @@ pub struct DryRun {
 pub fn state_ok(st: SrlState) -> bool
     ensures { result ≡ state_ok st }
 {
-    if srl_rules::MAX_KP < st.kp {
-        return false;
-    }
-    let reader = st.reader;
-    if 7 < reader.bit_idx {
-        return false;
-    }
-    st.zero_run_remaining <= 1024
+    st.kp <= srl_rules::MAX_KP && st.reader.bit_idx <= 7 && st.zero_run_remaining <= 1024
 }
 
 // ---- a code word, and a nonzero value
@@ -65,20 +58,21 @@ fn one_code(a: u64, kp: u8) -> CodesRead
         × (result.taken ≤ 11) }
 {
     if a < 0x8000_0000_0000_0000 {
-        return CodesRead {
+        CodesRead {
             taken: 1,
             kp: srl_rules::raised(kp),
             run: srl_rules::run_size(kp),
             pending: false,
-        };
-    }
-    let k = kp / 8;
-    let zeros = bits::reader::top(bits::reader::behind(a, 1), k);
-    CodesRead {
-        taken: 1 + k as usize,
-        kp: srl_rules::lowered(kp),
-        run: zeros as usize,
-        pending: true,
+        }
+    } else {
+        let k = kp / 8;
+        let zeros = bits::reader::top(bits::reader::behind(a, 1), k);
+        CodesRead {
+            taken: 1 + usize::from(k),
+            kp: srl_rules::lowered(kp),
+            run: zeros as usize,
+            pending: true,
+        }
     }
 }
 
@@ -87,10 +81,9 @@ fn code_word(src: &[u8], st: SrlState) -> SrlState
     requires { SoundState st }
     ensures { result ≡ shut (code_word src.now (bits_read st.reader) st.kp) }
 {
-    let reader = st.reader;
-    let c = one_code(bits::reader::ahead(src, reader), st.kp);
+    let c = one_code(bits::reader::ahead(src, st.reader), st.kp);
     SrlState {
-        reader: bits::reader::skip(reader, c.taken),
+        reader: bits::reader::skip(st.reader, c.taken),
         kp: c.kp,
         zero_run_remaining: c.run,
         nonzero_pending: c.pending,
@@ -98,13 +91,7 @@ fn code_word(src: &[u8], st: SrlState) -> SrlState
 }
 
 // The nonzero value at a place, where `a` begins with `have` bits from there on.
-pub fn decode_nonzero(
-    src: &[u8],
-    reader: bits::reader::BitReader,
-    a: u64,
-    have: u32,
-    num_bits: u8,
-) -> NonzeroRead
+pub fn decode_nonzero(src: &[u8], reader: BitReader, a: u64, have: u32, num_bits: u8) -> NonzeroRead
     requires { (reader.bit_idx ≤ 7)
         × (reader.byte_idx < 2 ^ 63 + 2 ^ 61)
         × Width num_bits
@@ -132,7 +119,7 @@ fn below(x: u8) -> usize
     requires { x ≤ 80 }
     ensures { result ≡ below x }
 {
-    ((2 + (x / 4) % 2) as usize) << (x / 8)
+    usize::from(2 + (x / 4) % 2) << (x / 8)
 }
 
 // The code words that the word `a` begins with: those up to a nonzero value where it is among the next `left` values, and one where it is not.
@@ -140,14 +127,12 @@ fn code_words(a: u64, kp: u8, left: usize) -> CodesRead
     requires { (kp ≤ 80) × (1 ≤ left) }
     ensures { (s : List ℕ) (n v : ℕ) → Top v a s n → 57 ≤ v → Brought s n kp false left result }
 {
-    let c = bits::reader::leading(a);
-    if 20 < c {
-        return one_code(a, kp);
-    }
-    let high = kp + 4 * c as u8;
+    let c = a.leading_zeros();
+    let high = u32::from(kp) + 4 * c;
     if 80 < high {
         return one_code(a, kp);
     }
+    let high = high as u8;
     let k = high / 8;
     let last = bits::reader::top(bits::reader::behind(a, c + 1), k) as usize;
     let zeros = below(high) - below(kp) + last;
@@ -155,7 +140,7 @@ fn code_words(a: u64, kp: u8, left: usize) -> CodesRead
         return one_code(a, kp);
     }
     CodesRead {
-        taken: c as usize + 1 + k as usize,
+        taken: c as usize + 1 + usize::from(k),
         kp: srl_rules::lowered(high),
         run: zeros,
         pending: true,
@@ -168,14 +153,15 @@ pub fn up_to_value(a: u64, kp: u8, pending: bool, left: usize) -> CodesRead
     ensures { (s : List ℕ) (n v : ℕ) → Top v a s n → 57 ≤ v → Brought s n kp pending left result }
 {
     if pending {
-        return CodesRead {
+        CodesRead {
             taken: 0,
             kp,
             run: 0,
-            pending: true,
-        };
+            pending,
+        }
+    } else {
+        code_words(a, kp, left)
     }
-    code_words(a, kp, left)
 }
 
 // Whether a nonzero value is at hand, at place `j`, and is among the first `n` values.
@@ -183,91 +169,33 @@ pub fn due(pending: bool, j: usize, n: usize) -> bool
     ensures { (result ≡ true → (pending ≡ true) × (j < n))
         × (result ≡ false → pending ≡ true → n ≤ j) }
 {
-    if pending {
-        return j < n;
-    }
-    false
+    pending && j < n
 }
 
 // ---- a call
 
-// The state with its place held at the stream's end.
-fn hold(src: &[u8], st: SrlState) -> SrlState
-    requires { st.reader.bit_idx ≤ 7 }
-    ensures { result ≡ shut (held_reader src.now (opened st)) }
-{
-    let reader = st.reader;
-    SrlState {
-        reader: bits::reader::hold(src, reader),
-        kp: st.kp,
-        zero_run_remaining: st.zero_run_remaining,
-        nonzero_pending: st.nonzero_pending,
-    }
-}
-
-// A call's end: the state, whose place has run on, held at the stream's end, how many bits were missing, and the turns.
-fn ended(src: &[u8], st: SrlState, turns: usize) -> Stored
-    requires { (st.reader.bit_idx ≤ 7) × (bits_read st.reader < 8 * length src.now + 2 ^ 63) }
-    ensures { result ≡ stored_by src.now (opened st) (bits_read st.reader - 8 * length src.now) turns }
-{
-    let reader = st.reader;
-    let missing = bits::reader::past_end(src, reader);
-    Stored {
-        state: hold(src, st),
-        missing,
-        turns,
-    }
-}
-
-// The state by its parts.
-fn state_of(byte_idx: usize, bit_idx: u8, kp: u8, run: usize, pending: bool) -> SrlState
-    ensures { result ≡ state_by byte_idx bit_idx kp run pending }
-{
-    SrlState {
-        reader: bits::reader::BitReader { byte_idx, bit_idx },
-        kp,
-        zero_run_remaining: run,
-        nonzero_pending: pending,
-    }
-}
-
-// Sets the first `n` values to 0.
-fn clear(out: &mut [i16], n: usize)
-    requires { n ≤ length out.old }
-    ensures { Clear out.new 0 n
-        × (drop n out.new ≡ drop n out.old) }
-{
-    let mut i: usize = 0;
-    while i < n {
-        out[i] = 0;
-        i += 1;
-    }
-}
-
-// Stores the next `n` values at the front of `out`. It is cleared first, so that a run of zeros need not be stored: `j` is the place of the next nonzero
-// value, or of the next code word. A turn reads code words and the value behind them from one word. The place runs on past the stream's end, so that at the
-// end of the call it tells how many bits were missing. Each turn gives a value at least, past the end too, so there are no more turns than values. The loop
-// keeps the state's parts: a struct would take its padding round.
-fn store_values(src: &[u8], st: SrlState, out: &mut [i16], n: usize, num_bits: u8) -> Stored
+// Stores the next values in `out`, as many as it has places. It is cleared first, so that a run of zeros need not be stored: `j` is the place of the next
+// nonzero value, or of the next code word. A turn reads code words and the value behind them from one word. The place runs on past the stream's end, so that
+// at the end of the call it tells how many bits were missing. Each turn gives a value at least, past the end too, so there are no more turns than values. The
+// loop keeps the state's parts: a struct would take its padding round.
+fn store_values(src: &[u8], st: SrlState, out: &mut [i16], num_bits: u8) -> Stored
     requires { (st.reader.bit_idx ≤ 7)
         × (st.kp ≤ 80)
         × (bits_read st.reader ≤ 8 * length src.now)
-        × Width num_bits
-        × (n ≤ length out.old) }
-    ensures { StoresValues src.now st n num_bits result
-        × (out.new ≡ values_from src.now st n num_bits ++ drop n out.old) }
+        × Width num_bits }
+    ensures { StoresValues src.now st (length out.old) num_bits result out.new }
 {
-    clear(out, n);
-    let start = st.reader;
-    let mut byte_idx = start.byte_idx;
-    let mut bit_idx = start.bit_idx;
+    out.fill(0);
+    let n = out.len();
+    let mut byte_idx = st.reader.byte_idx;
+    let mut bit_idx = st.reader.bit_idx;
     let mut kp = st.kp;
     let mut pending = st.nonzero_pending;
     let mut j = st.zero_run_remaining;
     let mut turns: usize = 0;
     while j < n {
         turns += 1;
-        let place = bits::reader::BitReader { byte_idx, bit_idx };
+        let place = BitReader { byte_idx, bit_idx };
         let a = bits::reader::ahead(src, place);
         let c = up_to_value(a, kp, pending, n - j);
         let mut taken = c.taken;
@@ -276,7 +204,7 @@ fn store_values(src: &[u8], st: SrlState, out: &mut [i16], n: usize, num_bits: u
         j += c.run;
         if due(c.pending, j, n) {
             let codes = c.taken as u32;
-            let have = 64 - bit_idx as u32 - codes;
+            let have = 64 - u32::from(bit_idx) - codes;
             let at = bits::reader::skip(place, c.taken);
             let v = decode_nonzero(src, at, bits::reader::behind(a, codes), have, num_bits);
             out[j] = fixed::with_sign(v.magnitude, v.negative);
@@ -288,37 +216,20 @@ fn store_values(src: &[u8], st: SrlState, out: &mut [i16], n: usize, num_bits: u
         byte_idx = next.byte_idx;
         bit_idx = next.bit_idx;
     }
-    ended(src, state_of(byte_idx, bit_idx, kp, j - n, pending), turns)
-}
-
-// The state that goes back to the caller: a place that was handed in at or past the end stays as it is.
-fn hand_back(src: &[u8], st: SrlState, done: SrlState) -> SrlState
-    ensures { result ≡ handed src.now st done }
-{
-    let reader = st.reader;
-    if reader.byte_idx < src.len() {
-        return done;
-    }
-    SrlState {
-        reader,
-        kp: done.kp,
-        zero_run_remaining: done.zero_run_remaining,
-        nonzero_pending: done.nonzero_pending,
-    }
+    let state = SrlState {
+        reader: BitReader { byte_idx, bit_idx },
+        kp,
+        zero_run_remaining: j - n,
+        nonzero_pending: pending,
+    };
+    Stored { state, turns }
 }
 
 // Whether the dry run reads a code word.
 fn reads_on(src: &[u8], st: SrlState, left: usize) -> bool
     ensures { result ≡ reads_on src.now st left }
 {
-    if left <= st.zero_run_remaining {
-        return false;
-    }
-    if st.nonzero_pending {
-        return false;
-    }
-    let reader = st.reader;
-    reader.byte_idx < src.len()
+    st.zero_run_remaining < left && !st.nonzero_pending && st.reader.byte_idx < src.len()
 }
 
 // Whether one of the next `num_values` values is nonzero. Each turn reads a code word, and past the stream's end no nonzero value comes,
@@ -341,24 +252,44 @@ pub fn any_due(src: &[u8], st: SrlState, num_values: usize) -> DryRun
     }
 }
 
-// Stores the next `num_values` values if there is room for them, and refuses with 7 if not.
+// The place after a call that began at a place and ends at another: held at the stream's end. A place at or past the end stays as it is.
+fn moved(src: &[u8], from: BitReader, end: BitReader) -> BitReader
+    requires { end.bit_idx ≤ 7 }
+    ensures { result ≡ reader_moved src.now from (bits_read end) }
+{
+    if from.byte_idx < src.len() {
+        bits::reader::hold(src, end)
+    } else {
+        from
+    }
+}
+
+// Stores the next `num_values` values if there is room for them, and refuses if not.
 pub fn store_if_room(
     src: &[u8],
-    st: SrlState,
+    state: &mut SrlState,
     out: &mut [i16],
     num_values: usize,
     num_bits: u8,
-) -> Decoded
-    requires { (st.reader.bit_idx ≤ 7) × (st.kp ≤ 80) × Width num_bits }
-    ensures { (result ≡ decoded (no_room (length out.old) num_values) num_values
-        (state_after src.now st num_values num_bits) (missing_from src.now st num_values num_bits) st)
-        × (out.new ≡ stored (no_room (length out.old) num_values)
-        (values_from src.now st num_values num_bits) out.old) }
+) -> Result<Decoded, Refusal>
+    requires { (state.old.reader.bit_idx ≤ 7) × (state.old.kp ≤ 80) × Width num_bits }
+    ensures { StoresIfRoom src.now state.old out.old num_values num_bits result state.new out.new }
 {
     if out.len() < num_values {
-        return Decoded::Refused(answer::OUTPUT_TOO_SHORT, st);
+        return Err(Refusal::OutputTooShort);
     }
-    let done = store_values(src, hold(src, st), out, num_values, num_bits);
-    let next = done.state;
-    Decoded::Values(num_values, hand_back(src, st, next), done.missing)
+    let from = SrlState {
+        reader: bits::reader::hold(src, state.reader),
+        ..*state
+    };
+    let stored = store_values(src, from, &mut out[..num_values], num_bits);
+    let end = stored.state.reader;
+    *state = SrlState {
+        reader: moved(src, state.reader, end),
+        ..stored.state
+    };
+    Ok(Decoded {
+        count: num_values,
+        missing: bits::reader::past_end(src, end),
+    })
 }

@@ -1,16 +1,17 @@
 // Simplified Run-Length (SRL) coding, read: the decoder of srl.rs. `srl` hands it on under the source's name.
-// A coder's state goes in and comes back by value; streams and values are slices that the caller lends. A refusal has a number
-// (docs/SCOPE.md, "Refusals"), hands back the state and alters nothing.
+// A coder's state, streams and values are lent by the caller. A call that is refused (docs/SCOPE.md, "Refusals") alters none of them.
 
 #![tactic(auto)]
 
 ghost use Rattle.std.specs.Prelude.{◌≡◌};
 ghost use Rattle.srl_decoder.specs.Decode.{start_state, DecodesSrl};
 
+use answer::Refusal;
+
 pub mod decoder;
 
 // The decoder between two calls.
-#[derive(Clone, Copy)]
+#[derive(Clone, Copy, Debug, PartialEq, Eq)]
 pub struct SrlState {
     pub reader: bits::reader::BitReader,
     pub kp: u8,
@@ -18,12 +19,11 @@ pub struct SrlState {
     pub nonzero_pending: bool,
 }
 
-// What `decode` answers: how many values it stored, the state after them and how many of the bits read came from past the stream's end; or a
-// refusal and the state that was handed in.
-#[derive(Clone, Copy)]
-pub enum Decoded {
-    Values(usize, SrlState, u64),
-    Refused(u8, SrlState),
+// What `decode` stored: how many values, and how many of the bits read came from past the stream's end.
+#[derive(Clone, Copy, Debug, PartialEq, Eq)]
+pub struct Decoded {
+    pub count: usize,
+    pub missing: u64,
 }
 
 impl SrlState {
@@ -47,21 +47,21 @@ impl SrlState {
 // A width that no nonzero value can have is refused only where one is due, which is found out before anything is stored.
 pub fn decode(
     src: &[u8],
-    state: SrlState,
+    state: &mut SrlState,
     out: &mut [i16],
     num_values: usize,
     num_bits: u8,
-) -> Decoded
-    ensures { DecodesSrl src.now state out.old num_values num_bits result out.new }
+) -> Result<Decoded, Refusal>
+    ensures { DecodesSrl src.now state.old out.old num_values num_bits result state.new out.new }
 {
-    if !decoder::state_ok(state) {
-        return Decoded::Refused(answer::IMPOSSIBLE_STATE, state);
+    if !decoder::state_ok(*state) {
+        return Err(Refusal::ImpossibleState);
     }
     if srl_rules::width_ok(num_bits) {
         return decoder::store_if_room(src, state, out, num_values, num_bits);
     }
-    if decoder::any_due(src, state, num_values).due {
-        return Decoded::Refused(answer::INVALID_BIT_COUNT, state);
+    if decoder::any_due(src, *state, num_values).due {
+        return Err(Refusal::InvalidBitCount);
     }
     decoder::store_if_room(src, state, out, num_values, 1)
 }

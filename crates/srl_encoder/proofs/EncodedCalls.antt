@@ -1,34 +1,37 @@
 -- Laws of a call of `encode`, value by value, measured and as a whole, and of the end of a stream. Assumes nothing.
 use mathlib.Core.Path.{◌≡◌, refl, ap, sym, ◌∙◌, subst}
-use mathlib.Core.Bool.{Bool, true, false, cond}
+use mathlib.Core.Bool.{Bool, true}
 use mathlib.Core.List.{List, [], ◌∷◌, ◌++◌, append_assoc, append-nil}
-use Prim.Native.Nat.{ℕ, zero, suc, ◌+◌, ◌-◌, ◌≤◌}
+use Prim.Native.Nat.{ℕ, zero, suc, ◌+◌, ◌-◌, ◌≤◌, ◌<◌}
 use native.Mathlib.Nat.{zero-add}
+use native.Mathlib.Numerals.{add-one}
 use native.Mathlib.Omega.{arith}
-use lib.Dec.{ltb, leb}
+use lib.Dec.{leb}
 use lib.IntN.{ℤ, pos, negsuc, nat_abs}
-use lib.ListN.{length, take, drop, set, length-append, take-append-drop}
-use lib.Seq.{sets}
+use lib.ListN.{length, get_or, take, drop, set, length-append, take-append-drop}
+use lib.Seq.{sets, take-suc, drop-cons}
+use mir.Syntax.{w16}
+use mir.Val.{SFits, to_z, of_z}
+use mir.ValLaws.{to_z-of_z}
 use borrow.Author.Tests.{ltb-true, leb-true}
 use Rattle.bits.specs.Written.{pack, after}
 use Rattle.bits.specs.Inner.{Sound, write, pad_count, pad_out, counted, settled, settled_out, SoundWord, word_of}
 use Rattle.bits.specs.declared.writer.BitWriter.{BitWriter}
 use Rattle.bits.proofs.Puts.{after_sound}
-use Rattle.bits.proofs.Packed.{write_whole, after_whole_lem, count_after_lem, counted_two, sets_start, sets_append, pad_count_lem, pad_out_lem}
+use Rattle.bits.proofs.Packed.{write_whole, after_whole_lem, count_after_lem, counted_two, sets_append, pad_count_lem, pad_out_lem}
 use Rattle.bits.proofs.Words.{words_none, words_then, words_renamed, word_of_lem}
 use Rattle.fixed.specs.Fixed.{is_negative}
-use Rattle.answer.specs.Refusals.{invalid_bit_count, output_too_short, impossible_state, unless, first_of, no_room, stored}
-use Rattle.answer.proofs.Numbers.{first_none, passes, stored_some}
-use Rattle.srl_rules.specs.Rules.{width_ok}
-use Rattle.srl_encoder.specs.Encode.{run_bits, nonzero_bits, value_bits, value_kp, value_zeros, call_bits, call_kp, call_zeros, sink, bits_from, call_bytes, call_after, value_fault, fault, writer_ok, encode_refusal, encoded, EncodesSrl}
+use Rattle.std.specs.Prelude.{None}
+use Rattle.answer.specs.declared.Refusal.TheVariants.{ZeroRunTooLong}
+use Rattle.answer.specs.Answers.{first_of}
+use Rattle.answer.proofs.Refusing.{first_none, passes}
+use Rattle.srl_encoder.specs.Encode.{run_bits, nonzero_bits, value_bits, value_kp, value_zeros, call_bits, call_kp, call_zeros, sink, bits_from, call_bytes, call_after, value_fault, fault, writer_ok}
 use Rattle.srl_encoder.specs.Finish.{flush, finish_bytes}
-use Rattle.srl_encoder.specs.Inner.{call_start, measure_start, call_done, bit_count_of, value_measure, call_count, WroteNonzero, WroteValues, WroteCall, WroteEnd, flushed, flushed_out, GoodWriter}
+use Rattle.srl_encoder.specs.Inner.{call_start, measure_start, call_done, value_measure, call_count, WroteNonzero, WroteValues, WroteCall, WroteEnd, flushed, flushed_out, GoodMeasure, GoodWriter}
 use Rattle.srl_encoder.specs.declared.SrlWriter.{SrlWriter}
-use Rattle.srl_encoder.specs.declared.Encoded.TheVariants.{Bytes, Refused}
 use Rattle.srl_encoder.specs.declared.encoder.CallState.{CallState}
-use Rattle.srl_encoder.specs.declared.encoder.CallDone.{CallDone}
 use Rattle.srl_encoder.specs.declared.encoder.Measured.{Measured}
-use Rattle.srl_encoder.proofs.EncodedValues.{nonzero_value, value_kp_lem}
+use Rattle.srl_encoder.proofs.EncodedValues.{nonzero_value, value_kp_lem, value_zeros_lem, unsigned, measure_unsigned}
 use Rattle.srl_rules.proofs.Widths.{both}
 
 -- what the test of a state says
@@ -87,6 +90,19 @@ wrote_then w out c us vs {d = d} {e = e} {o = o} {p = p} a b =
       zeros = b.zeros ∙ ap (λ x. call_zeros x vs) a.zeros ∙ sym r.2;
     }
 
+-- one value more
+pub wrote_next : (w : ℕ) (out : List ℕ) (c : CallState) (vs : List ℤ) (i : ℕ) {d e : CallState} {o p : List ℕ} → i < length vs → SFits w16 (get_or vs i (pos 0))
+    → WroteValues w out c (take i vs) d o → WroteValues w o d (to_z w16 (of_z w16 (get_or vs i (pos 0))) ∷ []) e p → WroteValues w out c (take (i + 1) vs) e p
+wrote_next w out c vs i {d = d} {e = e} {o = o} {p = p} l f a b =
+    let v = get_or vs i (pos 0) in
+    let more : take i vs ++ (v ∷ []) ≡ take (i + 1) vs = rw add-one (sym (take-suc vs i (pos 0) l)) in
+    subst (λ us. WroteValues w out c us e p) more
+    (wrote_then w out c (take i vs) (v ∷ []) a (subst (λ u. WroteValues w o d (u ∷ []) e p) (to_z-of_z w16 v f) b))
+
+-- what a value leaves
+pub wrote_good : (w : ℕ) (out : List ℕ) (c : CallState) {v : ℤ} {d : CallState} {o : List ℕ} → WroteValues w out c (v ∷ []) d o → c.kp ≤ 80 → (d.kp ≤ 80) × (d.zeros ≤ c.zeros + 1)
+wrote_good w out c {v = v} a h = (rw a.kp (value_kp_lem c.kp c.zeros v h), rw a.zeros (value_zeros_lem c.zeros v))
+
 -- values written from the same state by another name
 pub wrote_from : (w : ℕ) (out : List ℕ) (vs : List ℤ) {c e d : CallState} {o : List ℕ} → c ≡ e → WroteValues w out c vs d o → WroteValues w out e vs d o
 wrote_from w out vs {d = d} {o = o} q r = subst (λ x. WroteValues w out x vs d o) q r
@@ -103,15 +119,27 @@ pub count_step : (w : ℕ) (p : Measured) (v : ℤ) (vs : List ℤ) → call_cou
 count_step w p v vs =
     let a = value_bits w p.kp p.zeros v in
     let b = call_bits w (value_kp p.kp p.zeros v) (value_zeros p.zeros v) vs in
-    ap (λ n. (counted (bit_count_of p) n).at) (length-append a b) ∙ ap (λ x. x.at) (sym (counted_two (bit_count_of p) (length a) (length b)))
+    ap (λ n. (counted p.place n).at) (length-append a b) ∙ ap (λ x. x.at) (sym (counted_two p.place (length a) (length b)))
 
 -- no values complete no byte
-pub count_none : (w : ℕ) (p : Measured) → p.bit_count ≤ 7 → call_count w p [] ≡ p.at
+pub count_none : (w : ℕ) (p : Measured) → p.place.bit_count ≤ 7 → call_count w p [] ≡ p.place.at
 count_none w p h = omega arith
 
 -- values lose no byte that was measured before
-pub count_mono : (w : ℕ) (p : Measured) (vs : List ℤ) → p.at ≤ call_count w p vs
+pub count_mono : (w : ℕ) (p : Measured) (vs : List ℤ) → p.place.at ≤ call_count w p vs
 count_mono w p vs = omega arith
+
+-- one value, by its magnitude: those from there on, and those behind it
+pub count_next : (w : ℕ) (p : Measured) (vs : List ℤ) (i : ℕ) {m : ℕ} {q : Measured} → i < length vs → SFits w16 (get_or vs i (pos 0)) → m ≡ nat_abs (to_z w16 (of_z w16 (get_or vs i (pos 0)))) → q ≡ value_measure w p (pos m)
+    → call_count w p (drop i vs) ≡ call_count w q (drop (i + 1) vs)
+count_next w p vs i l f e h =
+    let v = get_or vs i (pos 0) in
+    let next = h ∙ ap (λ n. value_measure w p (pos n)) (e ∙ ap nat_abs (to_z-of_z w16 v f)) ∙ sym (measure_unsigned w p v) in
+    rw add-one (ap (call_count w p) (drop-cons vs i (pos 0) l) ∙ count_step w p v (drop (suc i) vs) ∙ ap (λ x. call_count w x (drop (suc i) vs)) (sym next))
+
+-- what is measured after it is good again, and at most one zero more is pending
+pub measured_good : (w : ℕ) (p : Measured) (m : ℕ) {q : Measured} → q ≡ value_measure w p (pos m) → GoodMeasure p → GoodMeasure q × (q.zeros ≤ p.zeros + 1)
+measured_good w p m e g = rw e ((omega arith, value_kp_lem p.kp p.zeros (pos m) g.1), value_zeros_lem p.zeros (pos m))
 
 -- ════ a whole call ════
 
@@ -145,74 +173,38 @@ call_kp_lem : (kp z : ℕ) (vs : List ℤ) → kp ≤ 80 → call_kp kp z vs ≤
 call_kp_lem kp z [] h = h
 call_kp_lem kp z (v ∷ vs) h = call_kp_lem (value_kp kp z v) (value_zeros z v) vs (value_kp_lem kp z v h)
 
-value_few : (w z : ℕ) (v : ℤ) → z ≤ 4096 → value_fault w z v ≡ 0 → value_zeros z v ≤ 4096
-value_few w z (pos zero) h e = omega (arith, passes z 4096 5 e)
+-- a value that causes no refusal leaves at most 4,096 zeros pending
+pub value_few : (w z : ℕ) (v : ℤ) → z ≤ 4096 → value_fault w z v ≡ None → value_zeros z v ≤ 4096
+value_few w z (pos zero) h e = omega (arith, passes z 4096 ZeroRunTooLong e)
 value_few w z (pos (suc m)) h e = omega arith
 value_few w z (negsuc m) h e = omega arith
 
-call_few : (w z : ℕ) (vs : List ℤ) → z ≤ 4096 → fault w z vs ≡ 0 → call_zeros z vs ≤ 4096
+call_few : (w z : ℕ) (vs : List ℤ) → z ≤ 4096 → fault w z vs ≡ None → call_zeros z vs ≤ 4096
 call_few w z [] h e = h
 call_few w z (v ∷ vs) h e =
     let f = first_none (value_fault w z v) (fault w (value_zeros z v) vs) e in
     call_few w (value_zeros z v) vs (value_few w z v h f.0) f.1
 
+-- the refusal from a value on that causes none, by its magnitude: that of those behind it
+pub fault_next : (w z : ℕ) (vs : List ℤ) (i : ℕ) {m y : ℕ} → i < length vs → SFits w16 (get_or vs i (pos 0)) → m ≡ nat_abs (to_z w16 (of_z w16 (get_or vs i (pos 0))))
+    → value_fault w z (pos m) ≡ None → y ≡ value_zeros z (pos m) → fault w z (drop i vs) ≡ fault w y (drop (i + 1) vs)
+fault_next w z vs i l f e none h =
+    let v = get_or vs i (pos 0) in
+    let rest = drop (suc i) vs in
+    let m = e ∙ ap nat_abs (to_z-of_z w16 v f) in
+    let u = unsigned w z v in
+    rw add-one
+    (ap (fault w z) (drop-cons vs i (pos 0) l)
+    ∙ ap (λ x. first_of x (fault w (value_zeros z v) rest)) (u.0 ∙ ap (λ m. value_fault w z (pos m)) (sym m) ∙ none)
+    ∙ ap (λ x. fault w x rest) (u.1 ∙ ap (λ m. value_zeros z (pos m)) (sym m) ∙ sym h))
+
 -- it is good again
-pub call_good : (w : ℕ) (st : SrlWriter) (vs : List ℤ) → GoodWriter st → fault w st.pending_zeros vs ≡ 0 → GoodWriter (call_after w st vs)
+pub call_good : (w : ℕ) (st : SrlWriter) (vs : List ℤ) → GoodWriter st → fault w st.pending_zeros vs ≡ None → GoodWriter (call_after w st vs)
 call_good w st vs g e = (
   after_sound (sink st) (bits_from w st vs) g.0,
   call_kp_lem st.kp st.pending_zeros vs g.1,
   call_few w st.pending_zeros vs g.2 e,
 )
-
--- ════ what `encode` refuses, test by test, and what it answers then ════
-
--- the answer of a refusal
-pub encoded_some : (n m : ℕ) (next st : SrlWriter) → (n ≡ 0 → ⊥) → encoded n m next st ≡ Refused n st
-encoded_some zero m next st h = absurd (h refl)
-encoded_some (suc n) m next st h = refl
-
-module _ (st : SrlWriter) (vs : List ℤ) (out : List ℕ) (w : ℕ) where
-  -- `encode_refusal` by its two tests and the values' refusal
-  abbrev refusal : Bool → Bool → ℕ → ℕ
-  refusal s q f =
-      first_of (unless s impossible_state) (first_of (unless q invalid_bit_count) (first_of f (no_room (length out) (length (call_bytes w st vs)))))
-
-  -- a state that no encoder has is refused first
-  pub refusal_state : writer_ok st ≡ false → encode_refusal st vs (length out) w ≡ impossible_state
-  refusal_state s = ap (λ b. refusal b (width_ok w) (fault w st.pending_zeros vs)) s
-
-  -- a width that no nonzero value can have is refused next
-  pub refusal_width : writer_ok st ≡ true → width_ok w ≡ false → encode_refusal st vs (length out) w ≡ invalid_bit_count
-  refusal_width s q = ap (λ b. refusal b (width_ok w) (fault w st.pending_zeros vs)) s ∙ ap (λ b. refusal true b (fault w st.pending_zeros vs)) q
-
-  -- past these two the refusal is that of the values, or else of the room
-  pub refusal_rest : writer_ok st ≡ true → width_ok w ≡ true → {f : ℕ} → f ≡ fault w st.pending_zeros vs
-      → encode_refusal st vs (length out) w ≡ first_of f (no_room (length out) (length (call_bytes w st vs)))
-  refusal_rest s q e =
-      ap (λ b. refusal b (width_ok w) (fault w st.pending_zeros vs)) s
-      ∙ ap (λ b. refusal true b (fault w st.pending_zeros vs)) q
-      ∙ ap (refusal true true) (sym e)
-
-  -- past the values' refusals it is that of the bytes measured
-  pub refusal_room : writer_ok st ≡ true → width_ok w ≡ true → {f : ℕ} → f ≡ fault w st.pending_zeros vs → f ≡ 0
-      → {r : Bool} → r ≡ ltb (length out) (length (call_bytes w st vs)) → encode_refusal st vs (length out) w ≡ cond r output_too_short 0
-  refusal_room s q e z m = refusal_rest s q (sym z ∙ e) ∙ ap (λ b. cond b output_too_short 0) (sym m)
-
-  -- what a refused call fixes
-  pub refused : (n : ℕ) → (n ≡ 0 → ⊥) → encode_refusal st vs (length out) w ≡ n → EncodesSrl st vs out w (Refused n st) out
-  refused n h r = record {
-    answer = sym (ap (λ x. encoded x (length (call_bytes w st vs)) (call_after w st vs) st) r ∙ encoded_some n (length (call_bytes w st vs)) (call_after w st vs) st h);
-    out = sym (ap (λ x. stored x (call_bytes w st vs) out) r ∙ stored_some n (call_bytes w st vs) out h);
-  }
-
-  -- where it is none
-  pub accepted : encode_refusal st vs (length out) w ≡ 0 → length (call_bytes w st vs) ≤ length out → {r : CallDone} {o : List ℕ} → WroteCall w out st vs r o
-      → EncodesSrl st vs out w (Bytes r.count r.state) o
-  accepted q h {r = r} d = record {
-    answer = ap (Bytes r.count) d.state ∙ ap (λ n. Bytes n (call_after w st vs)) d.count
-        ∙ sym (ap (λ x. encoded x (length (call_bytes w st vs)) (call_after w st vs) st) q);
-    out = d.out ∙ sets_start (call_bytes w st vs) out h ∙ sym (ap (λ x. stored x (call_bytes w st vs) out) q);
-  }
 
 -- ════ the end of a stream ════
 

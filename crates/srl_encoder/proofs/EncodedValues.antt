@@ -11,9 +11,11 @@ use borrow.Author.Tests.{lt-ltb, le-ltb}
 use Rattle.bits.specs.Inner.{counted}
 use Rattle.fixed.specs.Fixed.{is_negative}
 use Rattle.srl_encoder.specs.Encode.{run_bits, run_kp, nonzero_bits, value_bits, value_kp, value_zeros, value_fault}
-use Rattle.srl_encoder.specs.Inner.{bit_count_of, value_measure}
+use Rattle.srl_encoder.specs.Inner.{value_measure}
 use Rattle.srl_encoder.specs.declared.encoder.Measured.{Measured}
-use Rattle.answer.specs.Refusals.{magnitude_out_of_range, zero_run_too_long, unless}
+use Rattle.std.specs.Prelude.{None}
+use Rattle.answer.specs.declared.Refusal.TheVariants.{MagnitudeOutOfRange, ZeroRunTooLong}
+use Rattle.answer.specs.Answers.{unless}
 use Rattle.srl_encoder.proofs.Runs.{run_kp_le}
 
 -- a value of magnitude 0 is 0
@@ -48,16 +50,16 @@ value_zeros_lem z (pos (suc m)) = omega arith
 value_zeros_lem z (negsuc m) = omega arith
 
 -- the refusal that a nonzero value causes, by its magnitude
-pub fault_nonzero : (v : ℤ) (w z m : ℕ) → m ≡ nat_abs v → (m ≡ 0 → ⊥) → value_fault w z v ≡ unless (ltb (m - 1) (2 ^ w - 1)) magnitude_out_of_range
+pub fault_nonzero : (v : ℤ) (w z m : ℕ) → m ≡ nat_abs v → (m ≡ 0 → ⊥) → value_fault w z v ≡ unless (ltb (m - 1) (2 ^ w - 1)) MagnitudeOutOfRange
 fault_nonzero (pos zero) w z m e n = absurd (n e)
-fault_nonzero (pos (suc j)) w z m e n = let q : j ≡ m - 1 = omega arith in ap (λ x. unless (ltb x (2 ^ w - 1)) magnitude_out_of_range) q
-fault_nonzero (negsuc j) w z m e n = let q : j ≡ m - 1 = omega arith in ap (λ x. unless (ltb x (2 ^ w - 1)) magnitude_out_of_range) q
+fault_nonzero (pos (suc j)) w z m e n = let q : j ≡ m - 1 = omega arith in ap (λ x. unless (ltb x (2 ^ w - 1)) MagnitudeOutOfRange) q
+fault_nonzero (negsuc j) w z m e n = let q : j ≡ m - 1 = omega arith in ap (λ x. unless (ltb x (2 ^ w - 1)) MagnitudeOutOfRange) q
 
 -- a magnitude that its width admits, and not too many zeros, cause no refusal
-pub fault_none : (v : ℤ) (w z m : ℕ) → m ≡ nat_abs v → m ≤ 2 ^ w - 1 → (m ≡ 0 → z < 4096) → value_fault w z v ≡ 0
-fault_none (pos zero) w z m e l h = ap (λ b. unless b zero_run_too_long) (lt-ltb z 4096 (h e))
-fault_none (pos (suc j)) w z m e l h = ap (λ b. unless b magnitude_out_of_range) (lt-ltb j (2 ^ w - 1) (omega arith))
-fault_none (negsuc j) w z m e l h = ap (λ b. unless b magnitude_out_of_range) (lt-ltb j (2 ^ w - 1) (omega arith))
+pub fault_none : (v : ℤ) (w z m : ℕ) → m ≡ nat_abs v → m ≤ 2 ^ w - 1 → (m ≡ 0 → z < 4096) → value_fault w z v ≡ None
+fault_none (pos zero) w z m e l h = ap (λ b. unless b ZeroRunTooLong) (lt-ltb z 4096 (h e))
+fault_none (pos (suc j)) w z m e l h = ap (λ b. unless b MagnitudeOutOfRange) (lt-ltb j (2 ^ w - 1) (omega arith))
+fault_none (negsuc j) w z m e l h = ap (λ b. unless b MagnitudeOutOfRange) (lt-ltb j (2 ^ w - 1) (omega arith))
 
 -- ════ by its magnitude ════
 
@@ -77,5 +79,4 @@ unsigned_bits w kp z (negsuc m) =
 pub measure_unsigned : (w : ℕ) (p : Measured) (v : ℤ) → value_measure w p v ≡ value_measure w p (pos (nat_abs v))
 measure_unsigned w p v =
     let b = unsigned_bits w p.kp p.zeros v in
-    let n = ap (counted (bit_count_of p)) b.0 in
-    λ i. record { at = (n i).at; bit_count = (n i).bit_count; kp = b.1 i; zeros = (unsigned w p.zeros v).1 i }
+    λ i. record { place = counted p.place (b.0 i); kp = b.1 i; zeros = (unsigned w p.zeros v).1 i }

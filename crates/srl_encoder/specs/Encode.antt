@@ -1,12 +1,12 @@
 -- The SRL encoder (docs/SCOPE.md, "SRL"; MS-RDPEGFX 3.1.8.1.5): the bits of each value, and what a call of `encode` answers and stores; `Finish` has the end of a stream.
-use Rattle.std.specs.Prelude.{◌≡◌, Bool, true, false, cond, ◌&&◌, List, [], ◌∷◌, ◌++◌, ℕ, zero, suc, ◌+◌, ◌-◌, ◌/◌, ◌^◌, min, ltb, leb, ℤ, pos, negsuc, length, replicate}
+use Rattle.std.specs.Prelude.{◌≡◌, Bool, true, false, cond, ◌&&◌, List, [], ◌∷◌, ◌++◌, ℕ, zero, suc, ◌+◌, ◌-◌, ◌/◌, ◌^◌, min, ltb, leb, ℤ, pos, negsuc, length, replicate, Option, None, Result}
 use Rattle.bits.specs.Written.{bits_of, whole, after, writer}
 use Rattle.bits.specs.declared.writer.BitWriter.{BitWriter}
-use Rattle.answer.specs.Refusals.{invalid_bit_count, magnitude_out_of_range, zero_run_too_long, impossible_state, unless, first_of, no_room, stored}
+use Rattle.answer.specs.declared.Refusal.{Refusal}
+use Rattle.answer.specs.declared.Refusal.TheVariants.{InvalidBitCount, MagnitudeOutOfRange, ZeroRunTooLong, ImpossibleState}
+use Rattle.answer.specs.Answers.{unless, first_of, no_room, answered, unless_refused, stored, number_of_answer, given_or}
 use Rattle.srl_rules.specs.Rules.{width_ok}
 use Rattle.srl_encoder.specs.declared.SrlWriter.{SrlWriter}
-use Rattle.srl_encoder.specs.declared.Encoded.{Encoded}
-use Rattle.srl_encoder.specs.declared.Encoded.TheVariants.{Bytes, Refused}
 
 -- ════ bits ════
 
@@ -99,55 +99,49 @@ writer_ok st =
     leb st.kp 80 && (leb st.bit_count 7 && (leb st.pending_zeros 4096 && ltb st.current (2 ^ st.bit_count)))
 
 -- by a value. 5: "a magnitude above the maximum of its width". 6: "more than 4,096 pending zeros"
-abbrev pub value_fault : ℕ → ℕ → ℤ → ℕ
-value_fault w z (pos zero) = unless (ltb z 4096) zero_run_too_long
-value_fault w z (pos (suc m)) = unless (ltb m (2 ^ w - 1)) magnitude_out_of_range
-value_fault w z (negsuc m) = unless (ltb m (2 ^ w - 1)) magnitude_out_of_range
+abbrev pub value_fault : ℕ → ℕ → ℤ → Option Refusal
+value_fault w z (pos zero) = unless (ltb z 4096) ZeroRunTooLong
+value_fault w z (pos (suc m)) = unless (ltb m (2 ^ w - 1)) MagnitudeOutOfRange
+value_fault w z (negsuc m) = unless (ltb m (2 ^ w - 1)) MagnitudeOutOfRange
 
 -- "5 or 6 by the earlier value"
-abbrev pub fault : ℕ → ℕ → List ℤ → ℕ
-fault w z [] = 0
+abbrev pub fault : ℕ → ℕ → List ℤ → Option Refusal
+fault w z [] = None
 fault w z (v ∷ vs) = first_of (value_fault w z v) (fault w (value_zeros z v) vs)
 
 -- "order: 8, .. 4, then 5 or 6 by the earlier value, 7"; "`encode` refuses a bad width even for an empty list"
-abbrev pub encode_refusal : SrlWriter → List ℤ → ℕ → ℕ → ℕ
+abbrev pub encode_refusal : SrlWriter → List ℤ → ℕ → ℕ → Option Refusal
 encode_refusal st vs room w =
-    first_of (unless (writer_ok st) impossible_state)
-    (first_of (unless (width_ok w) invalid_bit_count)
+    first_of (unless (writer_ok st) ImpossibleState)
+    (first_of (unless (width_ok w) InvalidBitCount)
     (first_of (fault w st.pending_zeros vs)
     (no_room room (length (call_bytes w st vs)))))
 
--- ════ the answer, and what `out` holds then ════
-
+-- ════ the answer, the state after it, and what `out` holds then ════
 -- "a refusal gives its number, zero lengths and counts, and the state handed in, and alters no lent element"
-abbrev pub encoded : ℕ → ℕ → SrlWriter → SrlWriter → Encoded
-encoded zero n next st = Bytes n next
-encoded (suc k) n next st = Refused (suc k) st
 
 -- what `encode` answers
-abbrev pub encode_answer : SrlWriter → List ℤ → ℕ → ℕ → Encoded
-encode_answer st vs room w = encoded (encode_refusal st vs room w) (length (call_bytes w st vs)) (call_after w st vs) st
+abbrev pub encode_answer : SrlWriter → List ℤ → ℕ → ℕ → Result ℕ Refusal
+encode_answer st vs room w = answered (encode_refusal st vs room w) (length (call_bytes w st vs))
+
+-- the state after it
+abbrev pub encode_state : SrlWriter → List ℤ → ℕ → ℕ → SrlWriter
+encode_state st vs room w = unless_refused (encode_refusal st vs room w) (call_after w st vs) st
 
 -- what `out` holds after it
 abbrev pub encode_out : SrlWriter → List ℤ → List ℕ → ℕ → List ℕ
 encode_out st vs out w = stored (encode_refusal st vs (length out) w) (call_bytes w st vs) out
 
--- what the call fixes: its answer, and the output
-pub record EncodesSrl (st : SrlWriter) (vs : List ℤ) (o : List ℕ) (w : ℕ) (r : Encoded) (o' : List ℕ) : Type 0 where
+-- what the call fixes: its answer, the state, and the output
+pub record EncodesSrl (st : SrlWriter) (vs : List ℤ) (o : List ℕ) (w : ℕ) (r : Result ℕ Refusal) (st' : SrlWriter) (o' : List ℕ) : Type 0 where
   pub answer : r ≡ encode_answer st vs (length o) w
+  pub state : st' ≡ encode_state st vs (length o) w
   pub out : o' ≡ encode_out st vs o w
 
--- the number of each case
-abbrev pub encoded_number : Encoded → ℕ
-encoded_number (Bytes n st) = 0
-encoded_number (Refused k st) = k
+-- the number of an answer
+abbrev pub encoded_number : Result ℕ Refusal → ℕ
+encoded_number r = number_of_answer r
 
--- the count of bytes of each case
-abbrev pub encoded_count : Encoded → ℕ
-encoded_count (Bytes n st) = n
-encoded_count (Refused k st) = 0
-
--- the state of each case
-abbrev pub encoded_state : Encoded → SrlWriter
-encoded_state (Bytes n st) = st
-encoded_state (Refused k st) = st
+-- the count of bytes of an answer
+abbrev pub encoded_count : Result ℕ Refusal → ℕ
+encoded_count r = given_or 0 r

@@ -1,11 +1,11 @@
 -- The end of an SRL stream: what `finish` answers and stores (docs/SCOPE.md, "SRL", "Refusals").
-use Rattle.std.specs.Prelude.{◌≡◌, Bool, List, [], ◌∷◌, ◌++◌, ℕ, zero, suc, ℤ, length}
+use Rattle.std.specs.Prelude.{◌≡◌, Bool, List, [], ◌∷◌, ◌++◌, ℕ, zero, suc, ℤ, length, Option, Result, Ok, Err}
 use Rattle.bits.specs.Written.{pack}
-use Rattle.answer.specs.Refusals.{impossible_state, unless, first_of, no_room, stored}
+use Rattle.answer.specs.declared.Refusal.{Refusal}
+use Rattle.answer.specs.declared.Refusal.TheVariants.{ImpossibleState}
+use Rattle.answer.specs.Answers.{unless, first_of, no_room, answered, stored, number_of_answer, given_or}
 use Rattle.srl_encoder.specs.Encode.{run_bits, value_bits, value_kp, value_zeros, writer_ok}
 use Rattle.srl_encoder.specs.declared.SrlWriter.{SrlWriter}
-use Rattle.srl_encoder.specs.declared.Finished.{Finished}
-use Rattle.srl_encoder.specs.declared.Finished.TheVariants.{Stream, Refused}
 
 -- "`finish` writes a pending run as if a value followed"
 abbrev pub flush : ℕ → ℕ → List Bool
@@ -23,38 +23,31 @@ stream_bits kp z [] (v ∷ vs) = []
 stream_bits kp z (w ∷ ws) (v ∷ vs) = value_bits w kp z v ++ stream_bits (value_kp kp z v) (value_zeros z v) ws vs
 
 -- "order: 8, .. 7"
-abbrev pub finish_refusal : SrlWriter → ℕ → ℕ
-finish_refusal st room = first_of (unless (writer_ok st) impossible_state) (no_room room (length (finish_bytes st)))
+abbrev pub finish_refusal : SrlWriter → ℕ → Option Refusal
+finish_refusal st room = first_of (unless (writer_ok st) ImpossibleState) (no_room room (length (finish_bytes st)))
 
--- "a refusal gives its number, zero lengths and counts, and the state handed in": after the end of a stream there is no state
-abbrev pub finished : ℕ → ℕ → SrlWriter → Finished
-finished zero n st = Stream n
-finished (suc k) n st = Refused (suc k) st
-
--- what `finish` answers
-abbrev pub finish_answer : SrlWriter → ℕ → Finished
-finish_answer st room = finished (finish_refusal st room) (length (finish_bytes st)) st
+-- what `finish` answers: "a refusal gives its number, zero lengths and counts"
+abbrev pub finish_answer : SrlWriter → ℕ → Result ℕ Refusal
+finish_answer st room = answered (finish_refusal st room) (length (finish_bytes st))
 
 -- what `out` holds after it
 abbrev pub finish_out : SrlWriter → List ℕ → List ℕ
 finish_out st out = stored (finish_refusal st (length out)) (finish_bytes st) out
 
 -- what the call fixes: its answer, and the output
-pub record FinishesSrl (st : SrlWriter) (o : List ℕ) (r : Finished) (o' : List ℕ) : Type 0 where
+pub record FinishesSrl (st : SrlWriter) (o : List ℕ) (r : Result ℕ Refusal) (o' : List ℕ) : Type 0 where
   pub answer : r ≡ finish_answer st (length o)
   pub out : o' ≡ finish_out st o
 
--- the number of each case
-abbrev pub finished_number : Finished → ℕ
-finished_number (Stream n) = 0
-finished_number (Refused k st) = k
+-- the number of an answer
+abbrev pub finished_number : Result ℕ Refusal → ℕ
+finished_number r = number_of_answer r
 
--- the count of bytes of each case
-abbrev pub finished_count : Finished → ℕ
-finished_count (Stream n) = n
-finished_count (Refused k st) = 0
+-- the count of bytes of an answer
+abbrev pub finished_count : Result ℕ Refusal → ℕ
+finished_count r = given_or 0 r
 
--- the state of each case: after the end of a stream there is none
-abbrev pub finished_state : Finished → List SrlWriter
-finished_state (Stream n) = []
-finished_state (Refused k st) = st ∷ []
+-- the state from which a stream goes on: "the state handed in" with a refusal, and after the end of a stream there is none
+abbrev pub finished_state : SrlWriter → Result ℕ Refusal → List SrlWriter
+finished_state st (Ok n) = []
+finished_state st (Err refusal) = st ∷ []

@@ -4,7 +4,6 @@ use Rattle.std.proofs.lemmas.List.Edits.{sets}
 use Rattle.bits.specs.Written.{bits_of, after}
 use Rattle.bits.specs.Inner.{Sound, write, pad_count, pad_out, counted, settled, settled_out, SoundWord, WroteWords, word_of}
 use Rattle.bits.specs.declared.writer.BitWriter.{BitWriter}
-use Rattle.bits.specs.declared.writer.BitCount.{BitCount}
 use Rattle.srl_encoder.specs.Encode.{run_bits, run_kp, nonzero_bits, value_bits, value_kp, value_zeros, call_bits, call_kp, call_zeros, sink, call_bytes, call_after}
 use Rattle.srl_encoder.specs.Finish.{flush}
 use Rattle.srl_encoder.specs.declared.SrlWriter.{SrlWriter}
@@ -92,25 +91,20 @@ pub record WroteEnd (l : List ℕ) (c : CallState) (n : ℕ) (o : List ℕ) : Ty
 
 -- it starts as a call does
 abbrev pub measure_start : SrlWriter → Measured
-measure_start st = record { at = 0; bit_count = st.bit_count; kp = st.kp; zeros = st.pending_zeros }
-
--- the count of bytes and bits alone
-abbrev pub bit_count_of : Measured → BitCount
-bit_count_of p = record { at = p.at; bit_count = p.bit_count }
+measure_start st = record { place = record { at = 0; bit_count = st.bit_count }; kp = st.kp; zeros = st.pending_zeros }
 
 -- after a value
 abbrev pub value_measure : ℕ → Measured → ℤ → Measured
 value_measure w p v =
     record {
-      at = (counted (bit_count_of p) (length (value_bits w p.kp p.zeros v))).at;
-      bit_count = (counted (bit_count_of p) (length (value_bits w p.kp p.zeros v))).bit_count;
+      place = counted p.place (length (value_bits w p.kp p.zeros v));
       kp = value_kp p.kp p.zeros v;
       zeros = value_zeros p.zeros v;
     }
 
 -- how many bytes are complete after some values
 abbrev pub call_count : ℕ → Measured → List ℤ → ℕ
-call_count w p vs = (counted (bit_count_of p) (length (call_bits w p.kp p.zeros vs))).at
+call_count w p vs = (counted p.place (length (call_bits w p.kp p.zeros vs))).at
 
 -- ════ what the inner functions ask of a state ════
 
@@ -120,7 +114,7 @@ Good c = SoundWord c.sink × (c.kp ≤ 80)
 
 -- of a measure
 abbrev pub GoodMeasure : Measured → Type 0
-GoodMeasure p = (p.bit_count ≤ 7) × (p.kp ≤ 80)
+GoodMeasure p = (p.place.bit_count ≤ 7) × (p.kp ≤ 80)
 
 -- of a writer that is handed in
 abbrev pub GoodWriter : SrlWriter → Type 0

@@ -1,14 +1,16 @@
 // The encoder, value by value. A refusal alters nothing, so a call looks at all its values and measures them before it stores any.
-ghost use Rattle.std.specs.Prelude.{◌≡◌, true, [], ◌∷◌, ◌++◌, ◌+◌, ◌-◌, ◌*◌, ◌/◌, ◌^◌, ◌≤◌, ◌<◌, max, ltb, pos, length};
+ghost use Rattle.std.specs.Prelude.{◌≡◌, true, [], ◌∷◌, ◌++◌, ◌+◌, ◌-◌, ◌*◌, ◌/◌, ◌^◌, ◌≤◌, ◌<◌, max, ltb, pos, length, None};
 ghost use Rattle.std.proofs.lemmas.List.Edits.{sets};
+ghost use Rattle.answer.specs.Answers.{answered};
 ghost use Rattle.bits.specs.Bits.{bit_of};
 ghost use Rattle.bits.specs.Inner.{SoundWord, WroteWords};
 ghost use Rattle.srl_rules.specs.Inner.{Width};
 ghost use Rattle.srl_encoder.specs.Encode.{call_bytes, nonzero_bits, value_zeros, writer_ok, value_fault, fault};
 ghost use Rattle.srl_encoder.specs.Finish.{flush, finish_bytes};
-ghost use Rattle.srl_encoder.specs.Inner.{largest, plan_bits, GoodPlan, Planned, stop_count, call_start, call_of, call_done, call_end, WroteNonzero, WroteValues, WroteCall, WroteEnd, measure_start, value_measure, call_count, Good, GoodMeasure, GoodWriter};
+ghost use Rattle.srl_encoder.specs.Inner.{largest, plan_bits, GoodPlan, Planned, stop_count, call_start, call_done, call_end, WroteNonzero, WroteValues, WroteCall, WroteEnd, measure_start, value_measure, call_count, Good, GoodMeasure, GoodWriter};
 
 use crate::{MAX_ZERO_RUN, SrlWriter};
+use answer::Refusal;
 
 // How a run of zeros is written: `steps` bits 0, a bit 1, and `rest` in kp / 8 bits.
 #[derive(Clone, Copy)]
@@ -26,20 +28,19 @@ pub struct CallState {
     pub zeros: usize,
 }
 
+// The same where a call is only measured: its bits are counted in `place`.
+#[derive(Clone, Copy)]
+pub struct Measured {
+    pub place: bits::writer::BitCount,
+    pub kp: u8,
+    pub zeros: usize,
+}
+
 // What a call has written: so many whole bytes, and the state after it.
 #[derive(Clone, Copy)]
 pub struct CallDone {
     pub count: usize,
     pub state: SrlWriter,
-}
-
-// The same with no bits: `at` whole bytes and `bit_count` bits are counted.
-#[derive(Clone, Copy)]
-pub struct Measured {
-    pub at: usize,
-    pub bit_count: u8,
-    pub kp: u8,
-    pub zeros: usize,
 }
 
 // ---- states
@@ -48,17 +49,10 @@ pub struct Measured {
 pub fn writer_ok(st: SrlWriter) -> bool
     ensures { result ≡ writer_ok st }
 {
-    if srl_rules::MAX_KP < st.kp {
-        return false;
-    }
-    if 7 < st.bit_count {
-        return false;
-    }
-    if MAX_ZERO_RUN < st.pending_zeros {
-        return false;
-    }
-    let limit = 1u16 << st.bit_count;
-    (st.current as u16) < limit
+    st.kp <= srl_rules::MAX_KP
+        && st.bit_count <= 7
+        && st.pending_zeros <= MAX_ZERO_RUN
+        && u16::from(st.current) < 1 << st.bit_count
 }
 
 pub fn call_start(st: SrlWriter) -> CallState
@@ -79,8 +73,10 @@ fn measure_start(st: SrlWriter) -> Measured
     ensures { result ≡ measure_start st }
 {
     Measured {
-        at: 0,
-        bit_count: st.bit_count,
+        place: bits::writer::BitCount {
+            at: 0,
+            bit_count: st.bit_count,
+        },
         kp: st.kp,
         zeros: st.pending_zeros,
     }
@@ -103,21 +99,18 @@ fn call_done(c: CallState, sink: bits::writer::BitWriter) -> CallDone
 
 // ---- the values' refusals
 
-// The refusal that a value of magnitude m causes, or 0.
-fn value_fault(zeros: usize, m: u16, num_bits: u8) -> u8
+// The refusal that a value of magnitude m causes, if any.
+fn value_fault(zeros: usize, m: u16, num_bits: u8) -> Result<(), Refusal>
     requires { Width num_bits }
-    ensures { result ≡ value_fault num_bits zeros (pos m) }
+    ensures { result ≡ answered (value_fault num_bits zeros (pos m)) tt }
 {
     if srl_rules::max_magnitude(num_bits) < m {
-        return answer::MAGNITUDE_OUT_OF_RANGE;
+        return Err(Refusal::MagnitudeOutOfRange);
     }
-    if zeros < MAX_ZERO_RUN {
-        return 0;
+    if m == 0 && zeros >= MAX_ZERO_RUN {
+        return Err(Refusal::ZeroRunTooLong);
     }
-    if m == 0 {
-        return answer::ZERO_RUN_TOO_LONG;
-    }
-    0
+    Ok(())
 }
 
 // The pending zeros after a value of magnitude m.
@@ -125,59 +118,43 @@ fn zeros_after(zeros: usize, m: u16) -> usize
     requires { zeros + 1 < 2 ^ 64 }
     ensures { result ≡ value_zeros zeros (pos m) }
 {
-    if m == 0 {
-        return zeros + 1;
-    }
-    0
+    if m == 0 { zeros + 1 } else { 0 }
 }
 
-// The first refusal that a value causes, or 0.
-fn find_fault(values: &[i16], zeros: usize, num_bits: u8) -> u8
+// The first refusal that a value causes, if any.
+fn find_fault(values: &[i16], zeros: usize, num_bits: u8) -> Result<(), Refusal>
     requires { Width num_bits × (zeros ≤ 4096) }
-    ensures { result ≡ fault num_bits zeros values.now }
+    ensures { result ≡ answered (fault num_bits zeros values.now) tt }
 {
-    let mut z = zeros;
-    let mut i: usize = 0;
-    while i < values.len() {
-        let m = fixed::magnitude(values[i]);
-        let f = value_fault(z, m, num_bits);
-        if f != 0 {
-            return f;
-        }
-        z = zeros_after(z, m);
-        i += 1;
+    let mut pending = zeros;
+    for v in values {
+        let m = fixed::magnitude(*v);
+        value_fault(pending, m, num_bits)?;
+        pending = zeros_after(pending, m);
     }
-    0
+    Ok(())
 }
 
-pub fn larger(a: u16, b: u16) -> u16
-    ensures { result ≡ max a b }
-{
-    if a < b { b } else { a }
-}
-
-// The largest magnitude, in a pass without branches, which the compiler does several values at a time.
+// The largest magnitude, 0 of no values. It has no branches, and the compiler does several values at a time.
 fn largest_magnitude(values: &[i16]) -> u16
     ensures { result ≡ largest values.now }
 {
-    let mut most: u16 = 0;
-    let mut i: usize = 0;
-    while i < values.len() {
-        most = larger(most, fixed::magnitude(values[i]));
-        i += 1;
-    }
-    most
+    values
+        .iter()
+        .map(|v| fixed::magnitude(*v))
+        .max()
+        .unwrap_or(0)
 }
 
-// The refusal that the values cause, or 0. Too few for a run that is too long, and none too large: that is soon seen.
-pub fn values_fault(values: &[i16], zeros: usize, num_bits: u8) -> u8
+// The refusal that the values cause, if any. Too few for a run that is too long, and none too large: that is soon seen.
+pub fn values_fault(values: &[i16], zeros: usize, num_bits: u8) -> Result<(), Refusal>
     requires { Width num_bits × (zeros ≤ 4096) }
-    ensures { result ≡ fault num_bits zeros values.now }
+    ensures { result ≡ answered (fault num_bits zeros values.now) tt }
 {
-    if zeros + values.len() <= MAX_ZERO_RUN {
-        if largest_magnitude(values) <= srl_rules::max_magnitude(num_bits) {
-            return 0;
-        }
+    if zeros + values.len() <= MAX_ZERO_RUN
+        && largest_magnitude(values) <= srl_rules::max_magnitude(num_bits)
+    {
+        return Ok(());
     }
     find_fault(values, zeros, num_bits)
 }
@@ -189,21 +166,17 @@ pub fn plan_run(kp: u8, zeros: usize) -> RunPlan
     requires { kp ≤ 80 }
     ensures { Planned kp zeros result }
 {
-    let mut steps: usize = 0;
-    let mut p = kp;
-    let mut z = zeros;
-    let mut size = srl_rules::run_size(kp);
-    while size <= z {
-        steps += 1;
-        z -= size;
-        p = srl_rules::raised(p);
-        size = srl_rules::run_size(p);
+    let mut plan = RunPlan {
+        steps: 0,
+        kp,
+        rest: zeros,
+    };
+    while srl_rules::run_size(plan.kp) <= plan.rest {
+        plan.steps += 1;
+        plan.rest -= srl_rules::run_size(plan.kp);
+        plan.kp = srl_rules::raised(plan.kp);
     }
-    RunPlan {
-        steps,
-        kp: p,
-        rest: z,
-    }
+    plan
 }
 
 fn run_length(r: RunPlan) -> usize
@@ -219,9 +192,10 @@ fn stop_count(m: u16, num_bits: u8) -> u8
     ensures { result ≡ stop_count num_bits m }
 {
     if m < srl_rules::max_magnitude(num_bits) {
-        return 1;
+        1
+    } else {
+        0
     }
-    0
 }
 
 // The bits of a nonzero value of magnitude m.
@@ -242,26 +216,18 @@ pub fn planned_length(plan: RunPlan, m: u16, num_bits: u8) -> usize
 
 // One value of magnitude m. Its sign takes a bit, whichever it is.
 pub fn measure_value(p: Measured, m: u16, num_bits: u8) -> Measured
-    requires { GoodMeasure p × (p.at + p.zeros + 70000 < 2 ^ 64) × Width num_bits }
+    requires { GoodMeasure p × (p.place.at + p.zeros + 70000 < 2 ^ 64) × Width num_bits }
     ensures { result ≡ value_measure num_bits p (pos m) }
 {
     if m == 0 {
         return Measured {
-            at: p.at,
-            bit_count: p.bit_count,
-            kp: p.kp,
             zeros: p.zeros + 1,
+            ..p
         };
     }
     let plan = plan_run(p.kp, p.zeros);
-    let place = bits::writer::BitCount {
-        at: p.at,
-        bit_count: p.bit_count,
-    };
-    let next = bits::writer::count_bits(place, planned_length(plan, m, num_bits));
     Measured {
-        at: next.at,
-        bit_count: next.bit_count,
+        place: bits::writer::count_bits(p.place, planned_length(plan, m, num_bits)),
         kp: srl_rules::lowered(plan.kp),
         zeros: 0,
     }
@@ -272,19 +238,16 @@ fn too_many(values: &[i16], p: Measured, num_bits: u8, limit: usize) -> bool
     requires { GoodMeasure p
         × (p.zeros ≤ 4096)
         × Width num_bits
-        × (p.at ≤ limit)
+        × (p.place.at ≤ limit)
         × (limit < 2 ^ 63) }
     ensures { result ≡ ltb limit (call_count num_bits p values.now) }
 {
     let mut cur = p;
-    let mut i: usize = 0;
-    while i < values.len() {
-        let m = fixed::magnitude(values[i]);
-        cur = measure_value(cur, m, num_bits);
-        if limit < cur.at {
+    for v in values {
+        cur = measure_value(cur, fixed::magnitude(*v), num_bits);
+        if limit < cur.place.at {
             return true;
         }
-        i += 1;
     }
     false
 }
@@ -305,7 +268,7 @@ fn surely_fits(count: usize, num_bits: u8, room: usize) -> bool
 pub fn exceeds(values: &[i16], st: SrlWriter, num_bits: u8, room: usize) -> bool
     requires { GoodWriter st
         × Width num_bits
-        × (fault num_bits st.pending_zeros values.now ≡ 0)
+        × (fault num_bits st.pending_zeros values.now ≡ None)
         × (room < 2 ^ 63) }
     ensures { result ≡ ltb room (length (call_bytes num_bits st values.now)) }
 {
@@ -398,50 +361,29 @@ fn put_value(out: &mut [u8], c: CallState, m: u16, negative: bool, num_bits: u8)
     ensures { WroteNonzero num_bits out.old c m negative result out.new }
 {
     let plan = plan_run(c.kp, c.zeros);
-    let sink = c.sink;
-    let done = put_planned(out, sink, plan, m, negative, num_bits);
     CallState {
-        sink: done,
+        sink: put_planned(out, c.sink, plan, m, negative, num_bits),
         kp: srl_rules::lowered(plan.kp),
         zeros: 0,
     }
 }
 
-fn call_of(at: usize, word: u64, held: u8, kp: u8, zeros: usize) -> CallState
-    ensures { result ≡ call_of at word held kp zeros }
-{
-    CallState {
-        sink: bits::writer::WordWriter { at, word, held },
-        kp,
-        zeros,
-    }
-}
-
-// One value, from the parts of a state. A zero, which most values are, is only counted: there the state goes through no memory.
-fn put_next(
-    out: &mut [u8],
-    at: usize,
-    word: u64,
-    held: u8,
-    kp: u8,
-    zeros: usize,
-    v: i16,
-    num_bits: u8,
-) -> CallState
-    requires { Good (call_of at word held kp zeros)
-        × (at + (zeros + 70000) < 2 ^ 64)
-        × Width num_bits }
-    ensures { WroteValues num_bits out.old (call_of at word held kp zeros) (v ∷ []) result out.new }
+// One value. A zero, which most values are, is only counted.
+fn put_next(out: &mut [u8], c: CallState, v: i16, num_bits: u8) -> CallState
+    requires { Good c × (c.sink.at + (c.zeros + 70000) < 2 ^ 64) × Width num_bits }
+    ensures { WroteValues num_bits out.old c (v ∷ []) result out.new }
 {
     let m = fixed::magnitude(v);
     if m == 0 {
-        return call_of(at, word, held, kp, zeros + 1);
+        return CallState {
+            zeros: c.zeros + 1,
+            ..c
+        };
     }
-    let c = call_of(at, word, held, kp, zeros);
     put_value(out, c, m, fixed::is_negative(v), num_bits)
 }
 
-// All values. The caller has measured them. The loop keeps the state's parts: a struct that went round it would be copied each time.
+// All values. The caller has measured them.
 pub fn put_values(values: &[i16], c: CallState, out: &mut [u8], num_bits: u8) -> CallState
     requires { Good c
         × (c.zeros ≤ 4096)
@@ -449,24 +391,11 @@ pub fn put_values(values: &[i16], c: CallState, out: &mut [u8], num_bits: u8) ->
         × (call_end num_bits c values.now < 2 ^ 63) }
     ensures { WroteValues num_bits out.old c values.now result out.new }
 {
-    let k = c.sink;
-    let mut at = k.at;
-    let mut word = k.word;
-    let mut held = k.held;
-    let mut kp = c.kp;
-    let mut zeros = c.zeros;
-    let mut i: usize = 0;
-    while i < values.len() {
-        let next = put_next(out, at, word, held, kp, zeros, values[i], num_bits);
-        let l = next.sink;
-        at = l.at;
-        word = l.word;
-        held = l.held;
-        kp = next.kp;
-        zeros = next.zeros;
-        i += 1;
+    let mut done = c;
+    for v in values {
+        done = put_next(out, done, *v, num_bits);
     }
-    call_of(at, word, held, kp, zeros)
+    done
 }
 
 // A call: the whole bytes that the values complete. The caller has measured them.
@@ -477,8 +406,7 @@ pub fn put_call(values: &[i16], st: SrlWriter, out: &mut [u8], num_bits: u8) -> 
     ensures { WroteCall num_bits out.old st values.now result out.new }
 {
     let done = put_values(values, call_start(st), out, num_bits);
-    let sink = done.sink;
-    let last = bits::writer::settle(out, sink);
+    let last = bits::writer::settle(out, done.sink);
     call_done(done, last)
 }
 
@@ -490,9 +418,10 @@ pub fn flush_length(kp: u8, zeros: usize) -> usize
     ensures { result ≡ length (flush kp zeros) }
 {
     if zeros != 0 {
-        return run_length(plan_run(kp, zeros));
+        run_length(plan_run(kp, zeros))
+    } else {
+        0
     }
-    0
 }
 
 // How many bytes the end of a stream takes.
@@ -526,8 +455,7 @@ pub fn put_last(out: &mut [u8], c: CallState) -> usize
     requires { Good c × (c.sink.at + (c.zeros + 200) < 2 ^ 64) }
     ensures { WroteEnd out.old c result out.new }
 {
-    let sink = c.sink;
-    let flushed = put_flush(out, sink, c.kp, c.zeros);
+    let flushed = put_flush(out, c.sink, c.kp, c.zeros);
     let n = bits::writer::end_words(out, flushed);
     bits::writer::store(out, n, 0);
     n + 1

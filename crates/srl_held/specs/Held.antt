@@ -1,44 +1,40 @@
--- A decoder that holds its stream, and what it answers (docs/SCOPE.md, "SRL", "Refusals"). What is decoded is `srl_decoder`'s `Decode`.
-use Rattle.std.specs.Prelude.{◌≡◌, List, ℕ, ℤ, length}
+-- A decoder that holds its stream, and a stream decoded in one call (docs/SCOPE.md, "SRL", "Refusals"). What is decoded is `srl_decoder`'s `Decode`.
+use Rattle.std.specs.Prelude.{◌≡◌, List, ℕ, ℤ, length, Result}
 use Rattle.std.specs.Borrow.{Bor}
-use Rattle.srl_decoder.specs.Decode.{decode_answer, decode_out, decoded_state}
+use Rattle.answer.specs.Answers.{answered}
+use Rattle.answer.specs.declared.Refusal.{Refusal}
+use Rattle.srl_decoder.specs.Decode.{start_state, state_after, missing_from, decode_refusal, decode_answer, decode_state, decode_out}
 use Rattle.srl_decoder.specs.declared.SrlState.{SrlState}
 use Rattle.srl_decoder.specs.declared.Decoded.{Decoded}
-use Rattle.srl_decoder.specs.declared.Decoded.TheVariants as D
 use Rattle.srl_held.specs.declared.SrlDecoder.{SrlDecoder}
-use Rattle.srl_held.specs.declared.DecodedBy.{DecodedBy}
-use Rattle.srl_held.specs.declared.Outcome.{Outcome}
-use Rattle.srl_held.specs.declared.Outcome.TheVariants as O
 
 -- "a decoder may hold its stream beside its state"
 abbrev pub decoder_at : Bor (List ℕ) → SrlState → SrlDecoder
 decoder_at src st = record { src = src; state = st }
 
--- an answer without its state
-abbrev pub outcome : Decoded → Outcome
-outcome (D.Values n st m) = O.Values n m
-outcome (D.Refused k st) = O.Refused k
+-- "a call then answers as on that stream and state,"
+abbrev pub held_answer : SrlDecoder → ℕ → ℕ → ℕ → Result Decoded Refusal
+held_answer d room n w = decode_answer d.src.now d.state room n w
 
--- the number of each case
-abbrev pub outcome_number : Outcome → ℕ
-outcome_number (O.Values n m) = 0
-outcome_number (O.Refused k) = k
+-- "and leaves the decoder at the new state"
+abbrev pub held_decoder : SrlDecoder → ℕ → ℕ → ℕ → SrlDecoder
+held_decoder d room n w = decoder_at d.src (decode_state d.src.now d.state room n w)
 
--- the count of values of each case
-abbrev pub outcome_count : Outcome → ℕ
-outcome_count (O.Values n m) = n
-outcome_count (O.Refused k) = 0
+-- what `out` holds after it
+abbrev pub held_out : SrlDecoder → List ℤ → ℕ → ℕ → List ℤ
+held_out d out n w = decode_out d.src.now d.state out n w
 
--- the count of missing bits of each case
-abbrev pub outcome_missing : Outcome → ℕ
-outcome_missing (O.Values n m) = m
-outcome_missing (O.Refused k) = 0
+-- what the call of a decoder fixes: its answer, the decoder, and the output
+pub record DecodesHeld (d : SrlDecoder) (o : List ℤ) (n w : ℕ) (r : Result Decoded Refusal) (d' : SrlDecoder) (o' : List ℤ) : Type 0 where
+  pub answer : r ≡ held_answer d (length o) n w
+  pub decoder : d' ≡ held_decoder d (length o) n w
+  pub out : o' ≡ held_out d o n w
 
--- "a call then answers as on that stream and state, and leaves the decoder at the new state"
-abbrev pub decoded_by : Bor (List ℕ) → Decoded → DecodedBy
-decoded_by src r = record { outcome = outcome r; decoder = decoder_at src (decoded_state r) }
+-- what is decoded from the first state on, and the state behind it
+abbrev pub stream_values : List ℕ → ℕ → ℕ → Decoded × SrlState
+stream_values s n w = (record { count = n; missing = missing_from s start_state n w }, state_after s start_state n w)
 
--- what the call of a decoder fixes: its answer, and the output
-pub record DecodesHeld (d : SrlDecoder) (o : List ℤ) (n w : ℕ) (r : DecodedBy) (o' : List ℤ) : Type 0 where
-  pub answer : r ≡ decoded_by d.src (decode_answer d.src.now d.state (length o) n w)
-  pub out : o' ≡ decode_out d.src.now d.state o n w
+-- what `decode_srl` fixes: its answer, and the output
+pub record DecodesStream (s : List ℕ) (o : List ℤ) (n w : ℕ) (r : Result (Decoded × SrlState) Refusal) (o' : List ℤ) : Type 0 where
+  pub answer : r ≡ answered (decode_refusal s start_state (length o) n w) (stream_values s n w)
+  pub out : o' ≡ decode_out s start_state o n w

@@ -1,4 +1,3 @@
--- What the contracts of `srl_held` cite, and `Inner` for inner functions.
+-- What the contracts of `srl_held` cite.
 pub mod Held
 pub mod Stream
-pub mod Inner

@@ -3,64 +3,20 @@
 
 #![tactic(auto)]
 
-ghost use Rattle.std.specs.Prelude.{◌≡◌, ◌^◌, ◌<◌, ltb, length};
-ghost use Rattle.std.proofs.lemmas.List.Edits.{sets};
-ghost use Rattle.srl_rules.specs.Inner.{Width};
-ghost use Rattle.srl_decoder.specs.Decode.{start_state, decode_answer, decode_out, DecodesSrl};
-ghost use Rattle.srl_encoder.specs.Encode.{fault};
-ghost use Rattle.srl_held.specs.Held.{decoder_at, DecodesHeld};
-ghost use Rattle.srl_held.specs.Inner.{parts};
-ghost use Rattle.srl_held.specs.Stream.{stream_bytes, EncodesStream};
+ghost use Rattle.std.specs.Prelude.{◌≡◌};
+ghost use Rattle.srl_decoder.specs.Decode.{start_state};
+ghost use Rattle.srl_held.specs.Held.{decoder_at, DecodesHeld, DecodesStream};
+ghost use Rattle.srl_held.specs.Stream.{EncodesStream};
+
+use answer::Refusal;
+use srl_decoder::{Decoded, SrlState};
+use srl_encoder::{SrlWriter, encoder};
 
 // The decoder of a stream: the stream, and where it stands.
 #[derive(Clone, Copy)]
 pub struct SrlDecoder<'a> {
     pub src: &'a [u8],
-    pub state: srl_decoder::SrlState,
-}
-
-// What a call of a decoder answers: how many values it stored and how many of the bits read were missing, or the number of its refusal.
-#[derive(Clone, Copy)]
-pub enum Outcome {
-    Values(usize, u64),
-    Refused(u8),
-}
-
-// That, and the state after the call.
-#[derive(Clone, Copy)]
-struct Parts {
-    pub outcome: Outcome,
-    pub state: srl_decoder::SrlState,
-}
-
-// That, and the decoder at its new places.
-#[derive(Clone, Copy)]
-pub struct DecodedBy<'a> {
-    pub outcome: Outcome,
-    pub decoder: SrlDecoder<'a>,
-}
-
-// A call of `srl_decoder::decode`, its answer and its state apart.
-fn decode_at(
-    src: &[u8],
-    state: srl_decoder::SrlState,
-    out: &mut [i16],
-    num_values: usize,
-    num_bits: u8,
-) -> Parts
-    ensures { (result ≡ parts (decode_answer src.now state (length out.old) num_values num_bits))
-        × (out.new ≡ decode_out src.now state out.old num_values num_bits) }
-{
-    match srl_decoder::decode(src, state, out, num_values, num_bits) {
-        srl_decoder::Decoded::Values(count, next, missing) => Parts {
-            outcome: Outcome::Values(count, missing),
-            state: next,
-        },
-        srl_decoder::Decoded::Refused(number, kept) => Parts {
-            outcome: Outcome::Refused(number),
-            state: kept,
-        },
-    }
+    pub state: SrlState,
 }
 
 impl<'a> SrlDecoder<'a> {
@@ -70,91 +26,55 @@ impl<'a> SrlDecoder<'a> {
     {
         SrlDecoder {
             src,
-            state: srl_decoder::SrlState {
-                reader: bits::reader::BitReader {
-                    byte_idx: 0,
-                    bit_idx: 0,
-                },
-                kp: srl_rules::INITIAL_KP,
-                zero_run_remaining: 0,
-                nonzero_pending: false,
-            },
+            state: SrlState::new(),
         }
     }
 
-    // Stores the next `num_values` values at the front of `out`, and hands the decoder back at its new places.
-    pub fn decode(self, out: &mut [i16], num_values: usize, num_bits: u8) -> DecodedBy<'a>
-        ensures { DecodesHeld self.entry out.old num_values num_bits result out.new }
+    // Stores the next `num_values` values at the front of `out`.
+    pub fn decode(
+        &mut self,
+        out: &mut [i16],
+        num_values: usize,
+        num_bits: u8,
+    ) -> Result<Decoded, Refusal>
+        ensures { DecodesHeld self.old out.old num_values num_bits result self.new out.new }
     {
-        let r = decode_at(self.src, self.state, out, num_values, num_bits);
-        DecodedBy {
-            outcome: r.outcome,
-            decoder: SrlDecoder {
-                src: self.src,
-                state: r.state,
-            },
-        }
+        srl_decoder::decode(self.src, &mut self.state, out, num_values, num_bits)
     }
 }
 
-// The first `num_values` values of a stream, at the front of `out`.
+// The first `num_values` values of a stream, at the front of `out`; with what was stored, the decoder's state behind them.
 pub fn decode_srl(
     src: &[u8],
     out: &mut [i16],
     num_values: usize,
     num_bits: u8,
-) -> srl_decoder::Decoded
-    ensures { DecodesSrl src.now start_state out.old num_values num_bits result out.new }
+) -> Result<(Decoded, SrlState), Refusal>
+    ensures { DecodesStream src.now out.old num_values num_bits result out.new }
 {
-    srl_decoder::decode(src, srl_decoder::SrlState::new(), out, num_values, num_bits)
+    let mut state = SrlState::new();
+    let decoded = srl_decoder::decode(src, &mut state, out, num_values, num_bits)?;
+    Ok((decoded, state))
 }
 
-// ---- a whole stream, written
-
-// Whether the stream of the values takes more bytes than there is room for. Nothing is stored but in a scratch byte.
-fn stream_exceeds(values: &[i16], num_bits: u8, room: usize) -> bool
-    requires { Width num_bits × (fault num_bits 0 values.now ≡ 0) × (room < 2 ^ 63) }
-    ensures { result ≡ ltb room (length (stream_bytes num_bits values.now)) }
-{
-    let fresh = srl_encoder::SrlWriter::new();
-    if srl_encoder::encoder::exceeds(values, fresh, num_bits, room) {
-        return true;
-    }
-    let mut scratch = [0u8; 1];
-    let done = srl_encoder::encoder::put_call(values, fresh, &mut scratch, num_bits);
-    let last = done.state;
-    let need = srl_encoder::encoder::end_length(last);
-    room - done.count < need
-}
-
-// The stream of the values, from the start of `out`: how many bytes it is. The caller has measured it.
-fn put_stream(values: &[i16], out: &mut [u8], num_bits: u8) -> usize
-    requires { Width num_bits
-        × (fault num_bits 0 values.now ≡ 0)
-        × (length (stream_bytes num_bits values.now) < 2 ^ 63) }
-    ensures { (result ≡ length (stream_bytes num_bits values.now))
-        × (out.new ≡ sets out.old 0 (stream_bytes num_bits values.now)) }
-{
-    let start = srl_encoder::encoder::call_start(srl_encoder::SrlWriter::new());
-    let done = srl_encoder::encoder::put_values(values, start, out, num_bits);
-    srl_encoder::encoder::put_last(out, done)
-}
-
-// Writes the whole stream of the values, of `num_bits` bits where they are nonzero, from the start of `out`.
-pub fn encode_srl(values: &[i16], out: &mut [u8], num_bits: u8) -> srl_encoder::Finished
+// Writes the whole stream of the values, of `num_bits` bits where they are nonzero, from the start of `out`: how many bytes there are.
+// The end is stored first, where it will stand, so that a stream that is too long is refused before any value is stored.
+pub fn encode_srl(values: &[i16], out: &mut [u8], num_bits: u8) -> Result<usize, Refusal>
     ensures { EncodesStream values.now out.old num_bits result out.new }
 {
-    let fresh = srl_encoder::SrlWriter::new();
+    let fresh = SrlWriter::new();
     if !srl_rules::width_ok(num_bits) {
-        return srl_encoder::Finished::Refused(answer::INVALID_BIT_COUNT, fresh);
+        return Err(Refusal::InvalidBitCount);
     }
-    let f = srl_encoder::encoder::values_fault(values, 0, num_bits);
-    if f != 0 {
-        return srl_encoder::Finished::Refused(f, fresh);
+    encoder::values_fault(values, 0, num_bits)?;
+    if encoder::exceeds(values, fresh, num_bits, out.len()) {
+        return Err(Refusal::OutputTooShort);
     }
-    if stream_exceeds(values, num_bits, out.len()) {
-        return srl_encoder::Finished::Refused(answer::OUTPUT_TOO_SHORT, fresh);
-    }
-    let n = put_stream(values, out, num_bits);
-    srl_encoder::Finished::Stream(n)
+    // What the values leave, found out over a scratch byte.
+    let mut scratch = [0u8; 1];
+    let done = encoder::put_call(values, fresh, &mut scratch, num_bits);
+    let (front, rest) = out.split_at_mut(done.count);
+    let end = srl_encoder::finish(&done.state, rest)?;
+    encoder::put_call(values, fresh, front, num_bits);
+    Ok(done.count + end)
 }

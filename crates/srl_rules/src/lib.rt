@@ -16,14 +16,14 @@ pub const MAX_KP: u8 = 80;
 pub fn raised(kp: u8) -> u8
     ensures { result ≡ min (kp + 4) 80 }
 {
-    if kp < MAX_KP - 4 { kp + 4 } else { MAX_KP }
+    kp.saturating_add(4).min(MAX_KP)
 }
 
 // kp after a run that a nonzero value ends.
 pub fn lowered(kp: u8) -> u8
     ensures { result ≡ kp - 6 }
 {
-    if kp < 6 { 0 } else { kp - 6 }
+    kp.saturating_sub(6)
 }
 
 // How many zeros a bit 0 stands for.
@@ -37,10 +37,7 @@ pub fn run_size(kp: u8) -> usize
 pub fn width_ok(num_bits: u8) -> bool
     ensures { result ≡ width_ok num_bits }
 {
-    if num_bits < 1 {
-        return false;
-    }
-    num_bits <= 15
+    (1..=15).contains(&num_bits)
 }
 
 // The largest magnitude of a width.

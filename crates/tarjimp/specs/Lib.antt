@@ -1,3 +1,4 @@
--- What the contracts of `tarjimp` cite.
+-- What the contracts of `tarjimp` cite, and `Inner` for inner functions.
 pub mod States
 pub mod Calls
+pub mod Inner

@@ -1,38 +1,39 @@
 // The states of the SRL coders as numbers: what C hands in and gets back.
 
-ghost use Rattle.std.specs.Prelude.{◌≡◌, true};
+ghost use Rattle.std.specs.Prelude.{◌≡◌, Some, None, cond};
+ghost use Rattle.tarjimp.specs.Inner.{flag_of};
 ghost use Rattle.tarjimp.specs.States.{reader_fits, reader_of, reader_numbers, writer_fits, writer_of, writer_numbers};
 
 use srl_decoder::SrlState;
 use srl_encoder::SrlWriter;
 
-// Whether five numbers fit the fields of a decoder's state.
-pub fn reader_fits(s: [u64; 5]) -> bool
-    ensures { result ≡ reader_fits s }
+// The flag that a number is.
+fn flag_of(number: u64) -> Option<bool>
+    ensures { result ≡ flag_of number }
 {
-    if 255 < s[1] {
-        return false;
+    match number {
+        0 => Some(false),
+        1 => Some(true),
+        _ => None,
     }
-    if 255 < s[2] {
-        return false;
-    }
-    s[4] <= 1
 }
 
-// The decoder's state that five numbers are.
-pub fn reader_of(s: [u64; 5]) -> SrlState
-    requires { reader_fits s ≡ true }
-    ensures { result ≡ reader_of s }
+// The decoder's state that five numbers are, where each fits its field.
+pub fn reader_of(s: [u64; 5]) -> Option<SrlState>
+    ensures { result ≡ cond (reader_fits s) (Some (reader_of s)) None }
 {
-    SrlState {
+    let bit_idx = u8::try_from(s[1]).ok()?;
+    let kp = u8::try_from(s[2]).ok()?;
+    let nonzero_pending = flag_of(s[4])?;
+    Some(SrlState {
         reader: bits::reader::BitReader {
             byte_idx: s[0] as usize,
-            bit_idx: s[1] as u8,
+            bit_idx,
         },
-        kp: s[2] as u8,
+        kp,
         zero_run_remaining: s[3] as usize,
-        nonzero_pending: s[4] == 1,
-    }
+        nonzero_pending,
+    })
 }
 
 // The five numbers of a decoder's state.
@@ -49,30 +50,16 @@ pub fn reader_numbers(st: SrlState) -> [u64; 5]
     ]
 }
 
-// Whether four numbers fit the fields of an encoder's state.
-pub fn writer_fits(s: [u64; 4]) -> bool
-    ensures { result ≡ writer_fits s }
+// The encoder's state that four numbers are, where each fits its field.
+pub fn writer_of(s: [u64; 4]) -> Option<SrlWriter>
+    ensures { result ≡ cond (writer_fits s) (Some (writer_of s)) None }
 {
-    if 255 < s[0] {
-        return false;
-    }
-    if 255 < s[2] {
-        return false;
-    }
-    s[3] <= 255
-}
-
-// The encoder's state that four numbers are.
-pub fn writer_of(s: [u64; 4]) -> SrlWriter
-    requires { writer_fits s ≡ true }
-    ensures { result ≡ writer_of s }
-{
-    SrlWriter {
-        kp: s[0] as u8,
+    Some(SrlWriter {
+        kp: u8::try_from(s[0]).ok()?,
         pending_zeros: s[1] as usize,
-        current: s[2] as u8,
-        bit_count: s[3] as u8,
-    }
+        current: u8::try_from(s[2]).ok()?,
+        bit_count: u8::try_from(s[3]).ok()?,
+    })
 }
 
 // The four numbers of an encoder's state.

@@ -4,8 +4,7 @@ use Rattle.planes.specs.Planes.{joined, of}
 use Rattle.zero_signs.specs.ZeroSigns.{zero_signs_of}
 use Rattle.progressive_decoder.specs.declared.MissingBits.{MissingBits}
 use Rattle.components.specs.Components.{pass_coefficients, pass_signs, pass_missing}
-use Rattle.tile.specs.Tile.{next_pass, upgraded, upgrade_missing}
-use Rattle.tile.specs.declared.TileState.{TileState}
+use Rattle.tile.specs.Tile.{next_pass}
 
 -- the fields that a pass reads and changes
 pub record Fields : Type 0 where
@@ -27,8 +26,3 @@ pub record PassedInPlace (e : Bool) (rows srl_data raw_data : List (List ℕ)) (
   pub positions : g.positions ≡ joined (of rows)
   pub pass : g.pass ≡ next_pass f.pass
   pub missing : r ≡ pass_missing e f.positions rows srl_data raw_data f.sign
-
--- what a pass over a tile fixes: the tile then, and the bits that were missing
-pub record PassesTile (t : TileState) (srl_data raw_data rows : List (List ℕ)) (q : ℕ) (t' : TileState) (m : MissingBits) : Type 0 where
-  pub tile : t' ≡ upgraded t srl_data raw_data rows q
-  pub missing : m ≡ upgrade_missing t srl_data raw_data rows

@@ -1,17 +1,15 @@
 -- A tile: made, loaded, upgraded, and its pixels (docs/SCOPE.md, "Tile").
-use Rattle.std.specs.Prelude.{◌≡◌, Bool, false, ◌&&◌, List, ℕ, ◌+◌, min, ℤ, pos, replicate}
+use Rattle.std.specs.Prelude.{◌≡◌, Bool, false, ◌&&◌, List, ℕ, ◌+◌, min, ℤ, pos, replicate, ⊤, Option, Result}
 use Rattle.bands.specs.Positions.{every, row_in_domain, rows_in_domain}
-use Rattle.answer.specs.declared.Answer.{Answer}
-use Rattle.answer.specs.Refusals.{slice_too_short, out_of_domain, impossible_state, unless, first_of, long_enough, answered, unless_refused}
-use Rattle.progressive_decoder.specs.Upgrade.{missing_bits}
+use Rattle.answer.specs.declared.Refusal.{Refusal}
+use Rattle.answer.specs.declared.Refusal.TheVariants.{SliceTooShort, OutOfDomain, ImpossibleState}
+use Rattle.answer.specs.Answers.{unless, first_of, long_enough, answered, unless_refused}
 use Rattle.progressive_decoder.specs.declared.MissingBits.{MissingBits}
 use Rattle.components.specs.Components.{pass_coefficients, pass_signs, pass_missing}
 use Rattle.planes.specs.Planes.{joined, of, taken}
 use Rattle.zero_signs.specs.ZeroSigns.{zero_signs_of, are_right}
 use Rattle.pixels.specs.Pixels.{pixels_refusal, pixels_out}
 use Rattle.tile.specs.declared.TileState.{TileState}
-use Rattle.tile.specs.declared.Loaded.{Loaded}
-use Rattle.tile.specs.declared.Upgraded.{Upgraded}
 
 -- ════ the fresh tile ════
 
@@ -52,26 +50,22 @@ loaded cs ss rows quants e = record {
 }
 
 -- "order: .. 1, 2"
-abbrev pub load_refusal : List (List ℤ) → List (List ℤ) → List (List ℕ) → List (List ℕ) → ℕ
+abbrev pub load_refusal : List (List ℤ) → List (List ℤ) → List (List ℕ) → List (List ℕ) → Option Refusal
 load_refusal cs ss rows quants =
-    first_of (unless (every long_enough cs && every long_enough ss) slice_too_short) (unless (rows_in_domain rows && rows_in_domain quants) out_of_domain)
+    first_of (unless (every long_enough cs && every long_enough ss) SliceTooShort) (unless (rows_in_domain rows && rows_in_domain quants) OutOfDomain)
 
--- the answer by the refusal, and the tile: new, or if refused the old one
-abbrev pub loaded_by : ℕ → TileState → TileState → Loaded
-loaded_by n new old = record { answer = answered n; tile = unless_refused n new old }
-
--- what `load` answers; no tile is handed in, so a refused load gives the fresh one
-abbrev pub load : List (List ℤ) → List (List ℤ) → List (List ℕ) → List (List ℕ) → Bool → Loaded
-load cs ss rows quants e = loaded_by (load_refusal cs ss rows quants) (loaded cs ss rows quants e) fresh
+-- what `load` answers: the tile, or the refusal
+abbrev pub load : List (List ℤ) → List (List ℤ) → List (List ℕ) → List (List ℕ) → Bool → Result TileState Refusal
+load cs ss rows quants e = answered (load_refusal cs ss rows quants) (loaded cs ss rows quants e)
 
 -- ════ a tile that is handed in ════
 
 -- "a tile handed in with a wrong number gets refusal 8, before all other checks": by its signs, numbers and layout
-abbrev pub numbers_refusal_by : Bool → List ℤ → List ℕ → ℕ
-numbers_refusal_by e ss ns = unless (are_right e ss ns) impossible_state
+abbrev pub numbers_refusal_by : Bool → List ℤ → List ℕ → Option Refusal
+numbers_refusal_by e ss ns = unless (are_right e ss ns) ImpossibleState
 
 -- of a tile
-abbrev pub numbers_refusal : TileState → ℕ
+abbrev pub numbers_refusal : TileState → Option Refusal
 numbers_refusal t = numbers_refusal_by t.use_reduce_extrapolate t.sign t.zero_signs
 
 -- ════ an upgraded tile ════
@@ -96,35 +90,39 @@ upgraded t srl_data raw_data rows q = record {
 }
 
 -- "a position or quantizer above 15, given or anywhere in the tile handed in": by the tile's positions and quantizers and the rows given
-abbrev pub rows_refusal : List ℕ → List ℕ → List (List ℕ) → ℕ
-rows_refusal positions quants rows = unless (rows_in_domain rows && (row_in_domain positions && row_in_domain quants)) out_of_domain
+abbrev pub rows_refusal : List ℕ → List ℕ → List (List ℕ) → Option Refusal
+rows_refusal positions quants rows = unless (rows_in_domain rows && (row_in_domain positions && row_in_domain quants)) OutOfDomain
 
 -- of a pass over a tile: "order: 8, .. 2"; its arrays are never too short
-abbrev pub upgrade_refusal : TileState → List (List ℕ) → ℕ
+abbrev pub upgrade_refusal : TileState → List (List ℕ) → Option Refusal
 upgrade_refusal t rows = first_of (numbers_refusal t) (rows_refusal t.prog_quant t.base_quant rows)
 
 -- how many bits of its streams were missing
 abbrev pub upgrade_missing : TileState → List (List ℕ) → List (List ℕ) → List (List ℕ) → MissingBits
 upgrade_missing t srl_data raw_data rows = pass_missing t.use_reduce_extrapolate t.prog_quant rows srl_data raw_data t.sign
 
--- the answer by the refusal, the tile and the bits that were missing: if refused the old tile and none
-abbrev pub upgraded_by : ℕ → TileState → TileState → MissingBits → Upgraded
-upgraded_by n new old m = record { answer = answered n; tile = unless_refused n new old; missing = unless_refused n m (missing_bits 0 0) }
+-- what `decode_upgrade` answers: the bits that were missing, or the refusal
+abbrev pub upgrade_answer : TileState → List (List ℕ) → List (List ℕ) → List (List ℕ) → Result MissingBits Refusal
+upgrade_answer t srl_data raw_data rows = answered (upgrade_refusal t rows) (upgrade_missing t srl_data raw_data rows)
 
--- what `decode_upgrade` answers: "a refusal gives .. the state handed in", and "0 for every count"
-abbrev pub decode_upgrade : TileState → List (List ℕ) → List (List ℕ) → List (List ℕ) → ℕ → Upgraded
-decode_upgrade t srl_data raw_data rows q =
-    upgraded_by (upgrade_refusal t rows) (upgraded t srl_data raw_data rows q) t (upgrade_missing t srl_data raw_data rows)
+-- the tile then: "a refusal gives .. the state handed in"
+abbrev pub upgraded_tile : TileState → List (List ℕ) → List (List ℕ) → List (List ℕ) → ℕ → TileState
+upgraded_tile t srl_data raw_data rows q = unless_refused (upgrade_refusal t rows) (upgraded t srl_data raw_data rows q) t
+
+-- what the call fixes: its answer, and the tile
+pub record DecodesUpgrade (t : TileState) (srl_data raw_data rows : List (List ℕ)) (q : ℕ) (r : Result MissingBits Refusal) (t' : TileState) : Type 0 where
+  pub answer : r ≡ upgrade_answer t srl_data raw_data rows
+  pub tile : t' ≡ upgraded_tile t srl_data raw_data rows q
 
 -- ════ its pixels ════
 
 -- why they are refused: "order: 8, 1, 2, 3"
-abbrev pub reconstruct_refusal : TileState → List ℕ → ℕ
+abbrev pub reconstruct_refusal : TileState → List ℕ → Option Refusal
 reconstruct_refusal t px = first_of (numbers_refusal t) (pixels_refusal t.prog_quant t.base_quant t.use_reduce_extrapolate px)
 
--- what `reconstruct_to_rgba` answers. The tile goes in by value and nothing of it comes back: it "does not change the tile"
-abbrev pub reconstruct_answer : TileState → List ℕ → Answer
-reconstruct_answer t px = answered (reconstruct_refusal t px)
+-- what `reconstruct_to_rgba` answers. The tile is lent to be read alone: it "does not change the tile"
+abbrev pub reconstruct_answer : TileState → List ℕ → Result ⊤ Refusal
+reconstruct_answer t px = answered (reconstruct_refusal t px) tt
 
 -- the slice of pixels then
 abbrev pub reconstruct_pixels : TileState → List ℕ → List ℕ
@@ -132,6 +130,6 @@ reconstruct_pixels t px =
     unless_refused (numbers_refusal t) (pixels_out t.coefficients t.prog_quant t.base_quant t.use_reduce_extrapolate px) px
 
 -- what the call fixes: its answer, and the slice
-pub record Reconstructs (t : TileState) (px : List ℕ) (r : Answer) (px' : List ℕ) : Type 0 where
+pub record Reconstructs (t : TileState) (px : List ℕ) (r : Result ⊤ Refusal) (px' : List ℕ) : Type 0 where
   pub answer : r ≡ reconstruct_answer t px
   pub pixels : px' ≡ reconstruct_pixels t px

@@ -1,16 +1,18 @@
-// A tile of three components, by value: made fresh, loaded, upgraded pass by pass, and its pixels. A port of progressive.rs's `TileState`.
-// A refusal has a number (docs/SCOPE.md, "Refusals") and gives back the tile handed in.
+// A tile of three components: made fresh, loaded, upgraded pass by pass, and its pixels. A port of progressive.rs's `TileState`.
+// A refusal (docs/SCOPE.md, "Refusals") alters neither the tile nor the pixels.
 
 #![tactic(auto)]
 
-ghost use Rattle.std.specs.Prelude.{◌≡◌, true, ◌&&◌, ◌≤◌, ◌<◌, leb, length};
-ghost use Rattle.bands.specs.Positions.{every, row_in_domain, rows_in_domain};
+ghost use Rattle.std.specs.Prelude.{◌≡◌, true, ◌&&◌, ◌≤◌, length};
+ghost use Rattle.bands.specs.Positions.{row_in_domain, rows_in_domain};
 ghost use Rattle.planes.specs.Planes.{three};
-ghost use Rattle.answer.specs.Refusals.{first_of};
-ghost use Rattle.tile.specs.Tile.{fresh, loaded, loaded_by, load, next_pass, numbers_refusal_by, rows_refusal, decode_upgrade, Reconstructs};
+ghost use Rattle.answer.specs.Answers.{first_of, answered, long_enough};
+ghost use Rattle.tile.specs.Tile.{fresh, loaded, load, next_pass, numbers_refusal_by, rows_refusal, DecodesUpgrade, Reconstructs};
 ghost use Rattle.tile.specs.Refused.{TileRefusals};
-ghost use Rattle.tile.specs.Inner.{fields, PassedInPlace, PassesTile};
+ghost use Rattle.tile.specs.Inner.{fields, PassedInPlace};
 
+use answer::Refusal;
+use components::Streams;
 use progressive_decoder::MissingBits;
 
 // A tile: 64 x 64 pixels, with what has arrived of them. Arrays are flat: three components (Y, Cb, Cr) of 4,096, three rows of ten.
@@ -30,112 +32,81 @@ pub struct TileState {
     pub use_reduce_extrapolate: bool,
 }
 
-// What `load` answers, and the tile: a fresh one where it refuses.
+// A component to load: its coefficients and their signs.
 #[derive(Clone, Copy)]
-pub struct Loaded {
-    pub answer: answer::Answer,
-    pub tile: TileState,
+pub struct Component<'a> {
+    pub coefficients: &'a [i16],
+    pub sign: &'a [i8],
 }
 
-// What `decode_upgrade` answers, the tile then, and the bits that were missing in all three components: none where it refuses.
-#[derive(Clone, Copy)]
-pub struct Upgraded {
-    pub answer: answer::Answer,
-    pub tile: TileState,
-    pub missing: MissingBits,
-}
-
-// The tile after a pass, and the bits that were missing.
-#[derive(Clone, Copy)]
-struct Passed {
-    pub tile: TileState,
-    pub missing: MissingBits,
+impl Component<'_> {
+    // Whether both slices have a component's elements.
+    fn is_whole(self) -> bool
+        ensures { result ≡ (long_enough self.entry.coefficients.now && long_enough self.entry.sign.now) }
+    {
+        self.coefficients.len() >= bands::COEFFICIENTS_PER_COMPONENT
+            && self.sign.len() >= bands::COEFFICIENTS_PER_COMPONENT
+    }
 }
 
 // The number of a tile's next pass.
 fn next_pass(pass: u16) -> u16
     ensures { result ≡ next_pass pass }
 {
-    if pass < 65535 {
-        return pass + 1;
-    }
-    pass
+    pass.saturating_add(1)
 }
 
 // Whether no position or quantizer, given or in the tile, is above 15.
 fn in_domain(rows: [[u8; 10]; 3], positions: [u8; 30], quants: [u8; 30]) -> bool
     ensures { result ≡ (rows_in_domain rows && (row_in_domain positions && row_in_domain quants)) }
 {
-    if !bands::rows_in_domain(rows) {
-        return false;
-    }
-    if !bands::positions_in_domain(&positions) {
-        return false;
-    }
-    bands::positions_in_domain(&quants)
+    bands::rows_in_domain(rows)
+        && bands::positions_in_domain(&positions)
+        && bands::positions_in_domain(&quants)
 }
 
-// Why a pass over a tile is refused, 0 if it is not: by its signs and their numbers, and by the positions and quantizers, given or in the tile. A part
+// Refuses a tile whose numbers of zero signs are not right.
+fn check_numbers(
+    numbers: &[u16; 30],
+    sign: &[i8; bands::COEFFICIENTS_PER_TILE],
+    use_reduce_extrapolate: bool,
+) -> Result<(), Refusal>
+    ensures { result ≡ answered (numbers_refusal_by use_reduce_extrapolate sign.now numbers.now) tt }
+{
+    if zero_signs::are_right(numbers, sign, use_reduce_extrapolate) {
+        Ok(())
+    } else {
+        Err(Refusal::ImpossibleState)
+    }
+}
+
+// Whether a pass over a tile is refused: by its signs and their numbers, and by the positions and quantizers, given or in the tile. A part
 // of the tile's call and of the C function.
-pub fn upgrade_refusal(
+pub fn check_upgrade(
     rows: [[u8; 10]; 3],
     positions: [u8; 30],
     quants: [u8; 30],
     sign: &[i8; bands::COEFFICIENTS_PER_TILE],
     numbers: &[u16; 30],
     use_reduce_extrapolate: bool,
-) -> u8
-    ensures { result ≡ first_of
+) -> Result<(), Refusal>
+    ensures { result ≡ answered (first_of
         (numbers_refusal_by use_reduce_extrapolate sign.now numbers.now)
-        (rows_refusal positions quants rows) }
+        (rows_refusal positions quants rows)) tt }
 {
-    let right = zero_signs::are_right(numbers, sign, use_reduce_extrapolate);
-    let low = in_domain(rows, positions, quants);
-    if !right {
-        return answer::IMPOSSIBLE_STATE;
+    check_numbers(numbers, sign, use_reduce_extrapolate)?;
+    if !in_domain(rows, positions, quants) {
+        return Err(Refusal::OutOfDomain);
     }
-    if !low {
-        return answer::OUT_OF_DOMAIN;
-    }
-    0
-}
-
-// Whether three slices of these lengths have a component each.
-fn long_enough(y: usize, cb: usize, cr: usize) -> bool
-    ensures { result ≡ every (leb 4096) (three y cb cr) }
-{
-    if y < bands::COEFFICIENTS_PER_COMPONENT {
-        return false;
-    }
-    if cb < bands::COEFFICIENTS_PER_COMPONENT {
-        return false;
-    }
-    if cr < bands::COEFFICIENTS_PER_COMPONENT {
-        return false;
-    }
-    true
-}
-
-// A load that is refused.
-fn not_loaded(refusal: u8) -> Loaded
-    requires { 0 < refusal }
-    ensures { result ≡ loaded_by refusal fresh fresh }
-{
-    Loaded {
-        answer: answer::Answer::Refused(refusal),
-        tile: TileState::new(),
-    }
+    Ok(())
 }
 
 // A pass over the fields of a tile that it changes, where they lie, and the bits that were missing; the caller stores the quality. A part of the
 // tile's call and of the C function: both have seen that no position is above 15.
 pub fn upgrade_in_place(
-    y_srl: &[u8],
-    y_raw: &[u8],
-    cb_srl: &[u8],
-    cb_raw: &[u8],
-    cr_srl: &[u8],
-    cr_raw: &[u8],
+    y: Streams<'_>,
+    cb: Streams<'_>,
+    cr: Streams<'_>,
     rows: [[u8; 10]; 3],
     use_reduce_extrapolate: bool,
     coefficients: &mut [i16; bands::COEFFICIENTS_PER_TILE],
@@ -146,8 +117,8 @@ pub fn upgrade_in_place(
 ) -> MissingBits
     requires { row_in_domain prog_quant.old ≡ true }
     ensures { PassedInPlace use_reduce_extrapolate rows
-        (three y_srl.now cb_srl.now cr_srl.now)
-        (three y_raw.now cb_raw.now cr_raw.now)
+        (three y.entry.srl.now cb.entry.srl.now cr.entry.srl.now)
+        (three y.entry.raw.now cb.entry.raw.now cr.entry.raw.now)
         (fields coefficients.old sign.old numbers.old prog_quant.old pass.old)
         (fields coefficients.new sign.new numbers.new prog_quant.new pass.new)
         result }
@@ -155,12 +126,9 @@ pub fn upgrade_in_place(
     let prev = *prog_quant;
     let number = *pass;
     let missing = components::upgrade_components(
-        y_srl,
-        y_raw,
-        cb_srl,
-        cb_raw,
-        cr_srl,
-        cr_raw,
+        y,
+        cb,
+        cr,
         prev,
         rows,
         use_reduce_extrapolate,
@@ -181,16 +149,12 @@ impl TileState {
     pub fn new() -> TileState
         ensures { result ≡ fresh }
     {
-        let row = Self::LOSSLESS;
-        let rows = [row; 3];
-        let prog_quant = planes::flat_rows(rows);
-        let sign = [0i8; bands::COEFFICIENTS_PER_TILE];
-        let numbers = zero_signs::count(&sign, false);
+        let sign = [0; bands::COEFFICIENTS_PER_TILE];
         Self {
             coefficients: [0; bands::COEFFICIENTS_PER_TILE],
-            sign: sign,
-            zero_signs: numbers,
-            prog_quant: prog_quant,
+            sign,
+            zero_signs: zero_signs::count(&sign, false),
+            prog_quant: planes::flat_rows([Self::LOSSLESS; 3]),
             quant_idx: [0; 3],
             base_quant: [6; 30],
             pass: 0,
@@ -202,220 +166,121 @@ impl TileState {
 
     // A tile with the first 4,096 of each slice.
     fn loaded(
-        y: &[i16],
-        y_sign: &[i8],
-        cb: &[i16],
-        cb_sign: &[i8],
-        cr: &[i16],
-        cr_sign: &[i8],
+        y: Component<'_>,
+        cb: Component<'_>,
+        cr: Component<'_>,
         prog_quants: [[u8; 10]; 3],
         base_quants: [[u8; 10]; 3],
         use_reduce_extrapolate: bool,
     ) -> TileState
-        requires { (4096 ≤ length y.now) × (4096 ≤ length cb.now) × (4096 ≤ length cr.now)
-            × (4096 ≤ length y_sign.now) × (4096 ≤ length cb_sign.now) × (4096 ≤ length cr_sign.now) }
+        requires { (4096 ≤ length y.coefficients.now) × (4096 ≤ length cb.coefficients.now) × (4096 ≤ length cr.coefficients.now)
+            × (4096 ≤ length y.sign.now) × (4096 ≤ length cb.sign.now) × (4096 ≤ length cr.sign.now) }
         ensures { result ≡ loaded
-            (three y.now cb.now cr.now)
-            (three y_sign.now cb_sign.now cr_sign.now)
+            (three y.entry.coefficients.now cb.entry.coefficients.now cr.entry.coefficients.now)
+            (three y.entry.sign.now cb.entry.sign.now cr.entry.sign.now)
             prog_quants base_quants use_reduce_extrapolate }
     {
-        let mut coefficients: [i16; bands::COEFFICIENTS_PER_TILE] =
-            [0; bands::COEFFICIENTS_PER_TILE];
-        let mut sign: [i8; bands::COEFFICIENTS_PER_TILE] = [0; bands::COEFFICIENTS_PER_TILE];
-        planes::load_coefficients(y, cb, cr, &mut coefficients);
-        planes::load_signs(y_sign, cb_sign, cr_sign, &mut sign);
-        let prog_quant = planes::flat_rows(prog_quants);
-        let base_quant = planes::flat_rows(base_quants);
-        let numbers = zero_signs::count(&sign, use_reduce_extrapolate);
+        let mut coefficients = [0; bands::COEFFICIENTS_PER_TILE];
+        let mut sign = [0; bands::COEFFICIENTS_PER_TILE];
+        planes::load(
+            y.coefficients,
+            cb.coefficients,
+            cr.coefficients,
+            &mut coefficients,
+        );
+        planes::load(y.sign, cb.sign, cr.sign, &mut sign);
         Self {
-            coefficients: coefficients,
-            sign: sign,
-            zero_signs: numbers,
-            prog_quant: prog_quant,
+            coefficients,
+            sign,
+            zero_signs: zero_signs::count(&sign, use_reduce_extrapolate),
+            prog_quant: planes::flat_rows(prog_quants),
             quant_idx: [0; 3],
-            base_quant: base_quant,
+            base_quant: planes::flat_rows(base_quants),
             pass: 1,
             is_difference: false,
             quality: 0,
-            use_reduce_extrapolate: use_reduce_extrapolate,
+            use_reduce_extrapolate,
         }
     }
 
     // A tile after its first pass: the first 4,096 of each slice, with rows of positions and of base quantizers.
     pub fn load(
-        y: &[i16],
-        y_sign: &[i8],
-        cb: &[i16],
-        cb_sign: &[i8],
-        cr: &[i16],
-        cr_sign: &[i8],
+        y: Component<'_>,
+        cb: Component<'_>,
+        cr: Component<'_>,
         prog_quants: [[u8; 10]; 3],
         base_quants: [[u8; 10]; 3],
         use_reduce_extrapolate: bool,
-    ) -> Loaded
+    ) -> Result<TileState, Refusal>
         ensures { result ≡ load
-            (three y.now cb.now cr.now)
-            (three y_sign.now cb_sign.now cr_sign.now)
+            (three y.entry.coefficients.now cb.entry.coefficients.now cr.entry.coefficients.now)
+            (three y.entry.sign.now cb.entry.sign.now cr.entry.sign.now)
             prog_quants base_quants use_reduce_extrapolate }
     {
-        if !long_enough(y.len(), cb.len(), cr.len()) {
-            return not_loaded(answer::SLICE_TOO_SHORT);
+        if !(y.is_whole() && cb.is_whole() && cr.is_whole()) {
+            return Err(Refusal::SliceTooShort);
         }
-        if !long_enough(y_sign.len(), cb_sign.len(), cr_sign.len()) {
-            return not_loaded(answer::SLICE_TOO_SHORT);
+        if !(bands::rows_in_domain(prog_quants) && bands::rows_in_domain(base_quants)) {
+            return Err(Refusal::OutOfDomain);
         }
-        if !bands::rows_in_domain(prog_quants) {
-            return not_loaded(answer::OUT_OF_DOMAIN);
-        }
-        if !bands::rows_in_domain(base_quants) {
-            return not_loaded(answer::OUT_OF_DOMAIN);
-        }
-        let e = use_reduce_extrapolate;
-        let tile = Self::loaded(
-            y,
-            y_sign,
-            cb,
-            cb_sign,
-            cr,
-            cr_sign,
-            prog_quants,
-            base_quants,
-            e,
-        );
-        Loaded {
-            answer: answer::Answer::Accepted,
-            tile: tile,
-        }
+        Ok(Self::loaded(y, cb, cr, prog_quants, base_quants, use_reduce_extrapolate))
     }
 
-    // The tile after a pass.
-    fn upgraded(
-        self,
-        y_srl: &[u8],
-        y_raw: &[u8],
-        cb_srl: &[u8],
-        cb_raw: &[u8],
-        cr_srl: &[u8],
-        cr_raw: &[u8],
-        prog_quants: [[u8; 10]; 3],
-        quality: u8,
-    ) -> Passed
-        requires { row_in_domain self.prog_quant ≡ true }
-        ensures { PassesTile self
-            (three y_srl.now cb_srl.now cr_srl.now)
-            (three y_raw.now cb_raw.now cr_raw.now)
-            prog_quants quality result.tile result.missing }
-    {
-        let e = self.use_reduce_extrapolate;
-        let mut coefficients = self.coefficients;
-        let mut sign = self.sign;
-        let mut numbers = self.zero_signs;
-        let mut prog_quant = self.prog_quant;
-        let mut pass = self.pass;
-        let missing = upgrade_in_place(
-            y_srl,
-            y_raw,
-            cb_srl,
-            cb_raw,
-            cr_srl,
-            cr_raw,
-            prog_quants,
-            e,
-            &mut coefficients,
-            &mut sign,
-            &mut numbers,
-            &mut prog_quant,
-            &mut pass,
-        );
-        let quant_idx = self.quant_idx;
-        let base_quant = self.base_quant;
-        let tile = Self {
-            coefficients: coefficients,
-            sign: sign,
-            zero_signs: numbers,
-            prog_quant: prog_quant,
-            quant_idx: quant_idx,
-            base_quant: base_quant,
-            pass: pass,
-            is_difference: self.is_difference,
-            quality: quality,
-            use_reduce_extrapolate: e,
-        };
-        Passed { tile, missing }
-    }
-
-    // One pass over the three components, from the tile's positions to those given, with two streams for each.
+    // One pass over the three components, from the tile's positions to those given, with two streams for each; the bits that were missing in all
+    // three components.
     pub fn decode_upgrade(
-        self,
-        y_srl: &[u8],
-        y_raw: &[u8],
-        cb_srl: &[u8],
-        cb_raw: &[u8],
-        cr_srl: &[u8],
-        cr_raw: &[u8],
+        &mut self,
+        y: Streams<'_>,
+        cb: Streams<'_>,
+        cr: Streams<'_>,
         prog_quants: [[u8; 10]; 3],
         quality: u8,
-    ) -> Upgraded
-        ensures { result ≡ decode_upgrade self
-            (three y_srl.now cb_srl.now cr_srl.now)
-            (three y_raw.now cb_raw.now cr_raw.now)
-            prog_quants quality }
+    ) -> Result<MissingBits, Refusal>
+        ensures { DecodesUpgrade self.old
+            (three y.entry.srl.now cb.entry.srl.now cr.entry.srl.now)
+            (three y.entry.raw.now cb.entry.raw.now cr.entry.raw.now)
+            prog_quants quality result self.new }
     {
-        let positions = self.prog_quant;
-        let quants = self.base_quant;
-        let sign = self.sign;
-        let numbers = self.zero_signs;
-        let e = self.use_reduce_extrapolate;
-        let refusal = upgrade_refusal(prog_quants, positions, quants, &sign, &numbers, e);
-        if refusal != 0 {
-            return Upgraded {
-                answer: answer::Answer::Refused(refusal),
-                tile: self,
-                missing: MissingBits { srl: 0, raw: 0 },
-            };
-        }
-        let passed = self.upgraded(
-            y_srl,
-            y_raw,
-            cb_srl,
-            cb_raw,
-            cr_srl,
-            cr_raw,
+        check_upgrade(
             prog_quants,
-            quality,
+            self.prog_quant,
+            self.base_quant,
+            &self.sign,
+            &self.zero_signs,
+            self.use_reduce_extrapolate,
+        )?;
+        let missing = upgrade_in_place(
+            y,
+            cb,
+            cr,
+            prog_quants,
+            self.use_reduce_extrapolate,
+            &mut self.coefficients,
+            &mut self.sign,
+            &mut self.zero_signs,
+            &mut self.prog_quant,
+            &mut self.pass,
         );
-        let next = passed.tile;
-        let missing = passed.missing;
-        Upgraded {
-            answer: answer::Answer::Accepted,
-            tile: next,
-            missing,
-        }
+        self.quality = quality;
+        Ok(missing)
     }
 
     // The tile's pixels, row by row, four bytes each: red, green, blue and 255.
-    pub fn reconstruct_to_rgba(self, pixels: &mut [u8]) -> answer::Answer
-        ensures { Reconstructs self pixels.old result pixels.new }
+    pub fn reconstruct_to_rgba(&self, pixels: &mut [u8]) -> Result<(), Refusal>
+        ensures { Reconstructs self.now pixels.old result pixels.new }
     {
-        let sign = self.sign;
-        let numbers = self.zero_signs;
-        if !zero_signs::are_right(&numbers, &sign, self.use_reduce_extrapolate) {
-            return answer::Answer::Refused(answer::IMPOSSIBLE_STATE);
-        }
-        let coefficients = self.coefficients;
-        let positions = self.prog_quant;
-        let quants = self.base_quant;
+        check_numbers(&self.zero_signs, &self.sign, self.use_reduce_extrapolate)?;
         pixels::reconstruct_to_rgba(
-            coefficients,
-            positions,
-            quants,
+            self.coefficients,
+            self.prog_quant,
+            self.base_quant,
             self.use_reduce_extrapolate,
             pixels,
         )
     }
 }
 
-// A refused call gives the refusal's number, and the tile handed in or the pixels as they were; a refused load gives the fresh tile.
+// A refused call gives the refusal's number, and leaves the tile or the pixels as they were; a refused load stands for the fresh tile.
 pub fn refusals()
     ensures { TileRefusals }
 {}

@@ -3,7 +3,7 @@
 
 #![tactic(auto)]
 
-ghost use Rattle.std.specs.Prelude.{Bool, ◌≡◌, ◌-◌, ◌<◌, get_or};
+ghost use Rattle.std.specs.Prelude.{Bool, ◌≡◌, ◌<◌, get_or};
 ghost use Rattle.bands.specs.Bands.{bands_of};
 ghost use Rattle.bands.specs.Tables.{band_ends};
 ghost use Rattle.upgrade_steps.specs.Steps.{step_at};
@@ -20,23 +20,13 @@ pub struct BandStep {
     pub position: u8,
 }
 
-// The width of a band.
-fn band_width(prev: u8, curr: u8) -> u8
-    ensures { result ≡ prev - curr }
-{
-    if curr < prev {
-        return prev - curr;
-    }
-    0
-}
-
 // What a pass does in the band numbered `b`.
 pub fn band_step(b: usize, prev: u8, curr: u8) -> BandStep
     ensures { band_step result ≡ step_at b prev curr }
 {
     BandStep {
         bottom: b == 9,
-        width: band_width(prev, curr),
+        width: prev.saturating_sub(curr),
         position: curr,
     }
 }
@@ -60,7 +50,7 @@ pub fn stretch_at(
     ensures { (e : Bool) → table.now ≡ bands_of e → ends ≡ band_ends e
         → SameStep e prev curr place result.to (band_step result.step) }
 {
-    let b = table[place] as usize;
+    let b = usize::from(table[place]);
     Stretch {
         step: band_step(b, prev[b], curr[b]),
         to: ends[b],
@@ -71,10 +61,7 @@ pub fn stretch_at(
 pub fn from_srl(t: BandStep, s: i8) -> bool
     ensures { result ≡ from_srl (band_step t) s }
 {
-    if t.bottom {
-        return false;
-    }
-    fixed::is_zero_sign(s)
+    !t.bottom && fixed::is_zero_sign(s)
 }
 
 // A pass over a component has at most 4,032 SRL values, 4,015 in the reduce-extrapolate layout.

@@ -6,8 +6,5 @@ ghost use Rattle.bands.specs.Positions.{row_in_domain};
 pub fn rows_ok(prev: [u8; 10], curr: [u8; 10]) -> bool
     ensures { result ≡ (row_in_domain prev && row_in_domain curr) }
 {
-    if !bands::row_in_domain(prev) {
-        return false;
-    }
-    bands::row_in_domain(curr)
+    bands::row_in_domain(prev) && bands::row_in_domain(curr)
 }

@@ -9,9 +9,10 @@ use native.Mathlib.Omega.{arith}
 use borrow.Author.Tests.{eq-eqb}
 use borrow.Rule.Slice.PartMut.{put_mid}
 use lib.Dec.{eqb}
+use lib.Pointwise.{pointwise}
 use lib.IntN.{ℤ, pos}
 use lib.ListN.{length, get_or, take, drop, replicate, length-replicate, take-append-drop, length-map, get_or-map}
-use lib.Seq.{slice, slice-cons, drop-cons, take-take, length-take-le, drop-append-le, ext_get_or}
+use lib.Seq.{slice, drop-cons, take-take, length-take-le, drop-append-le, ext_get_or}
 use Rattle.bands.specs.Bands.{layout, count_of, band_at, none}
 use Rattle.bands.specs.declared.BandInfo.{BandInfo}
 use Rattle.bands.proofs.Laid.{ten_bands, band_within}
@@ -28,17 +29,12 @@ unfolding zeros_in
 zeros_append [] b = omega arith
 zeros_append (s ∷ a) b = omega (arith, zeros_append a b)
 
+-- by what the first that is left is
+pub zeros_next : (l : List ℤ) (i : ℕ) (b : Bool) → is_zero (get_or l i (pos 0)) ≡ b → i < length l → zeros_in (drop i l) ≡ cond b 1 0 + zeros_in (drop (i + 1) l)
+unfolding zeros_in
+zeros_next l i b e h = rw (add-one i, drop-cons l i (pos 0) h, e) refl
+
 module _ (l : List ℤ) (f t : ℕ) where
-  -- the first of a part, and the others
-  pub zeros_first : f < t → t ≤ length l → zeros_in (slice f t l) ≡ cond (is_zero (get_or l f (pos 0))) 1 0 + zeros_in (slice (suc f) t l)
-  unfolding zeros_in
-  zeros_first h k = ap zeros_in (slice-cons f t l (pos 0) h k)
-
-  -- by what the first is, with its place as the code has the next one
-  pub zeros_next : (b : Bool) → is_zero (get_or l f (pos 0)) ≡ b → f < t → t ≤ length l → zeros_in (slice f t l) ≡ cond b 1 0 + zeros_in (slice (f + 1) t l)
-  zeros_next b e h k =
-      zeros_first h k ∙ ap (λ (b : Bool). cond b 1 0 + zeros_in (slice (suc f) t l)) e ∙ ap (λ (i : ℕ). cond b 1 0 + zeros_in (slice i t l)) (sym (add-one f))
-
   -- a part by two
   pub zeros_parts : (m : ℕ) → f ≤ m → m ≤ t → t ≤ length l → zeros_in (slice f t l) ≡ zeros_in (slice f m l) + zeros_in (slice m t l)
   zeros_parts m h k n =
@@ -47,21 +43,14 @@ module _ (l : List ℤ) (f t : ℕ) where
       ∙ ap zeros_in (drop-append-le f (take m l) (drop m (take t l)) (omega (arith, length-take-le m l (omega arith))))
       ∙ zeros_append (slice f m l) (slice m t l)
 
--- ════ counted by a loop ════
-
--- the zeros of a part are counted up to i
-abbrev pub Counting : List ℤ → ℕ → ℕ → ℕ → ℕ → Type 0
-Counting l from to n i = (from ≤ i) × (i ≤ to) × (n + from ≤ i) × (n + zeros_in (slice i to l) ≡ zeros_in (slice from to l))
-
-pub count_starts : (l : List ℤ) (from to : ℕ) → from ≤ to → Counting l from to 0 from
-count_starts l from to h = (omega arith, h, omega arith, omega arith)
-
 -- ════ the same numbers ════
 
--- by what the first that is left of each says
-pub same_next : (a b : List ℕ) (i : ℕ) (x : Bool) → eqb (get_or a i 0) (get_or b i 0) ≡ x → i < length a → length a ≡ length b
-    → (x && are_same (drop (i + 1) a) (drop (i + 1) b)) ≡ are_same (drop i a) (drop i b)
-same_next a b i x e h l = rw (add-one i, ← e, drop-cons a i 0 h, drop-cons b i 0 (omega (arith, l))) refl
+-- as the library compares
+pub pointwise_same : (a b : List ℕ) → pointwise eqb a b ≡ are_same a b
+pointwise_same [] [] = refl
+pointwise_same [] (n ∷ b) = refl
+pointwise_same (m ∷ a) [] = refl
+pointwise_same (m ∷ a) (n ∷ b) = ap (λ (t : Bool). eqb m n && t) (pointwise_same a b)
 
 -- a list has the same numbers as itself
 pub same_refl : (l : List ℕ) → are_same l l ≡ true

@@ -35,8 +35,8 @@ returns c =
     let lay = component_put a.use_reduce_extrapolate a.positions a.rows a.k n a.coefficients.now a.sign.now whole row.result row.ensures in
     let d = c.upgrade_all.ensures in
     record {
-      coefficients = lay (λ (ts : List Step) (x y : List ℤ). upgraded_coefficients ts a.srl_data.now a.raw_data.now x y) a.coefficients.now _ d.coefficients;
-      sign = lay (λ (ts : List Step) (x y : List ℤ). upgraded_signs ts a.srl_data.now y) a.sign.now _ d.sign;
-      missing = d.missing ∙ component_missing a.use_reduce_extrapolate a.positions a.rows a.k n a.coefficients.now a.sign.now whole row.result row.ensures a.srl_data.now a.raw_data.now;
-      few = few_missing a.use_reduce_extrapolate row.result (of a.rows a.k) a.srl_data.now a.raw_data.now (mid_of (a.k * 4096) n a.sign.now) d.missing right;
+      coefficients = lay (λ (ts : List Step) (x y : List ℤ). upgraded_coefficients ts a.streams.srl.now a.streams.raw.now x y) a.coefficients.now _ d.coefficients;
+      sign = lay (λ (ts : List Step) (x y : List ℤ). upgraded_signs ts a.streams.srl.now y) a.sign.now _ d.sign;
+      missing = d.missing ∙ component_missing a.use_reduce_extrapolate a.positions a.rows a.k n a.coefficients.now a.sign.now whole row.result row.ensures a.streams.srl.now a.streams.raw.now;
+      few = few_missing a.use_reduce_extrapolate row.result (of a.rows a.k) a.streams.srl.now a.streams.raw.now (mid_of (a.k * 4096) n a.sign.now) d.missing right;
     }

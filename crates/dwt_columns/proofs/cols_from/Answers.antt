@@ -1,84 +1,82 @@
 -- `dwt_columns::cols_from` meets its contract. Assumes nothing.
-use mathlib.Core.Path.{◌≡◌, refl, ◌∙◌}
+use mathlib.Core.Path.{◌≡◌, refl, ap, ◌∙◌}
+use mathlib.Core.List.{List}
 use Prim.Native.Nat.{ℕ, ◌+◌, ◌*◌, ◌-◌, ◌≤◌}
 use native.Mathlib.Omega.{arith}
-use lib.ListN.{length, drop}
+use lib.IntN.{ℤ}
+use lib.ListN.{length, take, drop}
 use Rattle.dwt_columns.proofs.Products.{scale}
-use Rattle.dwt_columns.proofs.RowByRow.{cols_kept, cols_turn, cols_one, cols_two}
+use Rattle.dwt_columns.proofs.Put.{part_length}
+use Rattle.dwt_columns.proofs.RowByRow.{pair_put, last_put, left_at, left_next, cols_one, cols_two}
 use Rattle.dwt_columns.proofs.cols_from.Goals as goal
 
--- in a turn the next rows are within each slice
-room : (w m e l h d : ℕ) {a b n N : ℕ} → 1 ≤ m → l + w + (m + e) * w ≤ a → h + w + m * w ≤ b → d + (m + m + e + 3) * w ≡ N → N ≤ n → (l + w ≤ a) × (h + w ≤ b) × (h + w + w ≤ b) × (d + 3 * w ≤ n)
-room w m e l h d z p q r s = (
-  omega arith,
-  omega arith,
-  omega (arith, scale m (m - 1) 1 w (omega arith)),
-  omega (arith, scale (m + m + e + 3) (m + m + e) 3 w (omega arith)),
-)
-
-pub loop-m-init : goal.loop-m-init
-loop-m-init c =
+pub loop-j-preserved : goal.loop-j-preserved
+loop-j-preserved c =
     let a = c.args in
-    let rest : a.q - 1 + (a.p - a.q - 1) ≡ a.p - 2 = omega arith in
-    let none : 0 + a.w ≡ a.w = omega arith in (
-      omega (arith, scale a.p (a.q - 1 + (a.p - a.q - 1)) 2 a.w (omega arith)),
-      omega (arith, scale a.q (a.q - 1) 1 a.w (omega arith)),
-      omega (arith, scale (a.p + a.q) (a.q - 1 + (a.q - 1) + (a.p - a.q - 1) + 3) 0 a.w (omega arith)),
-      refl,
-      refl,
-      rw (rest, none),
-    )
+    let at = c.loop-j in
+    let l = at.j * a.w in
+    let h = (at.j - 1) * a.w in
+    let i = 2 * h in
+    let low = scale a.p (at.j + 1) (a.p - at.j - 1) a.w (omega arith) in
+    let high = scale a.q (at.j + 1) (a.q - at.j - 1) a.w (omega arith) in
+    let beside : l ≡ h + a.w = omega (arith, scale at.j (at.j - 1) 1 a.w (omega arith)) in
+    let next : (at.j + 1 - 1) * a.w ≡ h + a.w = omega (arith, scale (at.j + 1 - 1) (at.j - 1) 1 a.w (omega arith)) in
+    let in_low : l + a.w ≤ length a.low.now = omega (arith, low, c.requires.w_in_bounds) in
+    let in_dst : i + 3 * a.w ≤ length at.dst = omega (arith, low, high, beside, c.requires.w_in_bounds) in
+    left_at (left_next _ in_low (omega (arith, high, beside, c.requires.w_in_bounds)) (omega (arith, high, beside, c.requires.w_in_bounds)) in_dst (omega arith)
+    (pair_put a.low.now a.high.now a.high.now at.dst c.pair_rows.new.d c.row.result.now c.row-in-loop-j.result.now c.row-in-loop-j-2.result.now a.w l h (h + a.w) i (i + 3 * a.w - i) (3 * a.w)
+    c.row.ensures.value c.row-in-loop-j.ensures.value (rw beside at c.row-in-loop-j-2.ensures.value) (omega arith) (omega arith) in_low c.pair_rows.ensures) at.invariant)
+    (omega (arith, next)) next (omega arith) (omega arith)
 
-pub pair_at-requires : goal.pair_at-requires
-pair_at-requires c =
-    let a = c.args in
-    let at = c.loop-m in
-    room a.w at.m (a.p - a.q - 1) at.l at.h at.d c.loop-m-test.true at.invariant.0 at.invariant.1 at.invariant.2 (omega arith)
+-- the part of the buffer for n rows of w places
+part : (d : List ℤ) (i w n : ℕ) {k : ℕ} → i + n * w ≤ length d → k ≡ w → length (take (i + n * w - i) (drop i d)) ≡ n * k
+part d i w n h e = part_length d (i + n * w - i) i (omega arith) ∙ rw e (omega arith)
 
-pub loop-m-preserved : goal.loop-m-preserved
-loop-m-preserved c =
+pub pair_rows-requires-then-p-q-clause-d_len : goal.pair_rows-requires-then-p-q-clause-d_len
+pair_rows-requires-then-p-q-clause-d_len c =
     let a = c.args in
-    let at = c.loop-m in
-    let t = c.loop-m-test.true in
-    let D = c.pair_at.new.dst in
-    let e = a.p - a.q - 1 in
-    let s : (a.p + a.q) * a.w ≤ length at.dst = omega arith in
-    let n = room a.w at.m e at.l at.h at.d t at.invariant.0 at.invariant.1 at.invariant.2 s in (
-      omega (arith, scale (at.m + e) (at.m - 1 + e) 1 a.w (omega arith)),
-      omega (arith, scale at.m (at.m - 1) 1 a.w (omega arith)),
-      omega (arith, scale (at.m + at.m + e + 3) (at.m - 1 + (at.m - 1) + e + 3) 2 a.w (omega arith)),
-      c.pair_at.auto.dst ∙ at.invariant.3,
-      cols_kept a.low.now a.high.now at.dst a.w at.l at.h at.d n.0 n.1 D n.3 n.2 c.pair_at.ensures a.dst.now at.invariant.4,
-      cols_turn a.low.now a.high.now at.dst a.w at.l at.h at.d n.0 n.1 D n.3 n.2 c.pair_at.ensures _ at.m e t at.invariant.5,
-    )
-
-pub pair_at-requires-then-p-q : goal.pair_at-requires-then-p-q
-pair_at-requires-then-p-q c =
-    let a = c.args in
-    let at = c.loop-m in
-    (omega arith, omega arith, omega arith, omega (arith, scale (at.m + at.m + (a.p - a.q - 1) + 3) 0 3 a.w (omega arith)))
+    let p = scale a.p (a.q + 1) (a.p - a.q - 1) a.w (omega arith) in
+    let q = scale a.q (a.q - 1) 1 a.w (omega arith) in
+    part c.loop-j.dst (2 * ((a.q - 1) * a.w)) a.w 3 (omega (arith, p, q, c.requires.w_in_bounds)) c.row-l.ensures.len
 
 pub returns-then-p-q : goal.returns-then-p-q
 returns-then-p-q c =
     let a = c.args in
-    let at = c.loop-m in
-    cols_one a.low.now a.high.now at.dst a.w at.l at.h at.d _ c.pair_at-then-p-q.new.dst a.dst.now (drop (at.h + a.w) a.high.now) (at.m + (a.p - a.q - 1)) at.m ((a.p + a.q) * a.w)
-    (omega arith) at.invariant.4 at.invariant.5 (omega arith) (omega (arith, scale (at.m + at.m + (a.p - a.q - 1) + 3) 0 3 a.w (omega arith))) c.pair_at-then-p-q.ensures
+    let at = c.loop-j in
+    let l = a.q * a.w in
+    let h = (a.q - 1) * a.w in
+    let i = 2 * h in
+    let end : a.q ≡ at.j = omega arith in
+    let left = left_at at.invariant (ap (λ (n : ℕ). 2 * ((n - 1) * a.w)) end) (ap (λ (n : ℕ). (n - 1) * a.w) end) (ap (λ (n : ℕ). n * a.w) end) refl in
+    let p = scale a.p a.q 1 a.w (omega arith) in
+    let q = scale a.q (a.q - 1) 1 a.w (omega arith) in
+    let in_low : l + a.w ≤ length a.low.now = omega (arith, p, c.requires.w_in_bounds) in
+    cols_one a.low.now a.high.now at.dst a.w l h i _ _ a.dst.now (drop (h + a.w) a.high.now) (a.q - at.j + (a.p - a.q - 1)) (a.q - at.j) ((a.p + a.q) * a.w)
+    (omega arith) left.kept left.left (omega arith) (omega (arith, p, q))
+    (pair_put a.low.now a.high.now a.high.now at.dst c.pair_rows-then-p-q.new.d c.row-l.result.now c.row-h.result.now c.row-h.result.now a.w l h h i (i + 3 * a.w - i) (3 * a.w)
+    c.row-l.ensures.value c.row-h.ensures.value c.row-h.ensures.value (omega arith) (omega arith) in_low c.pair_rows-then-p-q.ensures)
 
-pub last_at-requires : goal.last_at-requires
-last_at-requires c =
+pub last_rows-requires-clause-d_len : goal.last_rows-requires-clause-d_len
+last_rows-requires-clause-d_len c =
     let a = c.args in
-    let at = c.loop-m in
-    let e : at.m + (a.p - a.q - 1) ≡ 1 = omega arith in (
-      omega arith,
-      omega arith,
-      omega (arith, scale (at.m + (a.p - a.q - 1)) 0 1 a.w e),
-      omega (arith, scale (at.m + at.m + (a.p - a.q - 1) + 3) 0 4 a.w (omega arith)),
-    )
+    let p = scale a.p a.q 2 a.w (omega arith) in
+    let q = scale a.q (a.q - 1) 1 a.w (omega arith) in
+    part c.loop-j.dst (2 * ((a.q - 1) * a.w)) a.w 4 (omega (arith, p, q, c.requires.w_in_bounds)) c.row-l.ensures.len
 
 pub returns : goal.returns
 returns c =
     let a = c.args in
-    let at = c.loop-m in
-    cols_two a.low.now a.high.now at.dst a.w at.l at.h at.d _ c.last_at.new.dst a.dst.now (drop (at.h + a.w) a.high.now) (at.m + (a.p - a.q - 1)) at.m ((a.p + a.q) * a.w)
-    (omega arith) at.invariant.4 at.invariant.5 (omega arith) (omega (arith, scale (at.m + at.m + (a.p - a.q - 1) + 3) 0 4 a.w (omega arith))) c.last_at.ensures
+    let at = c.loop-j in
+    let l = a.q * a.w in
+    let h = (a.q - 1) * a.w in
+    let i = 2 * h in
+    let end : a.q ≡ at.j = omega arith in
+    let left = left_at at.invariant (ap (λ (n : ℕ). 2 * ((n - 1) * a.w)) end) (ap (λ (n : ℕ). (n - 1) * a.w) end) (ap (λ (n : ℕ). n * a.w) end) refl in
+    let p = scale a.p a.q 2 a.w (omega arith) in
+    let q = scale a.q (a.q - 1) 1 a.w (omega arith) in
+    let in_low : l + a.w ≤ length a.low.now = omega (arith, p, c.requires.w_in_bounds) in
+    let last : (a.q + 1) * a.w ≡ l + a.w = omega arith in
+    cols_two a.low.now a.high.now at.dst a.w l h i _ _ a.dst.now (drop (h + a.w) a.high.now) (a.q - at.j + (a.p - a.q - 1)) (a.q - at.j) ((a.p + a.q) * a.w)
+    (omega arith) left.kept left.left (omega arith) (omega (arith, p, q))
+    (last_put a.low.now a.high.now a.low.now at.dst c.last_rows.new.d c.row-l.result.now c.row-h.result.now c.row-2.result.now a.w l h (l + a.w) i (i + 4 * a.w - i) (4 * a.w)
+    c.row-l.ensures.value c.row-h.ensures.value (rw last at c.row-2.ensures.value) (omega arith) (omega arith) in_low c.last_rows.ensures)

@@ -1,12 +1,9 @@
 -- `dwt_columns::edge_row` meets its contract. Assumes nothing.
 use mathlib.Core.Path.{◌≡◌}
-use Prim.Native.Nat.{◌-◌, ◌≤◌}
-use lib.ListN.{length}
-use Rattle.dwt_columns.proofs.Fronts.{EdgeDone}
+use mathlib.Core.List.{zip_with}
+use lib.ListN.{take}
+use Rattle.dwt_lines.specs.Line.{edge}
 use Rattle.dwt_columns.proofs.edge_row.Given as goal
 
 abbrev pub invariant-loop-i : goal.invariant-loop-i
-invariant-loop-i l = (l.i ≤ length l.l) × (length l.d ≡ length l.initial.d) × EdgeDone l.l l.h l.initial.d l.i l.d
-
-abbrev pub decreases-loop-i : goal.decreases-loop-i
-decreases-loop-i l = length l.l - l.i
+invariant-loop-i l = take l.i l.d ≡ take l.i (zip_with edge l.l l.h)

@@ -1,39 +1,52 @@
 -- `dwt_columns::pair_rows` meets its contract. Assumes nothing.
-use mathlib.Core.Path.{◌≡◌, refl, ◌∙◌}
+use mathlib.Core.Path.{◌≡◌, refl, sym, ◌∙◌}
 use native.Mathlib.Omega.{arith}
 use lib.IntN.{pos}
-use lib.ListN.{get_or, length-set}
+use lib.ListN.{length, get_or}
 use mir.Syntax.{w16}
 use mir.Val.{to_z, of_z}
 use borrow.Author.Rules.{rules}
-use Rattle.dwt_columns.proofs.Fronts.{pair_start, pair_turn, pair_done}
+use Rattle.dwt_lines.specs.Line.{even, odd}
+use Rattle.dwt_columns.specs.Inner.{zip_with3, pair_rows}
+use Rattle.dwt_columns.proofs.Places.{zip3_length, zip3_get}
+use Rattle.dwt_columns.proofs.Fronts.{zip3_more, row_all}
 use Rattle.dwt_columns.proofs.pair_rows.Goals as goal
-
-pub loop-i-init : goal.loop-i-init
-loop-i-init c = (omega arith, refl, pair_start c.args.l.now c.args.h.now c.args.k.now c.args.d.now)
 
 pub loop-i-preserved : goal.loop-i-preserved
 loop-i-preserved c =
     let a = c.args in
     let at = c.loop-i in
-    let even = c.even_sample-y in
-    let l : to_z w16 (of_z w16 (get_or a.l.now at.i (pos 0))) ≡ get_or a.l.now at.i (pos 0) = search rules in
-    let h : to_z w16 (of_z w16 (get_or a.h.now at.i (pos 0))) ≡ get_or a.h.now at.i (pos 0) = search rules in
-    let k : to_z w16 (of_z w16 (get_or a.k.now at.i (pos 0))) ≡ get_or a.k.now at.i (pos 0) = search rules in
-    let x : to_z w16 (of_z w16 (get_or at.d at.i (pos 0))) ≡ get_or at.d at.i (pos 0) = search rules in
-    let y : to_z w16 (of_z w16 even.result) ≡ even.result = search rules in
-    let o : to_z w16 (of_z w16 c.odd_sample.result) ≡ c.odd_sample.result = search rules in (
-      omega arith,
-      simp length-set (omega arith),
-      pair_turn a.l.now a.h.now a.k.now a.d.now (omega arith) (omega arith) (omega arith) at.d at.i _ _ (omega arith) at.invariant.2
-          (y ∙ (rw (l, h, k) at even.ensures)) (o ∙ (rw (x, h) at c.odd_sample.ensures)),
-    )
+    let L = a.l.now in
+    let H = a.h.now in
+    let K = a.k.now in
+    let E = zip_with3 even L H K in
+    let X = c.split_at_mut-x.result.0.now in
+    let nE : length E ≡ length L = zip3_length even L H K refl (omega arith) (omega arith) in
+    let l : to_z w16 (of_z w16 (get_or L at.i (pos 0))) ≡ get_or L at.i (pos 0) = search rules in
+    let h : to_z w16 (of_z w16 (get_or H at.i (pos 0))) ≡ get_or H at.i (pos 0) = search rules in
+    let k : to_z w16 (of_z w16 (get_or K at.i (pos 0))) ≡ get_or K at.i (pos 0) = search rules in
+    let x : to_z w16 (of_z w16 (get_or X at.i (pos 0))) ≡ get_or X at.i (pos 0) = search rules in
+    let y : to_z w16 (of_z w16 c.even_sample-y.result) ≡ c.even_sample-y.result = search rules in
+    let o : to_z w16 (of_z w16 c.odd_sample.result) ≡ c.odd_sample.result = search rules in
+    let e = y ∙ (rw (l, h, k) at c.even_sample-y.ensures) in
+    let gE = e ∙ sym (zip3_get even L H K at.i (pos 0) (omega arith) (omega arith) (omega arith)) in
+    record {
+      even_row = zip3_more even L H K at.even at.i _ (omega arith) (omega arith) (omega arith) (omega arith) at.invariant.even_row e;
+      odd_row = zip3_more odd X E H at.odd at.i _ (omega arith) (omega arith) (omega arith) (omega arith) at.invariant.odd_row (o ∙ (rw (x, h, gE) at c.odd_sample.ensures));
+    }
 
 pub returns : goal.returns
+unfolding pair_rows
 returns c =
     let a = c.args in
     let at = c.loop-i in
-    pair_done a.l.now a.h.now a.k.now a.d.now (omega arith) (omega arith) (omega arith) at.d at.i (omega arith) at.invariant.2
-
-pub bounds-d-w-in-loop-i : goal.bounds-d-w-in-loop-i
-bounds-d-w-in-loop-i c = simp length-set (omega arith)
+    let L = a.l.now in
+    let H = a.h.now in
+    let E = zip_with3 even L H a.k.now in
+    let X = c.split_at_mut-x.result.0.now in
+    let nE : length E ≡ length L = zip3_length even L H a.k.now refl (omega arith) (omega arith) in
+    let nX : length X ≡ length L = omega arith in
+    let nO = zip3_length odd X E H nX nE (omega arith) in
+    let even_row = row_all E at.even at.i (omega arith) (omega arith) at.invariant.even_row in
+    let odd_row = row_all (zip_with3 odd X E H) at.odd at.i (omega arith) (omega arith) at.invariant.odd_row in
+    rw (odd_row, even_row, c.split_at_mut-x.ensures.front)

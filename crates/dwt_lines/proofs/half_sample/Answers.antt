@@ -19,15 +19,3 @@ returns c =
     let computed : c.t.result ≡ wrap_i16 (to_z w32 (of_z w32 (a.l -ℤ to_z w32 (of_z w32 (half_toward_zero a.h)))))
     = simp (to_z-of_z, f.l, f.h, l, h) at c.t.ensures in
     got w16 c.t.type_inv (computed ∙ ap wrap_i16 (search exact depth 20))
-
-pub overflow_cast-l : goal.overflow_cast-l
-overflow_cast-l c = search signed depth 20
-
-pub overflow_cast-h : goal.overflow_cast-h
-overflow_cast-h c = search signed depth 20
-
-pub nonzero_div-h : goal.nonzero_div-h
-nonzero_div-h c = search signed depth 20
-
-pub overflow_sub-l : goal.overflow_sub-l
-overflow_sub-l c = search signed depth 20

@@ -2,22 +2,10 @@
 use mathlib.Core.Path.{◌∙◌, ap}
 use mir.Syntax.{w16}
 use Rattle.fixed.specs.Fixed.{wrap_i16}
-use Rattle.fixed.proofs.Machine.{signed, exact, got}
+use Rattle.fixed.proofs.Machine.{exact, got}
 use Rattle.dwt_lines.specs.Line.{mean}
 use Rattle.dwt_lines.proofs.mean_sample.Goals as goal
 
 pub returns : goal.returns
 unfolding mean
 returns c = got w16 c.t.type_inv (c.t.ensures ∙ ap wrap_i16 (search exact depth 20))
-
-pub overflow_cast-x : goal.overflow_cast-x
-overflow_cast-x c = search signed depth 20
-
-pub overflow_cast-l : goal.overflow_cast-l
-overflow_cast-l c = search signed depth 20
-
-pub overflow_add-x : goal.overflow_add-x
-overflow_add-x c = search signed depth 20
-
-pub nonzero_div-x : goal.nonzero_div-x
-nonzero_div-x c = search signed depth 20

@@ -2,7 +2,7 @@
 use mathlib.Core.Path.{◌≡◌, ◌∙◌}
 use native.Mathlib.Omega.{arith}
 use lib.IntN.{pos}
-use lib.ListN.{get_or, length-set}
+use lib.ListN.{get_or}
 use mir.Facts.{to_z-of_z}
 use mir.Syntax.{w16}
 use mir.Val.{to_z, of_z}
@@ -33,18 +33,3 @@ returns c =
     let o : to_z w16 (of_z w16 c.odd_sample-2.result) ≡ c.odd_sample-2.result = search rules in
     let m : to_z w16 (of_z w16 c.mean_sample.result) ≡ c.mean_sample.result = search rules in
     rw x (end_two a.low.now a.dst.now a.x a.h _ _ _ (omega arith) (omega arith) (y ∙ (rw (l, h) at c.half_sample-y.ensures)) (o ∙ (rw (x, h) at c.odd_sample-2.ensures)) (m ∙ (rw k at c.mean_sample.ensures)))
-
-pub bounds-dst-1 : goal.bounds-dst-1
-bounds-dst-1 c = simp length-set (omega arith)
-
-pub bounds-dst-2 : goal.bounds-dst-2
-bounds-dst-2 c = simp length-set (omega arith)
-
-pub bounds-dst-1-2 : goal.bounds-dst-1-2
-bounds-dst-1-2 c = simp length-set (omega arith)
-
-pub bounds-dst-2-2 : goal.bounds-dst-2-2
-bounds-dst-2-2 c = simp length-set (omega arith)
-
-pub bounds-dst-3 : goal.bounds-dst-3
-bounds-dst-3 c = simp length-set (omega arith)

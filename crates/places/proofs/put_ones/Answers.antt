@@ -1,13 +1,12 @@
 -- `places::put_ones` meets its contract. Assumes nothing.
 use mathlib.Core.Path.{◌≡◌, ap, ◌∙◌}
 use mathlib.Core.List.{List, map}
-use Prim.Native.Nat.{ℕ, ◌+◌, ◌*◌, ◌≤◌}
+use Prim.Native.Nat.{ℕ, ◌+◌, ◌*◌}
 use native.Mathlib.Omega.{arith}
 use lib.ListN.{length, get_or, drop}
 use lib.Seq.{paste}
 use Rattle.places.specs.Inner.{ones_of}
-use Rattle.places.proofs.Table.{ones_few, rows_length_lem, row_count, row_stored}
-use borrow.Author.Rules.{rules}
+use Rattle.places.proofs.Table.{rows_length_lem, row_count, row_stored}
 use Rattle.places.proofs.put_ones.Goals as goal
 
 pub store_row-requires : goal.store_row-requires
@@ -15,16 +14,9 @@ store_row-requires c =
     let l : length c.args.rows.now ≡ 2304 = ap length c.requires.0 ∙ rows_length_lem in
     (c.requires.1, c.requires.2, c.requires.3, omega (arith, l))
 
-pub overflow_add-result : goal.overflow_add-result
-overflow_add-result c =
-    let counted : c.count_of.result ≡ length (ones_of 8 c.args.m) = let last : c.count_of.result ≡ get_or c.args.rows.now (9 * c.args.m + 8) 0 = c.count_of.ensures in
-    last ∙ ap (λ (l : List ℕ). get_or l (9 * c.args.m + 8) 0) c.requires.0 ∙ row_count c.args.m c.requires.1 in
-    let few : c.count_of.result ≤ 8 = omega (arith, counted, ones_few 8 c.args.m) in
-    search rules
-
 pub returns : goal.returns
 returns c =
-    let counted : c.count_of.result ≡ length (ones_of 8 c.args.m) = let last : c.count_of.result ≡ get_or c.args.rows.now (9 * c.args.m + 8) 0 = c.count_of.ensures in
+    let counted : c.from.result ≡ length (ones_of 8 c.args.m) = let last : c.from.result ≡ get_or c.args.rows.now (9 * c.args.m + 8) 0 = c.from.ensures in
     last ∙ ap (λ (l : List ℕ). get_or l (9 * c.args.m + 8) 0) c.requires.0 ∙ row_count c.args.m c.requires.1 in
     let a = c.args in
     record {

@@ -13,7 +13,10 @@ use Rattle.bits.specs.Bits.{num, numbers, zeros}
 use Rattle.bits.specs.Missing.{read_num, read_numbers, read_zeros, missing_in}
 use Rattle.bits.specs.Turns.{count_zeros}
 use Rattle.bits.specs.Written.{bits_of_all}
-use Rattle.answer.specs.Refusals.{invalid_bit_count, output_too_short, unless, first_of, no_room, stored}
+use Rattle.std.specs.Prelude.{Option, None, Some}
+use Rattle.answer.specs.Answers.{unless, first_of, no_room, stored}
+use Rattle.answer.specs.declared.Refusal.{Refusal}
+use Rattle.answer.specs.declared.Refusal.TheVariants.{InvalidBitCount, OutputTooShort}
 use Rattle.srl_rules.specs.Rules.{width_ok}
 use Rattle.srl_decoder.specs.Srl.{values, reader_after}
 use Rattle.srl_decoder.specs.Missing.{read_values}
@@ -30,20 +33,20 @@ use Rattle.samples.specs.Samples.{BenchSamples}
 use Rattle.samples.proofs.bench_samples.Goals as goal
 
 -- where no nonzero value is due and there is room, nothing is refused, whatever the width is
-not_refused : (b : Bool) (n : ℕ) → n ≡ 0 → first_of (unless (b || true) invalid_bit_count) n ≡ 0
+not_refused : (b : Bool) (n : Option Refusal) → n ≡ None → first_of (unless (b || true) InvalidBitCount) n ≡ None
 not_refused true n e = e
 not_refused false n e = e
 
 -- past the end of a stream all is 0
 empty : (out : List ℤ) (n w : ℕ) → n ≤ length out → decode_out [] start_state out n w ≡ replicate n (pos 0) ++ drop n out
 empty out n w h =
-    let room : no_room (length out) n ≡ 0 = ap (λ (b : Bool). cond b output_too_short 0) (le-ltb (length out) n h) in
-    let none : decode_refusal [] start_state (length out) n w ≡ 0 =
-    ap (λ (d : Bool). first_of (unless (width_ok w || not d) invalid_bit_count) (no_room (length out) n)) (due_past [] 0 8 0 n (omega arith))
+    let room : no_room (length out) n ≡ None = ap (λ (b : Bool). cond b (Some OutputTooShort) None) (le-ltb (length out) n h) in
+    let none : decode_refusal [] start_state (length out) n w ≡ None =
+    ap (λ (d : Bool). first_of (unless (width_ok w || not d) InvalidBitCount) (no_room (length out) n)) (due_past [] 0 8 0 n (omega arith))
     ∙ not_refused (width_ok w) (no_room (length out) n) room in
     let zero : values [] (replicate n w) (opened start_state) ≡ replicate n (pos 0) =
     values_past [] 0 8 0 (replicate n w) (omega arith) ∙ ap (λ (k : ℕ). replicate k (pos 0)) (length-replicate n w) in
-    ap (λ (r : ℕ). stored r (values [] (replicate n w) (opened start_state)) out) none
+    ap (λ (r : Option Refusal). stored r (values [] (replicate n w) (opened start_state)) out) none
     ∙ ap (λ (l : List ℤ). l ++ drop (length l) out) zero
     ∙ ap (λ (k : ℕ). replicate n (pos 0) ++ drop k out) (length-replicate n (pos 0))
 

@@ -1,65 +1,36 @@
--- `srl_held::encode_srl` meets its contract: each test is one of `stream_refusal`, and the bytes stored are those measured. Assumes nothing.
+-- `srl_held::encode_srl` meets its contract: the end is stored or refused by `finish`, and the values before it. Assumes nothing.
 use mathlib.Core.Path.{◌≡◌, sym, ap, ◌∙◌}
-use mathlib.Core.Bool.{true, cond}
-use Prim.Native.Nat.{◌≤◌}
+use mathlib.Core.Bool.{true}
 use native.Mathlib.Omega.{arith}
-use lib.ListN.{length}
-use borrow.Author.Tests.{ltb-false}
+use lib.ListN.{drop}
+use Rattle.std.specs.Prelude.{None}
+use Rattle.std.proofs.lemmas.Result.{err_from_is_err_and}
+use Rattle.answer.proofs.Refusing.{none_given}
 use Rattle.srl_rules.specs.Rules.{width_ok}
-use Rattle.srl_rules.proofs.Widths.{width_ok_width}
-use Rattle.srl_encoder.specs.Encode.{fault}
-use Rattle.answer.specs.Refusals.{invalid_bit_count, output_too_short}
-use Rattle.answer.proofs.Numbers.{first_of_some}
-use Rattle.srl_held.specs.Stream.{stream_bytes}
-use Rattle.srl_held.proofs.WholeStreams.{refusal_width, refusal_rest, refusal_room, refused, accepted}
+use Rattle.srl_encoder.specs.Encode.{fresh_writer, call_bytes, fault}
+use Rattle.srl_held.proofs.WholeStreams.{sets_all, begun, end_refused, end_stored}
 use Rattle.srl_held.proofs.encode_srl.Goals as goal
 
-pub returns-then-not-width_ok : goal.returns-then-not-width_ok
-returns-then-not-width_ok c =
-    let a = c.args in
-    refused a.values.now a.out.now a.num_bits invalid_bit_count c.new-fresh.ensures (λ e. omega arith)
-    (refusal_width a.values.now a.out.now a.num_bits (sym c.width_ok.ensures ∙ c.if-not-width_ok.true))
-
-pub values_fault-f-requires : goal.values_fault-f-requires
-values_fault-f-requires c =
-    let wide : width_ok c.args.num_bits ≡ true = sym c.width_ok.ensures ∙ c.if-not-width_ok.false in
-    (width_ok_width c.args.num_bits wide, omega arith)
-
-pub returns-then-f-ne0 : goal.returns-then-f-ne0
-returns-then-f-ne0 c =
-    let wide : width_ok c.args.num_bits ≡ true = sym c.width_ok.ensures ∙ c.if-not-width_ok.false in
-    let a = c.args in
-    let f = c.values_fault-f in
-    refused a.values.now a.out.now a.num_bits f.result c.new-fresh.ensures c.if-f-ne0.true
-    (refusal_rest a.values.now a.out.now a.num_bits wide f.ensures ∙ first_of_some f.result _ c.if-f-ne0.true)
-
-pub stream_exceeds-requires : goal.stream_exceeds-requires
-stream_exceeds-requires c =
-    let wide : width_ok c.args.num_bits ≡ true = sym c.width_ok.ensures ∙ c.if-not-width_ok.false in
-    let none : fault c.args.num_bits 0 c.args.values.now ≡ 0 = sym c.values_fault-f.ensures ∙ c.if-f-ne0.false in
-    (width_ok_width c.args.num_bits wide, none, omega (arith, c.well_formed))
-
-pub returns-then-stream_exceeds : goal.returns-then-stream_exceeds
-returns-then-stream_exceeds c =
-    let wide : width_ok c.args.num_bits ≡ true = sym c.width_ok.ensures ∙ c.if-not-width_ok.false in
-    let none : fault c.args.num_bits 0 c.args.values.now ≡ 0 = sym c.values_fault-f.ensures ∙ c.if-f-ne0.false in
-    let a = c.args in
-    refused a.values.now a.out.now a.num_bits output_too_short c.new-fresh.ensures (λ e. omega arith)
-    (refusal_room a.values.now a.out.now a.num_bits wide none c.stream_exceeds.ensures ∙ ap (λ b. cond b output_too_short 0) c.if-stream_exceeds.true)
-
-pub put_stream-n-requires : goal.put_stream-n-requires
-put_stream-n-requires c =
-    let wide : width_ok c.args.num_bits ≡ true = sym c.width_ok.ensures ∙ c.if-not-width_ok.false in
-    let none : fault c.args.num_bits 0 c.args.values.now ≡ 0 = sym c.values_fault-f.ensures ∙ c.if-f-ne0.false in
-    let fits : length (stream_bytes c.args.num_bits c.args.values.now) ≤ length c.args.out.now = ltb-false _ _ (sym c.stream_exceeds.ensures ∙ c.if-stream_exceeds.false) in
-    (width_ok_width c.args.num_bits wide, none, omega (arith, fits, c.well_formed))
+pub returns-in_err-end : goal.returns-in_err-end
+returns-in_err-end c =
+    let vs = c.args.values.now in
+    let out = c.args.out.now in
+    let w = c.args.num_bits in
+    let wide : width_ok w ≡ true = sym c.width_ok.ensures ∙ c.if-not-width_ok.false in
+    let none : fault w 0 vs ≡ None = none_given (fault w 0 vs) tt c.in_ok-values_fault.ensures in
+    let b = begun w vs out c.new-fresh.ensures c.exceeds.ensures c.if-exceeds.false c.put_call-done.ensures in
+    let p = err_from_is_err_and c.from_residual-in_err-end.result c.from_residual-in_err-end.ensures.1 in
+    let s = c.split_at_mut-front.ensures in
+    rw (p.1, p.2, s.front, b.1) (end_refused w vs out wide none b.0 b.2 (s.back ∙ ap (λ n. drop n out) b.1) c.in_err-end.ensures)
 
 pub returns : goal.returns
 returns c =
-    let wide : width_ok c.args.num_bits ≡ true = sym c.width_ok.ensures ∙ c.if-not-width_ok.false in
-    let none : fault c.args.num_bits 0 c.args.values.now ≡ 0 = sym c.values_fault-f.ensures ∙ c.if-f-ne0.false in
-    let fits : length (stream_bytes c.args.num_bits c.args.values.now) ≤ length c.args.out.now = ltb-false _ _ (sym c.stream_exceeds.ensures ∙ c.if-stream_exceeds.false) in
-    let a = c.args in
-    let e = c.put_stream-n.ensures in
-    accepted a.values.now a.out.now a.num_bits
-    (refusal_room a.values.now a.out.now a.num_bits wide none c.stream_exceeds.ensures ∙ ap (λ b. cond b output_too_short 0) c.if-stream_exceeds.false) fits e.0 e.1
+    let vs = c.args.values.now in
+    let out = c.args.out.now in
+    let w = c.args.num_bits in
+    let wide : width_ok w ≡ true = sym c.width_ok.ensures ∙ c.if-not-width_ok.false in
+    let none : fault w 0 vs ≡ None = none_given (fault w 0 vs) tt c.in_ok-values_fault.ensures in
+    let b = begun w vs out c.new-fresh.ensures c.exceeds.ensures c.if-exceeds.false c.put_call-done.ensures in
+    let s = c.split_at_mut-front.ensures in
+    let values = sets_all (call_bytes w fresh_writer vs) c.split_at_mut-front.result.0.now (omega (arith, s.front_len, b.1)) in
+    rw (c.put_call.ensures.out, c.new-fresh.ensures, values, b.1) (end_stored w vs out wide none b.0 b.2 (s.back ∙ ap (λ n. drop n out) b.1) c.in_ok-end.ensures)

@@ -10,9 +10,9 @@ use Rattle.upgrade_steps.proofs.stretch_at.Goals as goal
 
 pub returns : goal.returns
 returns c = λ e table ends.
-    let number : ℕ = get_or c.args.table.now c.args.place 0 in
-    let step : band_step c.band_step.result ≡ step_at (number) (get_or c.args.prev (number) 0) (get_or c.args.curr (number) 0) = c.band_step.ensures in
     let a = c.args in
-    let by_table = ap (λ (l : List ℕ). get_or l a.place 0) table in
+    let b : ℕ = c.from-b.result in
+    let by_table = c.from-b.ensures ∙ ap (λ (l : List ℕ). get_or l a.place 0) table in
+    let step : band_step c.band_step.result ≡ step_at b (get_or a.prev b 0) (get_or a.curr b 0) = c.band_step.ensures in
     same_step e a.prev a.curr a.place _ _ c.requires.0 (λ i. get_or (ends i) (by_table i) 0)
     (step ∙ ap (step_of a.prev a.curr) by_table)

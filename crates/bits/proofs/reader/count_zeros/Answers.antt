@@ -28,18 +28,18 @@ returns-then-src-at c =
 pub zeros_ahead-found-requires : goal.zeros_ahead-found-requires
 zeros_ahead-found-requires c =
     let b = ap (λ (q : BitReader). q.bit_idx) c.skip-at.ensures in
-    (omega (arith, b), omega (arith, c.at_most-part.ensures))
+    (omega (arith, b), omega (arith, c.min-part.ensures))
 
 pub returns-then-found-part : goal.returns-then-found-part
 returns-then-found-part c =
     let on : bits_read c.skip-at.result ≡ bits_read c.args.r + c.loop-z.z = ap bits_read c.skip-at.ensures ∙ read_place _ in
-    let found : c.zeros_ahead-found.result ≡ zeros c.args.src.now (bits_read c.args.r + c.loop-z.z) c.at_most-part.result = c.zeros_ahead-found.ensures ∙ ap (λ (n : ℕ). zeros c.args.src.now n c.at_most-part.result) on in
+    let found : c.zeros_ahead-found.result ≡ zeros c.args.src.now (bits_read c.args.r + c.loop-z.z) c.min-part.result = c.zeros_ahead-found.ensures ∙ ap (λ (n : ℕ). zeros c.args.src.now n c.min-part.result) on in
     let a = c.args in
     let s = a.src.now in
     let n = bits_read a.r in
     let l = c.loop-z in
     let e = found in
-    let part = c.at_most-part in
+    let part = c.min-part in
     let some : l.z + c.zeros_ahead-found.result ≡ zeros s n a.limit =
     ap (λ (m : ℕ). l.z + m) e ∙ zeros_stop s n l.z part.result a.limit l.invariant.0 (omega (arith, part.ensures, l.invariant.1)) (omega (arith, e, c.if-found-part.true)) in
     let takes = length_some s n a.limit (omega (arith, some, part.ensures, c.if-found-part.true, c.loop-z-test.true)) in
@@ -48,13 +48,13 @@ returns-then-found-part c =
 pub loop-z-preserved : goal.loop-z-preserved
 loop-z-preserved c =
     let on : bits_read c.skip-at.result ≡ bits_read c.args.r + c.loop-z.z = ap bits_read c.skip-at.ensures ∙ read_place _ in
-    let found : c.zeros_ahead-found.result ≡ zeros c.args.src.now (bits_read c.args.r + c.loop-z.z) c.at_most-part.result = c.zeros_ahead-found.ensures ∙ ap (λ (n : ℕ). zeros c.args.src.now n c.at_most-part.result) on in
+    let found : c.zeros_ahead-found.result ≡ zeros c.args.src.now (bits_read c.args.r + c.loop-z.z) c.min-part.result = c.zeros_ahead-found.ensures ∙ ap (λ (n : ℕ). zeros c.args.src.now n c.min-part.result) on in
     let a = c.args in
     let s = a.src.now in
     let n = bits_read a.r in
     let l = c.loop-z in
     let e = found in
-    let part = c.at_most-part in
+    let part = c.min-part in
     let inside : c.skip-at.result.byte_idx < length s = c.if-src-at.false in
     let in-stream : n + l.z < 8 * length s = omega (arith, on, inside, ap (λ (q : BitReader). q.bit_idx) c.skip-at.ensures) in (
       zeros_go s n l.z part.result l.invariant.0 (omega (arith, e, c.if-found-part.false)),

@@ -12,24 +12,24 @@ use Rattle.bits.proofs.reader.zeros_behind_first.Goals as goal
 
 pub returns-then-z-part : goal.returns-then-z-part
 returns-then-z-part c =
-    let found : c.lead-z.result ≡ zeros c.args.src.now (bits_read c.args.r + 1) c.at_most-part.result = let a = c.args in
+    let found : c.lead-z.result ≡ zeros c.args.src.now (bits_read c.args.r + 1) c.min-part.result = let a = c.args in
     let f = c.requires.3 in
     let b = c.behind in
     let t : Top (f.all - 1) b.result a.src.now (bits_read a.r + 1) = rw b.ensures (top_skip f.all 1 a.a a.src.now (bits_read a.r) f.top (omega (arith, c.requires.2, f.enough))) in
-    c.lead-z.ensures ∙ top_zeros (f.all - 1) c.at_most-part.result b.result a.src.now (bits_read a.r + 1) t (omega (arith, c.at_most-part.ensures, f.enough)) in
+    c.lead-z.ensures ∙ top_zeros (f.all - 1) c.min-part.result b.result a.src.now (bits_read a.r + 1) t (omega (arith, c.min-part.ensures, f.enough)) in
     let a = c.args in
-    let p = c.at_most-part in
+    let p = c.min-part in
     omega (arith, c.if-z-part.true, found, zeros_min a.src.now (bits_read a.r + 1) p.result a.limit (omega (arith, p.ensures)))
 
 pub returns-then-limit-part : goal.returns-then-limit-part
 returns-then-limit-part c =
-    let found : c.lead-z.result ≡ zeros c.args.src.now (bits_read c.args.r + 1) c.at_most-part.result = let a = c.args in
+    let found : c.lead-z.result ≡ zeros c.args.src.now (bits_read c.args.r + 1) c.min-part.result = let a = c.args in
     let f = c.requires.3 in
     let b = c.behind in
     let t : Top (f.all - 1) b.result a.src.now (bits_read a.r + 1) = rw b.ensures (top_skip f.all 1 a.a a.src.now (bits_read a.r) f.top (omega (arith, c.requires.2, f.enough))) in
-    c.lead-z.ensures ∙ top_zeros (f.all - 1) c.at_most-part.result b.result a.src.now (bits_read a.r + 1) t (omega (arith, c.at_most-part.ensures, f.enough)) in
+    c.lead-z.ensures ∙ top_zeros (f.all - 1) c.min-part.result b.result a.src.now (bits_read a.r + 1) t (omega (arith, c.min-part.ensures, f.enough)) in
     let a = c.args in
-    let p = c.at_most-part in
+    let p = c.min-part in
     let e : p.result ≡ a.limit = omega (arith, p.ensures, c.if-limit-part.true) in
     found ∙ ap (zeros a.src.now (bits_read a.r + 1)) e
 

@@ -13,7 +13,7 @@ returns-then-is_bottom c =
     let e = ap (λ (v : ℤ). clamp_i16 (downward c.args.position v)) (to_z-of_z w16 c.args.value c.ranges.value) in
     rw c.if-is_bottom.true (got w16 c.down.type_inv (c.down.ensures ∙ e))
 
-pub returns : goal.returns
-returns c =
+pub returns-else-is_bottom : goal.returns-else-is_bottom
+returns-else-is_bottom c =
     let e = ap (λ (v : ℤ). toward_zero c.args.position v) (to_z-of_z w16 c.args.value c.ranges.value) in
     rw c.if-is_bottom.false (got w16 c.toward_zero.type_inv (c.toward_zero.ensures ∙ e))

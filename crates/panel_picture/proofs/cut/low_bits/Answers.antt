@@ -20,5 +20,5 @@ returns-then-position-gt15 c = sym (mod-eq_of_lt (omega (arith, far c.args.posit
 pub nonzero_rem-result : goal.nonzero_rem-result
 nonzero_rem-result c = omega (arith, power c.args.position (omega arith), pow_pos c.args.position)
 
-pub returns : goal.returns
-returns c = ap (λ (d : ℕ). c.args.magnitude % d) (power c.args.position (omega arith))
+pub returns-else-position-gt15 : goal.returns-else-position-gt15
+returns-else-position-gt15 c = ap (λ (d : ℕ). c.args.magnitude % d) (power c.args.position (omega arith))

@@ -1,9 +1,6 @@
 -- `panel_picture::measure::undecided` is safe and ends. Assumes nothing.
-use Rattle.std.proofs.Common.{◌*◌, ◌-◌, ◌≤◌}
+use Rattle.std.proofs.Common.{◌*◌, ◌≤◌}
 use Rattle.panel_picture.proofs.measure.undecided.Given as goal
 
 abbrev pub invariant-loop-place : goal.invariant-loop-place
-invariant-loop-place l = (l.place ≤ 30) × (l.n ≤ 65535 * l.place)
-
-abbrev pub decreases-loop-place : goal.decreases-loop-place
-decreases-loop-place l = 30 - l.place
+invariant-loop-place l = l.n ≤ 65535 * l.place

@@ -14,7 +14,7 @@ returns c =
     let a = c.args in
     let v = a.v in
     let x = get_or a.coefficients.now a.i (pos 0) in
-    let same = to_z-of_z w16 x (record { sfits = c.c-1.given }) in
+    let same = to_z-of_z w16 x (record { sfits = c.moved-arg-1.given }) in
     let moved = c.moved in (
       ap (set a.coefficients.now a.i) (got w16 moved.type_inv (moved.ensures ∙ ap (raw_coefficient (not v.negative) a.position v.magnitude) same)),
       ap (set a.sign.now a.i) (got w8 c.sign_by.type_inv c.sign_by.ensures),

@@ -1,9 +1,9 @@
--- `progressive_decoder::upgrade::raw_list` meets its contract: the places up to j are behind, and the word holds the next bits. Assumes nothing.
+-- `progressive_decoder::upgrade::raw_list` meets its contract: the places up to the index are behind, and the word holds the next bits. Assumes nothing.
 use mathlib.Core.Path.{◌≡◌, refl, sym, ap, ◌∙◌}
-use Prim.Native.Nat.{◌+◌, ◌<◌}
+use Prim.Native.Nat.{◌+◌}
 use native.Mathlib.Omega.{arith}
 use lib.IntN.{ℤ, pos}
-use lib.ListN.{length, get_or, set, take, drop, length-set}
+use lib.ListN.{get_or, set, drop, length-set}
 use mir.Syntax.{w8, w16}
 use mir.Val.{to_z, of_z}
 use mir.ValLaws.{to_z-of_z}
@@ -19,73 +19,48 @@ use Rattle.progressive_decoder.specs.Inner.{walked, over}
 use Rattle.progressive_decoder.proofs.Listed.{turn_raw, turn_end}
 use Rattle.progressive_decoder.proofs.upgrade.raw_list.Goals as goal
 
-pub loop-j-init : goal.loop-j-init
-loop-j-init c =
+pub loop-place-init : goal.loop-place-init
+loop-place-init c =
     let a = c.args in
-    (omega arith, omega arith, refl, record { fits = omega arith; is = omega (arith, num_none a.raw_data.now a.from) }, λ s q. refl)
+    (omega arith, refl, record { fits = omega arith; is = omega (arith, num_none a.raw_data.now a.from) }, λ s q. refl)
 
 pub refill-word-requires : goal.refill-word-requires
-refill-word-requires c = (c.requires.0.1, c.loop-j.invariant.3)
+refill-word-requires c = (c.requires.0.1, c.loop-place.invariant.2)
 
 pub overflow_cast-m : goal.overflow_cast-m
 overflow_cast-m c =
-    let number : c.top-m.result ≡ num c.args.raw_data.now c.loop-j.at c.args.t.width = let a = c.args in
+    let number : c.top-m.result ≡ num c.args.raw_data.now c.loop-place.at c.args.t.width = let a = c.args in
     let r = c.refill-word in
-    c.top-m.ensures ∙ top_take r.result.count a.t.width r.result.bits a.raw_data.now c.loop-j.at r.ensures.0 r.ensures.1 in
-    record { fits = omega (arith, number, num_lt c.args.raw_data.now c.loop-j.at c.args.t.width, pow_high c.args.t.width c.requires.0) }
+    c.top-m.ensures ∙ top_take r.result.count a.t.width r.result.bits a.raw_data.now c.loop-place.at r.ensures.0 r.ensures.1 in
+    record { fits = omega (arith, number, num_lt c.args.raw_data.now c.loop-place.at c.args.t.width, pow_high c.args.t.width c.requires.0) }
 
-pub overflow_cast-i : goal.overflow_cast-i
-overflow_cast-i c = record { fits = omega (arith, c.shared_slice_known-in-loop-j-1.given c.loop-j.j) }
-
-pub offset_bounds-coefficients-i : goal.offset_bounds-coefficients-i
-offset_bounds-coefficients-i c = record { fits = omega (arith, c.shared_slice_known-in-loop-j-1.given c.loop-j.j) }
-
-pub slice_copy_out-c : goal.slice_copy_out-c
-slice_copy_out-c c =
-    let within : get_or c.args.list.now c.loop-j.j 0 < length c.args.coefficients.now = c.requires.4 c.loop-j.j c.loop-j-test.true in
-    omega (arith, within, c.loop-j.invariant.2)
-
-pub bounds-sign-i : goal.bounds-sign-i
-bounds-sign-i c =
-    let within : get_or c.args.list.now c.loop-j.j 0 < length c.args.coefficients.now = c.requires.4 c.loop-j.j c.loop-j-test.true in
-    omega (arith, within, c.requires.5)
-
-pub offset_bounds-coefficients-i-in-loop-j : goal.offset_bounds-coefficients-i-in-loop-j
-offset_bounds-coefficients-i-in-loop-j c = record { fits = omega (arith, c.shared_slice_known-in-loop-j-1.given c.loop-j.j) }
-
-pub bounds-coefficients-i : goal.bounds-coefficients-i
-bounds-coefficients-i c =
-    let within : get_or c.args.list.now c.loop-j.j 0 < length c.args.coefficients.now = c.requires.4 c.loop-j.j c.loop-j-test.true in
-    omega (arith, within, c.loop-j.invariant.2)
-
-pub loop-j-preserved : goal.loop-j-preserved
-loop-j-preserved c =
-    let number : c.top-m.result ≡ num c.args.raw_data.now c.loop-j.at c.args.t.width = let a = c.args in
+pub loop-place-preserved : goal.loop-place-preserved
+loop-place-preserved c =
+    let number : c.top-m.result ≡ num c.args.raw_data.now c.loop-place.at c.args.t.width = let a = c.args in
     let r = c.refill-word in
-    c.top-m.ensures ∙ top_take r.result.count a.t.width r.result.bits a.raw_data.now c.loop-j.at r.ensures.0 r.ensures.1 in
+    c.top-m.ensures ∙ top_take r.result.count a.t.width r.result.bits a.raw_data.now c.loop-place.at r.ensures.0 r.ensures.1 in
     let a = c.args in
-    let l = c.loop-j in
+    let l = c.loop-place in
     let d = a.raw_data.now in
     let w = a.t.width in
-    let i = get_or a.list.now l.j 0 in
+    let i = get_or a.list.now l.place-index 0 in
     let r = c.refill-word in
     let x = get_or l.coefficients i (pos 0) in
     let y = get_or a.sign.now i (pos 0) in
     let sum : c.adds_raw.result ≡ adds (band_step a.t) y = c.adds_raw.ensures ∙ ap (adds (band_step a.t)) (to_z-of_z w8 y (record { sfits = c.adds_raw-arg-1.given })) in
     let m = number in
-    let z = to_z-of_z w16 x (record { sfits = c.c-1.given }) in
+    let z = to_z-of_z w16 x (record { sfits = c.moved-arg-1.given }) in
     let v : to_z w16 (of_z w16 c.moved.result) ≡ raw_coefficient (adds (band_step a.t) y) a.t.position (num d l.at w) x = got w16 c.moved.type_inv (c.moved.ensures ∙ (λ e. raw_coefficient (sum e) a.t.position (m e) (z e))) in (
-      omega arith,
-      omega (arith, l.invariant.1, c.requires.0.1),
-      length-set l.coefficients i (to_z w16 (of_z w16 c.moved.result)) ∙ l.invariant.2,
+      omega (arith, l.invariant.0, c.requires.0.1),
+      length-set l.coefficients i (to_z w16 (of_z w16 c.moved.result)) ∙ l.invariant.1,
       rw c.behind-bits.ensures (top_skip r.result.count w r.result.bits d l.at r.ensures.0 r.ensures.1),
-      λ s q. l.invariant.4 s q
-          ∙ turn_raw s d (band_step a.t) a.n a.list.now c.requires.3 l.coefficients a.sign.now q l.j l.at i c.loop-j-test.true refl
-          ∙ ap (λ (e : ℤ). over raw s d (band_step a.t) (drop (l.j + 1) (take a.n a.list.now)) (walked (set l.coefficients i e) a.sign.now q (l.at + w))) (sym v),
+      λ s q. l.invariant.3 s q
+          ∙ turn_raw s d (band_step a.t) a.list.now l.coefficients a.sign.now q l.place-index l.at i c.loop-place-test.true refl
+          ∙ ap (λ (e : ℤ). over raw s d (band_step a.t) (drop (l.place-index + 1) a.list.now) (walked (set l.coefficients i e) a.sign.now q (l.at + w))) (sym v),
     )
 
 pub returns : goal.returns
 returns c =
-    let l = c.loop-j in
-    λ s q. l.invariant.4 s q
-    ∙ turn_end s c.args.raw_data.now (band_step c.args.t) c.args.n c.args.list.now c.requires.3 raw l.j (walked l.coefficients c.args.sign.now q l.at) (omega (arith, c.loop-j-test.false))
+    let l = c.loop-place in
+    λ s q. l.invariant.3 s q
+    ∙ turn_end s c.args.raw_data.now (band_step c.args.t) c.args.list.now raw l.place-index (walked l.coefficients c.args.sign.now q l.at) (omega (arith, c.loop-place-test.false))

@@ -4,7 +4,7 @@ use mathlib.Core.Bool.{false, not}
 use Prim.Native.Nat.{ℕ, ◌+◌, ◌-◌, ◌*◌, ◌%◌, ◌≤◌, ◌<◌}
 use native.Mathlib.Omega.{arith}
 use lib.IntN.{pos}
-use lib.ListN.{get_or, set, take}
+use lib.ListN.{length, get_or, set}
 use Rattle.bits.specs.Bits.{bit_at, zeros, bits_read}
 use Rattle.bits.specs.declared.reader.BitReader.{BitReader}
 use Rattle.bits.proofs.Places.{read_place}
@@ -27,7 +27,7 @@ loop-j-init c =
       omega arith,
       refl,
       refl,
-      λ d m. turn_start a.srl_data.now d (band_step a.t) a.n a.list.now c.requires.5 a.coefficients.now a.sign.now c.count_of-at.result a.from.kp a.from.zero_run_remaining a.from.nonzero_pending m,
+      λ d m. turn_start a.srl_data.now d (band_step a.t) a.list.now a.coefficients.now a.sign.now c.count_of-at.result a.from.kp a.from.zero_run_remaining a.from.nonzero_pending m,
     )
 
 pub count_of-at-requires : goal.count_of-at-requires
@@ -40,17 +40,17 @@ up_to_value-codes-requires c = (c.loop-j.invariant.0, omega (arith, c.loop-j-tes
 pub overflow_add-at : goal.overflow_add-at
 overflow_add-at c =
     let early : c.loop-j.at ≤ 2 * 2199023255552 = let p = c.requires in omega (arith, c.loop-j.invariant.1, c.loop-j-test.true, p.3, p.4, c.count_of-at.ensures) in
-    let brings : Brought c.args.srl_data.now c.loop-j.at c.loop-j.kp c.loop-j.pending (c.args.n - c.loop-j.j) c.up_to_value-codes.result = let l = c.loop-j in c.up_to_value-codes.ensures c.args.srl_data.now l.at (64 - l.at % 8) c.ahead_at-a.ensures (omega arith) in
+    let brings : Brought c.args.srl_data.now c.loop-j.at c.loop-j.kp c.loop-j.pending (length c.args.list.now - c.loop-j.j) c.up_to_value-codes.result = let l = c.loop-j in c.up_to_value-codes.ensures c.args.srl_data.now l.at (64 - l.at % 8) c.ahead_at-a.ensures (omega arith) in
     record { fits = omega (arith, early, brings.near) }
 
 pub overflow_add-j : goal.overflow_add-j
 overflow_add-j c =
-    let brings : Brought c.args.srl_data.now c.loop-j.at c.loop-j.kp c.loop-j.pending (c.args.n - c.loop-j.j) c.up_to_value-codes.result = let l = c.loop-j in c.up_to_value-codes.ensures c.args.srl_data.now l.at (64 - l.at % 8) c.ahead_at-a.ensures (omega arith) in
+    let brings : Brought c.args.srl_data.now c.loop-j.at c.loop-j.kp c.loop-j.pending (length c.args.list.now - c.loop-j.j) c.up_to_value-codes.result = let l = c.loop-j in c.up_to_value-codes.ensures c.args.srl_data.now l.at (64 - l.at % 8) c.ahead_at-a.ensures (omega arith) in
     record { fits = omega (arith, brings.run_low, c.loop-j-test.true, c.requires.4) }
 
 pub value_behind-v-requires : goal.value_behind-v-requires
 value_behind-v-requires c =
-    let brings : Brought c.args.srl_data.now c.loop-j.at c.loop-j.kp c.loop-j.pending (c.args.n - c.loop-j.j) c.up_to_value-codes.result = let l = c.loop-j in c.up_to_value-codes.ensures c.args.srl_data.now l.at (64 - l.at % 8) c.ahead_at-a.ensures (omega arith) in
+    let brings : Brought c.args.srl_data.now c.loop-j.at c.loop-j.kp c.loop-j.pending (length c.args.list.now - c.loop-j.j) c.up_to_value-codes.result = let l = c.loop-j in c.up_to_value-codes.ensures c.args.srl_data.now l.at (64 - l.at % 8) c.ahead_at-a.ensures (omega arith) in
     let early : c.loop-j.at ≤ 2 * 2199023255552 = let p = c.requires in omega (arith, c.loop-j.invariant.1, c.loop-j-test.true, p.3, p.4, c.count_of-at.ensures) in
     let l = c.loop-j in
     let near = brings.near in
@@ -59,44 +59,44 @@ value_behind-v-requires c =
 
 pub offset_bounds-list-j : goal.offset_bounds-list-j
 offset_bounds-list-j c =
-    let there : c.loop-j.j + c.up_to_value-codes.result.run < c.args.n = (c.due.ensures.0 c.if-due.true).1 in
+    let there : c.loop-j.j + c.up_to_value-codes.result.run < length c.args.list.now = (c.due.ensures.0 c.if-due.true).1 in
     record { fits = omega (arith, there, c.requires.4) }
 
 pub bounds-list-j : goal.bounds-list-j
 bounds-list-j c =
-    let there : c.loop-j.j + c.up_to_value-codes.result.run < c.args.n = (c.due.ensures.0 c.if-due.true).1 in
-    omega (arith, there, c.requires.5)
+    let there : c.loop-j.j + c.up_to_value-codes.result.run < length c.args.list.now = (c.due.ensures.0 c.if-due.true).1 in
+    there
 
 pub overflow_cast-list : goal.overflow_cast-list
 overflow_cast-list c = record { fits = omega (arith, c.shared_slice_known-then-due-1.given (c.loop-j.j + c.up_to_value-codes.result.run)) }
 
 pub put_value-requires : goal.put_value-requires
 put_value-requires c =
-    let there : c.loop-j.j + c.up_to_value-codes.result.run < c.args.n = (c.due.ensures.0 c.if-due.true).1 in
+    let there : c.loop-j.j + c.up_to_value-codes.result.run < length c.args.list.now = (c.due.ensures.0 c.if-due.true).1 in
     let l = c.loop-j in
-    let h = c.requires.6 (l.j + c.up_to_value-codes.result.run) there in
-    (omega (arith, h, l.invariant.2), omega (arith, h, l.invariant.3, c.requires.7))
+    let h = c.requires.5 (l.j + c.up_to_value-codes.result.run) there in
+    (omega (arith, h, l.invariant.2), omega (arith, h, l.invariant.3, c.requires.6))
 
 pub overflow_add-at-then-due : goal.overflow_add-at-then-due
 overflow_add-at-then-due c =
     let early : c.loop-j.at ≤ 2 * 2199023255552 = let p = c.requires in omega (arith, c.loop-j.invariant.1, c.loop-j-test.true, p.3, p.4, c.count_of-at.ensures) in
-    let brings : Brought c.args.srl_data.now c.loop-j.at c.loop-j.kp c.loop-j.pending (c.args.n - c.loop-j.j) c.up_to_value-codes.result = let l = c.loop-j in c.up_to_value-codes.ensures c.args.srl_data.now l.at (64 - l.at % 8) c.ahead_at-a.ensures (omega arith) in
+    let brings : Brought c.args.srl_data.now c.loop-j.at c.loop-j.kp c.loop-j.pending (length c.args.list.now - c.loop-j.j) c.up_to_value-codes.result = let l = c.loop-j in c.up_to_value-codes.ensures c.args.srl_data.now l.at (64 - l.at % 8) c.ahead_at-a.ensures (omega arith) in
     record { fits = omega (arith, early, brings.near, c.value_behind-v.ensures.3) }
 
 pub overflow_add-j-then-due : goal.overflow_add-j-then-due
 overflow_add-j-then-due c =
-    let there : c.loop-j.j + c.up_to_value-codes.result.run < c.args.n = (c.due.ensures.0 c.if-due.true).1 in
+    let there : c.loop-j.j + c.up_to_value-codes.result.run < length c.args.list.now = (c.due.ensures.0 c.if-due.true).1 in
     record { fits = omega (arith, there, c.requires.4) }
 
 pub loop-j-smaller-then-due : goal.loop-j-smaller-then-due
 loop-j-smaller-then-due c =
-    let there : c.loop-j.j + c.up_to_value-codes.result.run < c.args.n = (c.due.ensures.0 c.if-due.true).1 in
+    let there : c.loop-j.j + c.up_to_value-codes.result.run < length c.args.list.now = (c.due.ensures.0 c.if-due.true).1 in
     omega (arith, there)
 
 pub loop-j-preserved-then-due : goal.loop-j-preserved-then-due
 loop-j-preserved-then-due c =
-    let brings : Brought c.args.srl_data.now c.loop-j.at c.loop-j.kp c.loop-j.pending (c.args.n - c.loop-j.j) c.up_to_value-codes.result = let l = c.loop-j in c.up_to_value-codes.ensures c.args.srl_data.now l.at (64 - l.at % 8) c.ahead_at-a.ensures (omega arith) in
-    let there : c.loop-j.j + c.up_to_value-codes.result.run < c.args.n = (c.due.ensures.0 c.if-due.true).1 in
+    let brings : Brought c.args.srl_data.now c.loop-j.at c.loop-j.kp c.loop-j.pending (length c.args.list.now - c.loop-j.j) c.up_to_value-codes.result = let l = c.loop-j in c.up_to_value-codes.ensures c.args.srl_data.now l.at (64 - l.at % 8) c.ahead_at-a.ensures (omega arith) in
+    let there : c.loop-j.j + c.up_to_value-codes.result.run < length c.args.list.now = (c.due.ensures.0 c.if-due.true).1 in
     let a = c.args in
     let s = a.srl_data.now in
     let t = band_step a.t in
@@ -121,24 +121,24 @@ loop-j-preserved-then-due c =
       put.auto.coefficients ∙ l.invariant.2,
       put.auto.sign ∙ l.invariant.3,
       λ d m. l.invariant.4 d m
-          ∙ turn_codes s d t a.n a.list.now c.requires.5 l.coefficients l.sign l.j l.at l.kp r.run at r.kp l.pending r.pending m c.loop-j-test.true b.same
-          ∙ turn_value s d t a.n a.list.now c.requires.5 l.coefficients l.sign j at r.kp i r.pending m there (c.due.ensures.0 c.if-due.true).0 refl
-          ∙ (λ e. left s d t a.n a.list.now (sym coefficients e) (sym sign e) (j + 1) (sym v.ensures.2 e) r.kp false m),
+          ∙ turn_codes s d t a.list.now l.coefficients l.sign l.j l.at l.kp r.run at r.kp l.pending r.pending m c.loop-j-test.true b.same
+          ∙ turn_value s d t a.list.now l.coefficients l.sign j at r.kp i r.pending m there (c.due.ensures.0 c.if-due.true).0 refl
+          ∙ (λ e. left s d t a.list.now (sym coefficients e) (sym sign e) (j + 1) (sym v.ensures.2 e) r.kp false m),
     )
 
 pub loop-j-smaller : goal.loop-j-smaller
 loop-j-smaller c =
-    let brings : Brought c.args.srl_data.now c.loop-j.at c.loop-j.kp c.loop-j.pending (c.args.n - c.loop-j.j) c.up_to_value-codes.result = let l = c.loop-j in c.up_to_value-codes.ensures c.args.srl_data.now l.at (64 - l.at % 8) c.ahead_at-a.ensures (omega arith) in
+    let brings : Brought c.args.srl_data.now c.loop-j.at c.loop-j.kp c.loop-j.pending (length c.args.list.now - c.loop-j.j) c.up_to_value-codes.result = let l = c.loop-j in c.up_to_value-codes.ensures c.args.srl_data.now l.at (64 - l.at % 8) c.ahead_at-a.ensures (omega arith) in
     let some : 1 ≤ c.up_to_value-codes.result.run = let l = c.loop-j in
-    let n = c.args.n in
+    let n = length c.args.list.now in
     zeros_brought c.args.srl_data.now l.at l.kp l.pending (n - l.j) n l.j c.up_to_value-codes.result brings c.loop-j-test.true (c.due.ensures.1 c.if-due.false) in
     omega (arith, some, c.loop-j-test.true)
 
 pub loop-j-preserved : goal.loop-j-preserved
 loop-j-preserved c =
-    let brings : Brought c.args.srl_data.now c.loop-j.at c.loop-j.kp c.loop-j.pending (c.args.n - c.loop-j.j) c.up_to_value-codes.result = let l = c.loop-j in c.up_to_value-codes.ensures c.args.srl_data.now l.at (64 - l.at % 8) c.ahead_at-a.ensures (omega arith) in
+    let brings : Brought c.args.srl_data.now c.loop-j.at c.loop-j.kp c.loop-j.pending (length c.args.list.now - c.loop-j.j) c.up_to_value-codes.result = let l = c.loop-j in c.up_to_value-codes.ensures c.args.srl_data.now l.at (64 - l.at % 8) c.ahead_at-a.ensures (omega arith) in
     let some : 1 ≤ c.up_to_value-codes.result.run = let l = c.loop-j in
-    let n = c.args.n in
+    let n = length c.args.list.now in
     zeros_brought c.args.srl_data.now l.at l.kp l.pending (n - l.j) n l.j c.up_to_value-codes.result brings c.loop-j-test.true (c.due.ensures.1 c.if-due.false) in
     let a = c.args in
     let l = c.loop-j in
@@ -149,7 +149,7 @@ loop-j-preserved c =
       l.invariant.2,
       l.invariant.3,
       λ d m. l.invariant.4 d m
-          ∙ turn_codes a.srl_data.now d (band_step a.t) a.n a.list.now c.requires.5 l.coefficients l.sign l.j l.at l.kp r.run (l.at + r.taken) r.kp l.pending r.pending m c.loop-j-test.true b.same,
+          ∙ turn_codes a.srl_data.now d (band_step a.t) a.list.now l.coefficients l.sign l.j l.at l.kp r.run (l.at + r.taken) r.kp l.pending r.pending m c.loop-j-test.true b.same,
     )
 
 pub returns : goal.returns
@@ -160,9 +160,9 @@ returns c =
     let at = c.count_of-at.ensures in
     let place = c.place.ensures in
     let read : l.at ≡ bits_read c.place.result = sym (ap bits_read place ∙ read_place l.at) in (
-      λ d m. ap (λ (n : ℕ). over srl s d (band_step a.t) (take a.n a.list.now) (walked a.coefficients.now a.sign.now (reader n a.from.kp a.from.zero_run_remaining a.from.nonzero_pending) m)) (sym at)
+      λ d m. ap (λ (n : ℕ). over srl s d (band_step a.t) a.list.now (walked a.coefficients.now a.sign.now (reader n a.from.kp a.from.zero_run_remaining a.from.nonzero_pending) m)) (sym at)
           ∙ l.invariant.4 d m
-          ∙ turn_end s d (band_step a.t) a.n a.list.now c.requires.5 srl l.j (walked l.coefficients l.sign (reader l.at l.kp (l.j - a.n) l.pending) m) (omega (arith, c.loop-j-test.false))
-          ∙ ap (λ (n : ℕ). walked l.coefficients l.sign (reader n l.kp (l.j - a.n) l.pending) m) read,
+          ∙ turn_end s d (band_step a.t) a.list.now srl l.j (walked l.coefficients l.sign (reader l.at l.kp (l.j - length a.list.now) l.pending) m) (omega (arith, c.loop-j-test.false))
+          ∙ ap (λ (n : ℕ). walked l.coefficients l.sign (reader n l.kp (l.j - length a.list.now) l.pending) m) read,
       omega (arith, ap (λ (r : BitReader). r.bit_idx) place),
     )

@@ -2,14 +2,14 @@
 use mathlib.Core.Path.{◌≡◌, sym, ap, ap₂, ◌∙◌, subst}
 use mathlib.Core.Bool.{not}
 use mathlib.Core.List.{List}
-use Prim.Native.Nat.{ℕ, ◌+◌, ◌-◌, ◌*◌, ◌≤◌, ◌<◌}
+use Prim.Native.Nat.{ℕ, ◌+◌, ◌-◌, ◌*◌}
 use native.Mathlib.Omega.{arith}
-use lib.ListN.{length, get_or, take, replicate}
+use lib.ListN.{length, take, replicate, length-take}
 use Rattle.srl_decoder.specs.Decode.{opened}
 use Rattle.srl_rules.specs.Inner.{Width}
 use Rattle.upgrade_steps.specs.Steps.{srl, raw}
 use Rattle.upgrade_steps.specs.Inner.{band_step, from_srl}
-use Rattle.progressive_decoder.specs.Inner.{Walked, walked, walk, over, walked_by, srl_places, raw_places}
+use Rattle.progressive_decoder.specs.Inner.{Walked, walked, walk, over, walked_by, srl_places, raw_places, PlacesWithin}
 use Rattle.progressive_decoder.proofs.Listed.{Near, walk_listed, walk_near}
 use Rattle.progressive_decoder.proofs.Walks.{walk_skipped, early_on}
 use Rattle.progressive_decoder.proofs.Places.{split_whole, list_within}
@@ -25,24 +25,19 @@ returns-then-t-eq0 c =
 pub raw_list-raw-requires : goal.raw_list-raw-requires
 raw_list-raw-requires c =
     let wide : Width c.args.t.width = (omega (arith, c.if-t-eq0.false), c.requires.0) in
-    let long : (c.split-n.result ≤ length c.split-n.new.zeros) × (length c.args.sign.now - c.split-n.result ≤ length c.split-n.new.others) = let p = c.requires in
-    (omega (arith, c.split-n.ensures.few, c.split-n.auto.zeros, p.2, p.3, p.4), omega (arith, c.split-n.auto.others, p.2, p.3, p.5)) in
     let listed : (take c.split-n.result c.split-n.new.zeros ≡ srl_places (band_step c.args.t) c.args.sign.now) × (take (length c.args.sign.now - c.split-n.result) c.split-n.new.others ≡ raw_places (band_step c.args.t) c.args.sign.now) = split_whole (band_step c.args.t) c.args.sign.now c.split-n.result c.split-n.new.zeros c.split-n.new.others c.split-n.ensures in
     let w = wide in
     let p = c.requires in (
       w,
       omega (arith, p.1.raw_read),
-      omega (arith, p.2, p.3),
-      long.1,
-      λ j h. subst (λ n. get_or c.split-n.new.others j 0 < n) p.2 (list_within (λ s. not (from_srl (band_step c.args.t) s)) c.args.sign.now (length c.args.sign.now - c.split-n.result) c.split-n.new.others long.1 listed.1 j h),
+      omega (arith, length-take (length c.args.sign.now - c.split-n.result) c.split-n.new.others, p.2, p.3),
+      subst (PlacesWithin _) p.2 (list_within (λ s. not (from_srl (band_step c.args.t) s)) c.args.sign.now listed.1),
       p.2,
     )
 
 pub srl_list-srl-requires : goal.srl_list-srl-requires
 srl_list-srl-requires c =
     let wide : Width c.args.t.width = (omega (arith, c.if-t-eq0.false), c.requires.0) in
-    let long : (c.split-n.result ≤ length c.split-n.new.zeros) × (length c.args.sign.now - c.split-n.result ≤ length c.split-n.new.others) = let p = c.requires in
-    (omega (arith, c.split-n.ensures.few, c.split-n.auto.zeros, p.2, p.3, p.4), omega (arith, c.split-n.auto.others, p.2, p.3, p.5)) in
     let listed : (take c.split-n.result c.split-n.new.zeros ≡ srl_places (band_step c.args.t) c.args.sign.now) × (take (length c.args.sign.now - c.split-n.result) c.split-n.new.others ≡ raw_places (band_step c.args.t) c.args.sign.now) = split_whole (band_step c.args.t) c.args.sign.now c.split-n.result c.split-n.new.zeros c.split-n.new.others c.split-n.ensures in
     let w = wide in
     let p = c.requires in
@@ -51,9 +46,8 @@ srl_list-srl-requires c =
       p.1.place,
       p.1.kp,
       omega (arith, p.1.srl_read_lem),
-      omega (arith, c.split-n.ensures.few, p.2, p.3),
-      long.0,
-      λ j h. subst (λ n. get_or c.split-n.new.zeros j 0 < n) (p.2 ∙ sym same) (list_within (from_srl (band_step c.args.t)) c.args.sign.now c.split-n.result c.split-n.new.zeros long.0 listed.0 j h),
+      omega (arith, length-take c.split-n.result c.split-n.new.zeros, c.split-n.ensures.few, p.2, p.3),
+      subst (PlacesWithin _) (p.2 ∙ sym same) (list_within (from_srl (band_step c.args.t)) c.args.sign.now listed.0),
       p.2 ∙ sym same,
     )
 

@@ -1,15 +1,8 @@
 -- `progressive_encoder::events::list_events` meets its contract: after each turn the places so far are listed, eight at a time. Assumes nothing.
-use mathlib.Core.Path.{◌≡◌}
-use Prim.Native.Nat.{◌-◌, ◌≤◌}
-use lib.ListN.{length}
+use Prim.Native.Nat.{◌*◌}
 use Rattle.upgrade_steps.specs.Inner.{band_step}
-use Rattle.progressive_encoder.specs.Inner.{rule_of, listed_of, TakesEvents}
+use Rattle.progressive_encoder.specs.Inner.{listed_by, TakesEvents}
 use Rattle.progressive_encoder.proofs.events.list_events.Given as goal
 
-abbrev pub invariant-loop-i : goal.invariant-loop-i
-invariant-loop-i l =
-    (l.i ≤ length l.coefficients) × (length l.words ≡ length l.initial.words)
-    × TakesEvents (rule_of l.symmetric) (band_step l.t) l.coefficients l.prev_coefficients l.classes 0 l.i (listed_of l.initial.words l.initial.count l.initial.zeros) (listed_of l.words l.count l.zeros)
-
-abbrev pub decreases-loop-i : goal.decreases-loop-i
-decreases-loop-i l = length l.coefficients - l.i
+abbrev pub invariant-loop-k : goal.invariant-loop-k
+invariant-loop-k g l = TakesEvents g.R.Rule.rule (band_step l.t) l.coefficients l.prev_coefficients l.classes 0 (8 * l.k) (listed_by l.initial.words l.initial.done) (listed_by l.words l.done)

@@ -13,8 +13,11 @@ abbrev pub after : ℕ → DryRun → DryRun
 after t d = record { due = d.due; turns = t + d.turns }
 
 abbrev pub invariant-loop-turns : goal.invariant-loop-turns
-invariant-loop-turns l =
-    (l.cur.reader.bit_idx ≤ 7) × (l.cur.kp ≤ 80) × (dry_run l.src (opened l.initial.cur) l.num_values ≡ after l.turns (dry_run l.src (opened l.cur) l.left))
+invariant-loop-turns l = record {
+  bit_idx : l.cur.reader.bit_idx ≤ 7;
+  kp : l.cur.kp ≤ 80;
+  done : dry_run l.src (opened l.initial.cur) l.num_values ≡ after l.turns (dry_run l.src (opened l.cur) l.left);
+}
 
 abbrev pub decreases-loop-turns : goal.decreases-loop-turns
 decreases-loop-turns l = 8 * length l.src - bits_read l.cur.reader

@@ -16,15 +16,15 @@ returns-then-a-lt9223372036854775808 c =
       omega arith,
     )
 
-pub returns : goal.returns
-returns c =
+pub returns-else-a-lt9223372036854775808 : goal.returns-else-a-lt9223372036854775808
+returns-else-a-lt9223372036854775808 c =
     let a = c.args in
     let r = c.behind in (
       λ s n v t h.
           let b = first_one v a.a s n t (omega arith) c.if-a-lt9223372036854775808.false in
           let t' : Top (v - 1) r.result s (n + 1) = rw r.ensures (top_skip v 1 a.a s n t (omega arith)) in
           let z = c.top-zeros.ensures ∙ top_take (v - 1) (a.kp / 8) r.result s (n + 1) t' (omega (arith, c.requires)) in
-          let q : n + (1 + a.kp / 8) ≡ n + 1 + a.kp / 8 = omega arith in
+          let q : n + (1 + c.from.result) ≡ n + 1 + a.kp / 8 = omega (arith, c.from.ensures) in
           (λ i. reader (q i) (c.lowered.ensures i) (z i) true) ∙ sym (code_one s n a.kp b),
       omega (arith, c.requires),
     )

@@ -1,6 +1,5 @@
 -- `srl_encoder::encoder::exceeds` meets its contract: what surely fits is not measured, and else the measure is exact. Assumes nothing.
 use mathlib.Core.Path.{sym, ap, ◌∙◌}
-use native.Mathlib.Omega.{arith}
 use lib.Dec.{ltb}
 use borrow.Author.Tests.{le-ltb}
 use Rattle.srl_encoder.specs.Inner.{call_count}
@@ -11,11 +10,6 @@ use Rattle.srl_encoder.proofs.encoder.exceeds.Goals as goal
 pub returns-then-surely_fits : goal.returns-then-surely_fits
 returns-then-surely_fits c =
     sym (le-ltb _ _ (surely c.args.num_bits c.args.st c.args.values.now c.args.room c.requires.0 c.requires.2 (c.surely_fits.ensures c.if-surely_fits.true)))
-
-pub too_many-requires : goal.too_many-requires
-too_many-requires c =
-    let g = c.requires.0 in
-    rw c.measure_start.ensures ((g.0.0, g.1), g.2, c.requires.1, omega arith, c.requires.3)
 
 pub returns : goal.returns
 returns c =

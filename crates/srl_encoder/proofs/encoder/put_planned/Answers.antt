@@ -11,17 +11,6 @@ use Rattle.srl_encoder.proofs.Nonzeros.{stop_le, length_planned, both_word, both
 use Rattle.srl_encoder.proofs.Runs.{length_plan}
 use Rattle.srl_encoder.proofs.encoder.put_planned.Goals as goal
 
-pub planned_length-n-requires : goal.planned_length-n-requires
-planned_length-n-requires c =
-    (omega (arith, c.requires.1), c.requires.3, c.requires.4)
-
-pub planned_word-word-requires : goal.planned_word-word-requires
-planned_word-word-requires c =
-    let total : c.planned_length-n.result ≡ c.args.plan.steps + (c.args.plan.kp / 8 + 1) + (c.args.m + c.stop_count.result) = let a = c.args in
-    c.planned_length-n.ensures ∙ length_planned a.plan a.num_bits a.m c.stop_count.result true c.stop_count.ensures c.requires.3 in
-    let ends : c.stop_count.result ≤ 1 = let a = c.args in rw c.stop_count.ensures (stop_le a.num_bits a.m) in
-    (c.requires.2, c.requires.3, omega (arith, total, c.if-n-le32.true), ends)
-
 pub put_word-requires : goal.put_word-requires
 put_word-requires c =
     let ends : c.stop_count.result ≤ 1 = let a = c.args in rw c.stop_count.ensures (stop_le a.num_bits a.m) in
@@ -38,10 +27,6 @@ returns-then-n-le32 c =
     let s = c.stop_count in
     words_renamed a.out.now a.k (ap (λ j. bits_of j c.planned_word-word.result) total ∙ both_word a.plan a.num_bits a.m s.result a.negative c.requires.2 s.ensures c.requires.3 c.planned_word-word.ensures)
     c.put_word.ensures
-
-pub put_run-run-requires : goal.put_run-run-requires
-put_run-run-requires c =
-    (c.requires.0, omega (arith, c.requires.1), c.requires.2)
 
 pub put_nonzero-requires : goal.put_nonzero-requires
 put_nonzero-requires c =

@@ -4,4 +4,4 @@ use Rattle.tile.proofs.TileState.loaded.Goals as goal
 
 pub returns : goal.returns
 unfolding fresh loaded
-returns c = rw (c.count-numbers.ensures, c.load_coefficients.ensures, c.load_signs.ensures, c.flat_rows-prog_quant.ensures, c.flat_rows-base_quant.ensures)
+returns c = rw (c.count.ensures, c.load.ensures, c.load-2.ensures, c.flat_rows.ensures, c.flat_rows-2.ensures)

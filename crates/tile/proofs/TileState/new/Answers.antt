@@ -4,4 +4,4 @@ use Rattle.tile.proofs.TileState.new.Goals as goal
 
 pub returns : goal.returns
 unfolding fresh
-returns c = rw (c.flat_rows-prog_quant.ensures, c.count-numbers.ensures)
+returns c = rw (c.flat_rows.ensures, c.count.ensures)

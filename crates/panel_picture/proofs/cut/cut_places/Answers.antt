@@ -1,6 +1,0 @@
--- `panel_picture::cut::cut_places` is safe and ends. Assumes nothing.
-use Rattle.std.proofs.Common.{arith, length-set}
-use Rattle.panel_picture.proofs.cut.cut_places.Goals as goal
-
-pub loop-i-preserved : goal.loop-i-preserved
-loop-i-preserved c = simp length-set (omega arith)

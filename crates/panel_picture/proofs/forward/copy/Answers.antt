@@ -1,6 +1,0 @@
--- `panel_picture::forward::copy` is safe and ends. Assumes nothing.
-use Rattle.std.proofs.Common.{arith, length-set}
-use Rattle.panel_picture.proofs.forward.copy.Goals as goal
-
-pub loop-i-preserved : goal.loop-i-preserved
-loop-i-preserved c = simp length-set (omega arith)

@@ -1,6 +1,0 @@
--- `panel_picture::forward::lows` is safe and ends. Assumes nothing.
-use Rattle.std.proofs.Common.{arith, length-set}
-use Rattle.panel_picture.proofs.forward.lows.Goals as goal
-
-pub loop-j-preserved : goal.loop-j-preserved
-loop-j-preserved c = simp length-set (omega arith)

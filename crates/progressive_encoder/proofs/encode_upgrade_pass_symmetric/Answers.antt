@@ -1,5 +1,0 @@
--- `progressive_encoder::encode_upgrade_pass_symmetric` meets its contract. Assumes nothing.
-use Rattle.progressive_encoder.proofs.encode_upgrade_pass_symmetric.Goals as goal
-
-pub returns : goal.returns
-returns c = c.encode_by.ensures

@@ -1,6 +1,0 @@
--- `replay_kinds::srl_encode::load` is safe and ends. Assumes nothing.
-use Rattle.std.proofs.Common.{arith, length-set}
-use Rattle.replay_kinds.proofs.srl_encode.load.Goals as goal
-
-pub loop-i-preserved : goal.loop-i-preserved
-loop-i-preserved c = simp length-set (omega arith)

@@ -1,9 +1,0 @@
--- `replay_pixels::wavelet::decode` is safe and ends. Assumes nothing.
-use Rattle.std.proofs.Common.{arith, length-take}
-use Rattle.replay_pixels.proofs.wavelet.decode.Goals as goal
-
-pub slice_bounds-decode-end-2 : goal.slice_bounds-decode-end-2
-slice_bounds-decode-end-2 c = simp length-take (omega arith)
-
-pub slice_bounds-decode-end-4 : goal.slice_bounds-decode-end-4
-slice_bounds-decode-end-4 c = simp length-take (omega arith)

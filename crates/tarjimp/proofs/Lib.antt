@@ -1,2 +1,0 @@
--- Laws of `tarjimp`.
-pub mod Fitting
