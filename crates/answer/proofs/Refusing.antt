@@ -2,7 +2,7 @@
 use mathlib.Core.Path.{◌≡◌, refl, sym, ap, ◌∙◌}
 use mathlib.Core.Bool.{Bool, true, false, cond}
 use mathlib.Core.List.{List, [], ◌∷◌}
-use Prim.Native.Nat.{ℕ, ◌≤◌, ◌<◌}
+use Prim.Native.Nat.{ℕ, zero, suc, ◌≤◌, ◌<◌}
 use native.Mathlib.Omega.{arith}
 use lib.Dec.{ltb}
 use borrow.Author.Tests.{le-ltb, ltb-true, ltb-false}
@@ -10,7 +10,7 @@ use Rattle.std.specs.Prelude.{get_or, Option, None, Some, Ok, Err}
 use Rattle.std.proofs.lemmas.Option.{none-some}
 use Rattle.answer.specs.declared.Refusal.{Refusal}
 use Rattle.answer.specs.declared.Refusal.TheVariants.{SliceTooShort, OutOfDomain, StandardLayout, InvalidBitCount, MagnitudeOutOfRange, ZeroRunTooLong, OutputTooShort, ImpossibleState}
-use Rattle.answer.specs.Answers.{unless, first_of, no_room, answered, unless_refused, stored, number_of, number, number_of_answer}
+use Rattle.answer.specs.Answers.{unless, first_of, no_room, answered, unless_refused, stored, number_of, refusal_of, number, number_of_answer}
 
 -- ════ which of them ════
 
@@ -50,6 +50,19 @@ has_room room n = by (ltb room n) refl
 pub number_answered : {A : Type 0} (r : Option Refusal) (given : A) → number_of_answer (answered r given) ≡ number r
 number_answered None given = refl
 number_answered (Some r) given = refl
+
+-- that of what each number of the table answers
+pub number_of_table : {A : Type 0} (n : ℕ) → n < 9 → (given : A) → number_of_answer (answered (refusal_of n) given) ≡ n
+number_of_table zero h given = refl
+number_of_table (suc zero) h given = refl
+number_of_table (suc (suc zero)) h given = refl
+number_of_table (suc (suc (suc zero))) h given = refl
+number_of_table (suc (suc (suc (suc zero)))) h given = refl
+number_of_table (suc (suc (suc (suc (suc zero))))) h given = refl
+number_of_table (suc (suc (suc (suc (suc (suc zero)))))) h given = refl
+number_of_table (suc (suc (suc (suc (suc (suc (suc zero))))))) h given = refl
+number_of_table (suc (suc (suc (suc (suc (suc (suc (suc zero)))))))) h given = refl
+number_of_table (suc (suc (suc (suc (suc (suc (suc (suc (suc n))))))))) h given = absurd (omega arith)
 
 -- what was there before a refusal is there after it
 pub kept : {A : Type 0} (new old : A) {o : Option Refusal} {r : Refusal} → o ≡ Some r → unless_refused o new old ≡ old

@@ -1,5 +1,5 @@
 -- Answers and refusals (docs/SCOPE.md, "Refusals"). A definition of each call says which refusal it gives, if any; the rest follows from that.
-use Rattle.std.specs.Prelude.{◌≡◌, ◌≢◌, Bool, cond, List, ◌++◌, ℕ, zero, leb, ltb, ◌<◌, length, drop, ⊤, Option, None, Some, Result, Ok, Err, MatchResult}
+use Rattle.std.specs.Prelude.{◌≡◌, ◌≢◌, Bool, cond, List, [], ◌∷◌, ◌++◌, ℕ, leb, ltb, ◌<◌, length, drop, get_or, Option, None, Some, Result, Ok, Err, MatchResult}
 use Rattle.answer.specs.declared.Refusal.{Refusal}
 use Rattle.answer.specs.declared.Refusal.TheVariants.{SliceTooShort, OutOfDomain, StandardLayout, InvalidBitCount, MagnitudeOutOfRange, ZeroRunTooLong, OutputTooShort, ImpossibleState}
 use Rattle.answer.specs.declared.UnknownNumber.{UnknownNumber}
@@ -16,6 +16,10 @@ number_of MagnitudeOutOfRange = 5
 number_of ZeroRunTooLong = 6
 number_of OutputTooShort = 7
 number_of ImpossibleState = 8
+
+-- which refusal a number of the table means, 0 to 8: none for 0
+abbrev pub refusal_of : ℕ → Option Refusal
+refusal_of n = get_or (None ∷ Some SliceTooShort ∷ Some OutOfDomain ∷ Some StandardLayout ∷ Some InvalidBitCount ∷ Some MagnitudeOutOfRange ∷ Some ZeroRunTooLong ∷ Some OutputTooShort ∷ Some ImpossibleState ∷ []) n None
 
 -- the refusal that has a number, or that no refusal has it
 abbrev pub Numbered : ℕ → Result Refusal UnknownNumber → Type 0
@@ -72,7 +76,9 @@ abbrev pub given_or : {A : Type 0} → A → Result A Refusal → A
 given_or other (Ok given) = given
 given_or other (Err refusal) = other
 
--- what is answered has the number of the rules, whatever it is; two refusals with the same number are the same
-pub record AnswerNumbers : Type 0 where
-  pub number : (refusal : Option Refusal) (given : ⊤) → number_of_answer (answered refusal given) ≡ number refusal
+-- what is answered has the number of the rules, whatever a call gives where it accepts, and so by each number of the table; two refusals with the
+-- same number are the same
+pub record AnswerNumbers (A : Type 0) : Type 0 where
+  pub number : (refusal : Option Refusal) (given : A) → number_of_answer (answered refusal given) ≡ number refusal
+  pub of_number : (n : ℕ) → n < 9 → (given : A) → number_of_answer (answered (refusal_of n) given) ≡ n
   pub apart : (a b : Refusal) → number_of a ≡ number_of b → a ≡ b

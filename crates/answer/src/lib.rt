@@ -100,7 +100,7 @@ pub fn number_of_answer(answer: Result<(), Refusal>) -> u8
     }
 }
 
-// What a call answers has the number that the rules give, and each number is that of one refusal at most.
-pub fn answer_numbers()
-    ensures { AnswerNumbers }
+// What a call answers has the number that the rules give, whatever it gives where it accepts, and each number is that of one refusal at most.
+pub fn answer_numbers<T>()
+    ensures { AnswerNumbers T }
 {}
