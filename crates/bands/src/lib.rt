@@ -5,7 +5,7 @@
 ghost use Rattle.std.specs.Prelude.{true, false, ◌≡◌, ◌*◌, ◌^◌, ◌<◌};
 ghost use Rattle.bands.specs.Bands.{layout, count_of, band_at, bottom_offset, bands_of};
 ghost use Rattle.bands.specs.Positions.{row_in_domain, rows_in_domain};
-ghost use Rattle.bands.specs.Tables.{BandTables, number_of_band, band_ends, PlaceTables};
+ghost use Rattle.bands.specs.Tables.{BandTables, band_of_place, number_of_band, band_ends, PlaceTables};
 
 pub mod span;
 mod tables;
@@ -222,11 +222,21 @@ pub fn bands_of_places(use_reduce_extrapolate: bool) -> [u8; 4096]
 }
 
 // The number of the band that a place belongs to, 0 to 9; a place past the 4,096 has none. Who asks for many places takes the table: the compiler
-// builds a constant array at each use.
-pub fn band_of_place(use_reduce_extrapolate: bool, place: usize) -> Option<u8>
+// builds a constant array at each use, so the test stands before it.
+pub fn find_band(use_reduce_extrapolate: bool, place: usize) -> Option<u8>
     ensures { result ≡ number_of_band use_reduce_extrapolate place }
 {
+    if place >= COEFFICIENTS_PER_COMPONENT {
+        return None;
+    }
     bands_of_places(use_reduce_extrapolate).get(place).copied()
+}
+
+// The same as a number: `NO_BAND` for a place past the 4,096.
+pub fn band_of_place(use_reduce_extrapolate: bool, place: usize) -> u8
+    ensures { result ≡ band_of_place (layout use_reduce_extrapolate) place }
+{
+    find_band(use_reduce_extrapolate, place).unwrap_or(NO_BAND)
 }
 
 // Where each band of a layout ends.

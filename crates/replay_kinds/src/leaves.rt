@@ -113,7 +113,7 @@ fn band_of_place(c: &[u8]) -> bool {
     let extrapolate = number::flag_at(c, 0);
     let place = number::u64_at(c, 1) as usize;
     let answer = number::u8_at(c, 9);
-    bands::band_of_place(extrapolate, place).unwrap_or(bands::NO_BAND) == answer
+    bands::band_of_place(extrapolate, place) == answer
         && table_entry(extrapolate, place) == answer
 }
 

@@ -375,7 +375,7 @@ pub extern "C" fn tarjimp_tile_zero_signs(
 pub extern "C" fn tarjimp_band_of_place(use_reduce_extrapolate: bool, place: usize) -> u8
     ensures { result ≡ band_of_place (layout use_reduce_extrapolate) place }
 {
-    bands::band_of_place(use_reduce_extrapolate, place).unwrap_or(bands::NO_BAND)
+    bands::band_of_place(use_reduce_extrapolate, place)
 }
 
 // The number of the band of each place of a component.

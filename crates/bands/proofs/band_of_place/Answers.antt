@@ -1,11 +1,8 @@
--- `bands::band_of_place` meets its contract: the entry of the table. Assumes nothing.
-use Rattle.std.proofs.Common.{◌∙◌, ap, List, ℕ}
-use Rattle.std.specs.List.{slice_get}
-use Rattle.bands.proofs.Places.{item_get, entry_get}
+-- `bands::band_of_place` meets its contract: a place past the 4,096 has the number 10. Assumes nothing.
+use mathlib.Core.Path.{ap, ◌∙◌}
+use Rattle.std.specs.Option.{unwrap_or}
+use Rattle.bands.proofs.Places.{number_or_10}
 use Rattle.bands.proofs.band_of_place.Goals as goal
 
 pub returns : goal.returns
-returns c =
-    let a = c.args in
-    c.copied.ensures ∙ item_get c.bands_of_places.result a.place c.get.result c.get.ensures.lookup
-    ∙ ap (λ (l : List ℕ). slice_get l a.place) c.bands_of_places.ensures ∙ entry_get a.use_reduce_extrapolate a.place
+returns c = c.unwrap_or.ensures ∙ ap (λ r. unwrap_or r 10) c.find_band.ensures ∙ number_or_10 c.args.use_reduce_extrapolate c.args.place
