@@ -20,6 +20,7 @@ fn append(path: &mut [u8], at: usize, bytes: &[u8]) -> usize
 // Makes the path of a file in a folder, with an ending, in a buffer.
 fn join<'a>(folder: &[u8], name: &[u8], ending: &[u8], buffer: &'a mut [u8]) -> &'a [u8]
     requires { (length folder.now ≤ 3072) × (length name.now ≤ 64) × (length ending.now ≤ 64) × (length buffer.old ≡ 4096) }
+    ensures { length result.now ≤ 4096 }
 {
     let mut end = append(buffer, 0, folder);
     end = append(buffer, end, b"/");
