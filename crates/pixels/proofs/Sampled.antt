@@ -57,3 +57,10 @@ module _ (quants : List ℕ) (cs : List ℤ) (n : length cs ≡ 12288) where
   pictured l px px' p q =
       let of : (k : ℕ) → k < 3 → component k l ≡ samples_of quants cs k = λ k h. ap (component k) p ∙ component_joined (samples_of quants cs) long_samples k h in
       q ∙ rw (of 0 (omega arith), of 1 (omega arith), of 2 (omega arith))
+
+-- px' are the pixels of the coefficients cs, over px
+pub record Shown (cs : List ℤ) (quants px px' : List ℕ) : Type 0 where
+  pub is : px' ≡ rgba quants cs ++ drop 16384 px
+
+pub shown : {cs : List ℤ} {quants : List ℕ} (px : List ℕ) {px' : List ℕ} → px' ≡ rgba quants cs ++ drop 16384 px → Shown cs quants px px'
+shown px e = record { is = e }
