@@ -41,9 +41,10 @@ module _ (quants : List ℕ) (cs : List ℤ) (n : length cs ≡ 12288) where
   pub none_reached : Reached quants cs 0 cs
   none_reached = sym (joined_components cs n)
 
-  -- one more
-  pub one_more : (k : ℕ) → k < 3 → {c c' : List ℤ} → Reached quants cs k c → c' ≡ with_component k (samples_of quants c k) c → Reached quants cs (k + 1) c'
-  one_more k h {c} r d =
+  -- one more; the number j that the call was given is the turn's
+  pub one_more : (k : ℕ) → k < 3 → {c c' : List ℤ} → Reached quants cs k c → {j : ℕ} → c' ≡ with_component j (samples_of quants c j) c → j ≡ k → Reached quants cs (k + 1) c'
+  one_more k h {c} {c'} r e turn =
+      let d = rw turn at e in
       let still : component k c ≡ component k cs = here 4096 (samples_of quants cs) (λ j. component j cs) long_samples (parts_long 4096 cs n) k h c r in
       rw (add-one k) (d ∙ next 4096 (samples_of quants cs) (λ j. component j cs) long_samples (parts_long 4096 cs n) k h c _ r (ap (samples (row_of k quants)) still))
 
