@@ -1,17 +1,21 @@
 -- A pass over a tile that is not refused: what holds then.
-use mathlib.Core.Path.{◌≡◌, ap}
+use mathlib.Core.Path.{◌≡◌, sym, ap, ◌∙◌}
 use mathlib.Core.Bool.{Bool, true, ◌&&◌}
 use mathlib.Core.List.{List}
 use Prim.Native.Nat.{ℕ}
-use Rattle.std.specs.Prelude.{None}
-use Rattle.answer.specs.Answers.{unless, first_of}
+use Rattle.std.specs.Prelude.{Option, None, Ok}
+use Rattle.answer.specs.declared.Refusal.{Refusal}
+use Rattle.answer.specs.Answers.{unless, first_of, answered, unless_refused}
 use Rattle.answer.specs.declared.Refusal.TheVariants.{ImpossibleState}
 use Rattle.answer.proofs.Refusing.{unless_none, first_none}
 use Rattle.bands.specs.Positions.{row_in_domain, rows_in_domain}
 use Rattle.bands.proofs.Every.{both_true}
 use Rattle.zero_signs.specs.ZeroSigns.{zero_signs_of, are_right}
 use Rattle.zero_signs.proofs.Counted.{same_refl}
-use Rattle.tile.specs.Tile.{numbers_refusal, rows_refusal, upgrade_refusal}
+use Rattle.planes.specs.Planes.{joined, of}
+use Rattle.progressive_decoder.specs.declared.MissingBits.{MissingBits}
+use Rattle.components.specs.Components.{pass_coefficients, pass_signs}
+use Rattle.tile.specs.Tile.{numbers_refusal, rows_refusal, upgrade_refusal, next_pass, upgraded, upgrade_missing, DecodesUpgrade}
 use Rattle.tile.specs.declared.TileState.{TileState}
 
 -- ════ where there is no refusal ════
@@ -30,6 +34,43 @@ module _ (t : TileState) (rows : List (List ℕ)) (e : upgrade_refusal t rows �
   -- its numbers are right
   pub numbers_right : are_right t.use_reduce_extrapolate t.sign t.zero_signs ≡ true
   numbers_right = unless_none _ _ neither.0
+
+-- ════ what is answered then ════
+
+-- a tile is upgraded if each of its parts is
+pub accepted : (t : TileState) (srl_data raw_data rows : List (List ℕ)) (q : ℕ) {u : TileState} {m : MissingBits} → upgrade_refusal t rows ≡ None
+    → u.coefficients ≡ pass_coefficients t.use_reduce_extrapolate t.prog_quant rows srl_data raw_data t.coefficients t.sign
+    → u.sign ≡ pass_signs t.use_reduce_extrapolate t.prog_quant rows srl_data t.sign
+    → u.zero_signs ≡ zero_signs_of t.use_reduce_extrapolate (pass_signs t.use_reduce_extrapolate t.prog_quant rows srl_data t.sign)
+    → u.prog_quant ≡ joined (of rows)
+    → u.quant_idx ≡ t.quant_idx
+    → u.base_quant ≡ t.base_quant
+    → u.pass ≡ next_pass t.pass
+    → u.is_difference ≡ t.is_difference
+    → u.quality ≡ q
+    → u.use_reduce_extrapolate ≡ t.use_reduce_extrapolate
+    → m ≡ upgrade_missing t srl_data raw_data rows
+    → DecodesUpgrade t srl_data raw_data rows q (Ok m) u
+unfolding upgraded
+accepted t srl_data raw_data rows q {u = u} none cs ss ns ps is bs n d quality e missing =
+    let new = upgraded t srl_data raw_data rows q in
+    let bits = upgrade_missing t srl_data raw_data rows in
+    let each : u ≡ new = λ i. record {
+      coefficients = cs i;
+      sign = ss i;
+      zero_signs = ns i;
+      prog_quant = ps i;
+      quant_idx = is i;
+      base_quant = bs i;
+      pass = n i;
+      is_difference = d i;
+      quality = quality i;
+      use_reduce_extrapolate = e i;
+    } in
+    record {
+      answer = ap Ok missing ∙ ap (λ (o : Option Refusal). answered o bits) (sym none);
+      tile = each ∙ ap (λ (o : Option Refusal). unless_refused o new t) (sym none);
+    }
 
 -- ════ where the numbers are right ════
 
