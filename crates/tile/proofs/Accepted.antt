@@ -3,7 +3,7 @@ use mathlib.Core.Path.{◌≡◌, sym, ap, ◌∙◌}
 use mathlib.Core.Bool.{Bool, true, ◌&&◌}
 use mathlib.Core.List.{List}
 use Prim.Native.Nat.{ℕ}
-use Rattle.std.specs.Prelude.{Option, None, Ok}
+use Rattle.std.specs.Prelude.{Option, None, Some, Result, Ok, Err}
 use Rattle.answer.specs.declared.Refusal.{Refusal}
 use Rattle.answer.specs.Answers.{unless, first_of, answered, unless_refused}
 use Rattle.answer.specs.declared.Refusal.TheVariants.{ImpossibleState}
@@ -35,7 +35,15 @@ module _ (t : TileState) (rows : List (List ℕ)) (e : upgrade_refusal t rows �
   pub numbers_right : are_right t.use_reduce_extrapolate t.sign t.zero_signs ≡ true
   numbers_right = unless_none _ _ neither.0
 
--- ════ what is answered then ════
+-- ════ what is answered ════
+
+-- a refusal leaves the tile as it was
+pub refused : (t : TileState) (srl_data raw_data rows : List (List ℕ)) (q : ℕ) {x : Result MissingBits Refusal} {r : Refusal}
+    → upgrade_refusal t rows ≡ Some r → x ≡ Err r → DecodesUpgrade t srl_data raw_data rows q x t
+refused t srl_data raw_data rows q some e = record {
+  answer = e ∙ ap (λ (o : Option Refusal). answered o (upgrade_missing t srl_data raw_data rows)) (sym some);
+  tile = ap (λ (o : Option Refusal). unless_refused o (upgraded t srl_data raw_data rows q) t) (sym some);
+}
 
 -- a tile is upgraded if each of its parts is
 pub accepted : (t : TileState) (srl_data raw_data rows : List (List ℕ)) (q : ℕ) {u : TileState} {m : MissingBits} → upgrade_refusal t rows ≡ None
