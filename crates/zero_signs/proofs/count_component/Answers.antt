@@ -5,7 +5,7 @@ use native.Mathlib.Omega.{arith}
 use borrow.Author.Count.{below_more}
 use lib.ListN.{length, take, drop, get_or, length-set}
 use Rattle.std.proofs.Common.{◌≢◌, get_or-set_same, get_or-set_other}
-use Rattle.std.proofs.lemmas.List.{drop-take}
+use Rattle.std.proofs.lemmas.List.{drop-take, length-take}
 use lib.Seq.{ext_get_or}
 use Rattle.bands.specs.Bands.{count_of, band_at, none}
 use Rattle.bands.specs.declared.BandInfo.{BandInfo}
@@ -13,6 +13,13 @@ use Rattle.bands.proofs.Spans.{at_hand}
 use Rattle.zero_signs.specs.ZeroSigns.{zeros_in, signs_in, band_zeros}
 use Rattle.zero_signs.proofs.Counted.{ten_numbers, number_at_lem}
 use Rattle.zero_signs.proofs.count_component.Goals as goal
+
+pub returns : goal.returns
+returns c =
+    let l = c.loop-b in
+    let right = band_zeros c.args.use_reduce_extrapolate c.args.signs.now in
+    let ten : length l.numbers ≡ length right = l.invariant.0 ∙ sym (ten_numbers c.args.use_reduce_extrapolate c.args.signs.now) in
+    ext_get_or 0 l.numbers right ten (λ k h. l.invariant.1 k (omega (arith, l.invariant.0, length-take {A = BandInfo})))
 
 pub loop-b-preserved : goal.loop-b-preserved
 loop-b-preserved c =
@@ -35,9 +42,3 @@ loop-b-preserved c =
           (λ k h. let other : k ≢ l.b = omega arith in get_or-set_other l.numbers l.b k x 0 other ∙ l.invariant.1 k h)
           (get_or-set_same l.numbers l.b x 0 room ∙ is),
     )
-
-pub returns : goal.returns
-returns c =
-    let l = c.loop-b in
-    let right = band_zeros c.args.use_reduce_extrapolate c.args.signs.now in
-    ext_get_or 0 l.numbers right (l.invariant.0 ∙ sym (ten_numbers c.args.use_reduce_extrapolate c.args.signs.now)) (λ k h. l.invariant.1 k (omega (arith, l.invariant.0)))
