@@ -1,6 +1,6 @@
 -- Where a place's value comes from, as the code tells the cases apart.
 use mathlib.Core.Path.{◌≡◌, refl, sym}
-use mathlib.Core.Bool.{Bool, true, false, cond, true≢false}
+use mathlib.Core.Bool.{Bool, true, false, cond, not, true≢false}
 use Prim.Native.Nat.{ℕ, zero, suc, ◌≤◌}
 use native.Mathlib.Omega.{arith}
 use lib.IntN.{ℤ}
@@ -35,3 +35,8 @@ none b (suc w) z e = absurd (omega (arith, e))
 
 pub source_none : (t : Step) (s : ℤ) → t.width ≡ 0 → source t s ≡ skipped
 source_none t s = none t.bottom t.width (is_zero s)
+
+-- no place of the bottom has an SRL value: r is what is answered there
+pub bottom_from_raw : (r b z : Bool) → not b ≡ false → r ≡ false → r ≡ cond b false z
+bottom_from_raw r true z e f = f
+bottom_from_raw r false z e f = absurd (true≢false e)
