@@ -80,6 +80,7 @@ fn with_call(digest: u64, c: &[u8], y: Streams<'_>, cb: Streams<'_>, cr: Streams
 }
 
 // Whether the port agrees with a case: the digest of its call on the streams at each length up to 1,024 bytes.
+#[inline(never)]
 pub fn agrees(c: &[u8]) -> bool {
     let y = Whole::of(c, 0);
     let cb = Whole::of(c, 1);

@@ -4,7 +4,8 @@ use replay_input::kind::Kind;
 use replay_kinds::{leaves, srl_decode, srl_encode, srl_exhaustive};
 use replay_passes::upgrade;
 
-// Whether the port's answer to a case is the recorded one.
+// Whether the port's answer to a case is the recorded one. What is called for a kind with large arrays is not inlined: a call pays at its start for
+// the arrays of all that is inlined into it.
 fn same(kind: Kind, c: &[u8]) -> bool {
     match kind {
         Kind::SrlDecode => srl_decode::agrees(c),

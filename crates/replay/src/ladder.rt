@@ -50,6 +50,7 @@ fn step_agrees(c: &[u8], number: u8, recorded: &[u8], tile: &mut TileState) -> b
 }
 
 // Whether the port agrees with a case.
+#[inline(never)]
 pub fn agrees(c: &[u8]) -> bool {
     let steps = number::u8_at(c, 81);
     if c.len() != 94 + 21 * usize::from(steps) {

@@ -10,12 +10,12 @@ fn rows_at(c: &[u8], at: u8) -> [[u8; 10]; 3] {
     [0u8, 10, 20].map(|row| number::row_at(c, usize::from(at) + usize::from(row)))
 }
 
-// The component with a number as the tile starts from it.
-fn component_of(c: &[u8], k: u8) -> Component {
+// Makes the component with a number as the tile starts from it.
+fn fill(c: &[u8], k: u8, made: &mut Component) {
     let seed = component::seed(c, u64::from(k));
     let extrapolate = number::flag_at(c, 79);
     let prev = number::row_at(c, 12 + 10 * usize::from(k));
-    Component::new(c, seed, extrapolate, prev, [0; 10])
+    made.fill_rows(c, seed, extrapolate, prev, [0; 10]);
 }
 
 // The elements that are lent of a component's coefficients and signs.
@@ -34,9 +34,12 @@ fn loaded(
     prog_quants: [[u8; 10]; 3],
     base_quants: [[u8; 10]; 3],
 ) -> Result<TileState, Refusal> {
-    let y = component_of(c, 0);
-    let cb = component_of(c, 1);
-    let cr = component_of(c, 2);
+    let mut y = Component::ZEROS;
+    let mut cb = Component::ZEROS;
+    let mut cr = Component::ZEROS;
+    fill(c, 0, &mut y);
+    fill(c, 1, &mut cb);
+    fill(c, 2, &mut cr);
     TileState::load(
         lent(&y, lengths[0]),
         lent(&cb, lengths[1]),
@@ -133,6 +136,7 @@ fn lengths(c: &[u8]) -> [[usize; 2]; 3] {
 }
 
 // Kind 39: whether the port agrees with a case.
+#[inline(never)]
 pub fn load_agrees(c: &[u8]) -> bool {
     if c.len() != 101 {
         return false;
@@ -142,6 +146,7 @@ pub fn load_agrees(c: &[u8]) -> bool {
 }
 
 // Kind 45: whether the port agrees with a case, which lends some of the bytes for the pixels.
+#[inline(never)]
 pub fn pixels_agrees(c: &[u8]) -> bool {
     if c.len() != 94 {
         return false;

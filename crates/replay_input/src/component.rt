@@ -130,8 +130,14 @@ pub struct Component {
 }
 
 impl Component {
+    pub const ZEROS: Component = Component {
+        targets: [0; 4352],
+        befores: [0; 4352],
+        signs: [0; 4352],
+    };
+
     // Makes the places of a band.
-    fn fill(&mut self, shape: Shape, pass: BandPass, at: Span, words: &mut Words)
+    fn fill_band(&mut self, shape: Shape, pass: BandPass, at: Span, words: &mut Words)
         requires { at.to ≤ 4352 }
     {
         for place in at.from..at.to {
@@ -144,19 +150,15 @@ impl Component {
         }
     }
 
-    // The component of a seed: the places of the ten bands, each with its positions, and the others behind them.
-    pub fn new(
+    // Makes the component of a seed: the places of the ten bands, each with its positions, and the others behind them.
+    pub fn fill_rows(
+        &mut self,
         c: &[u8],
         seed: u64,
         extrapolate: bool,
         prev: [u8; 10],
         curr: [u8; 10],
-    ) -> Component {
-        let mut made = Component {
-            targets: [0; 4352],
-            befores: [0; 4352],
-            signs: [0; 4352],
-        };
+    ) {
         let shape = Shape::of(c);
         let mut words = Words(seed);
         for band in 0..10 {
@@ -166,7 +168,7 @@ impl Component {
                 prev: prev[band],
                 curr: curr[band],
             };
-            made.fill(shape, pass, at, &mut words);
+            self.fill_band(shape, pass, at, &mut words);
         }
         let behind = BandPass {
             sort: shape.sort(10),
@@ -177,18 +179,19 @@ impl Component {
             from: 4096,
             to: 4352,
         };
-        made.fill(shape, behind, rest, &mut words);
-        made
+        self.fill_band(shape, behind, rest, &mut words);
     }
 
-    // The component of a case of kinds 36 to 38 and 47.
-    pub fn of_case(c: &[u8]) -> Component {
-        Component::new(
+    // Makes the component of a case of kinds 36 to 38 and 47.
+    pub fn fill(&mut self, c: &[u8]) {
+        let seed = number::u64_at(c, 0);
+        let extrapolate = number::flag_at(c, 12);
+        self.fill_rows(
             c,
-            number::u64_at(c, 0),
-            number::flag_at(c, 12),
+            seed,
+            extrapolate,
             number::row_at(c, 13),
             number::row_at(c, 23),
-        )
+        );
     }
 }

@@ -33,8 +33,8 @@ impl Element for i16 {
 
 // Fills an output before a call.
 pub fn fill<T: Element>(out: &mut [T]) {
-    for (place, x) in out.iter_mut().enumerate() {
-        *x = T::before(place);
+    for place in 0..out.len() {
+        out[place] = T::before(place);
     }
 }
 

@@ -102,19 +102,19 @@ fn ll3_offset(c: &[u8]) -> bool {
 
 // The table's entry for a place; past the table, no band.
 fn table_entry(extrapolate: bool, place: usize) -> u8 {
-    bands::bands_of_places(extrapolate)
-        .get(place)
-        .copied()
-        .unwrap_or(bands::NO_BAND)
+    if place >= bands::COEFFICIENTS_PER_COMPONENT {
+        return bands::NO_BAND;
+    }
+    bands::bands_of_places(extrapolate)[place]
 }
 
 // The band of a place, by itself and as an entry of the whole table.
+#[inline(never)]
 fn band_of_place(c: &[u8]) -> bool {
     let extrapolate = number::flag_at(c, 0);
     let place = number::u64_at(c, 1) as usize;
     let answer = number::u8_at(c, 9);
-    bands::band_of_place(extrapolate, place) == answer
-        && table_entry(extrapolate, place) == answer
+    bands::band_of_place(extrapolate, place) == answer && table_entry(extrapolate, place) == answer
 }
 
 // Whether the port's answer to a case of these kinds is the recorded one.

@@ -67,6 +67,7 @@ fn calls_agree(calls: u8, first: &[u8], src: &[u8], mut state: SrlState, out: &m
 }
 
 // Whether the port agrees with a case.
+#[inline(never)]
 pub fn agrees(c: &[u8]) -> bool {
     let calls = number::u8_at(c, 0);
     let state = state_of(number::tail(c, 1));

@@ -81,6 +81,7 @@ fn calls_agree(c: &[u8], values: &mut [i16], out: &mut [u8]) -> bool {
 }
 
 // Whether the port agrees with a case.
+#[inline(never)]
 pub fn agrees(c: &[u8]) -> bool {
     let mut values = [0i16; 8192];
     let mut out = [0u8; 8192];

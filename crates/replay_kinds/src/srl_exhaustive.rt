@@ -41,6 +41,7 @@ fn digest(width: u8, count: u8, length: u8, first: u8) -> u64 {
 }
 
 // Whether the port agrees with a case.
+#[inline(never)]
 pub fn agrees(c: &[u8]) -> bool {
     let [width, count, length, first]: [u8; 4] = number::bytes_at(c, 0);
     digest(width, count, length, first) == number::u64_at(c, 4)

@@ -132,7 +132,8 @@ impl Upgrade<'_> {
     {
         let prev = start.row(k);
         let seed = component::seed(self.case, u64::from(k));
-        let targets = Component::new(self.case, seed, start.extrapolate, prev, curr).targets;
+        let mut component = Component::ZEROS;
+        component.fill_rows(self.case, seed, start.extrapolate, prev, curr);
         let from = 4096 * usize::from(k);
         let to = from + 4096;
         let coefficients = start.coefficients;
@@ -140,7 +141,7 @@ impl Upgrade<'_> {
         let mut made = Streams::EMPTY;
         let answer = pass_by_rule::write(
             false,
-            &targets,
+            &component.targets,
             &coefficients[from..to],
             prev,
             curr,

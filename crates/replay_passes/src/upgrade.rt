@@ -52,6 +52,7 @@ fn read(
 }
 
 // Kind 36: whether the port agrees with a case.
+#[inline(never)]
 pub fn decode_agrees(c: &[u8]) -> bool {
     let srl_len = usize::from(number::u16_at(c, 39));
     let raw_len = usize::from(number::u16_at(c, 41));
@@ -59,7 +60,8 @@ pub fn decode_agrees(c: &[u8]) -> bool {
         return false;
     }
     let (srl_data, raw_data) = c[60..].split_at(srl_len);
-    let mut made = Component::of_case(c);
+    let mut made = Component::ZEROS;
+    made.fill(c);
     let answer = read(c, srl_data, raw_data, &mut made.befores, &mut made.signs);
     number::u8_at(c, 43) == outputs::refusal(answer)
         && answer.unwrap_or(NONE_MISSING) == missing_of(&c[52..])
@@ -104,7 +106,7 @@ fn read_back_agrees(
     written: Written,
     srl_out: &[u8],
     raw_out: &[u8],
-    mut made: Component,
+    made: &mut Component,
 ) -> bool {
     if written.srl > srl_out.len() || written.raw > raw_out.len() {
         return false;
@@ -112,7 +114,7 @@ fn read_back_agrees(
     let srl_data = &srl_out[..written.srl];
     let raw_data = &raw_out[..written.raw];
     match read(c, srl_data, raw_data, &mut made.befores, &mut made.signs) {
-        Ok(missing) => same_read(c, missing, &made),
+        Ok(missing) => same_read(c, missing, made),
         Err(_) => false,
     }
 }
@@ -132,11 +134,13 @@ fn same_written(
 }
 
 // Kinds 37 and 47, which is by the symmetric rule: whether the port agrees with a case. A pass that is written is read back.
+#[inline(never)]
 pub fn encode_agrees(symmetric: bool, c: &[u8]) -> bool {
     if c.len() != 72 {
         return false;
     }
-    let made = Component::of_case(c);
+    let mut made = Component::ZEROS;
+    made.fill(c);
     let mut srl_out = [0u8; 16384];
     let mut raw_out = [0u8; 16384];
     outputs::fill(&mut srl_out);
@@ -144,21 +148,23 @@ pub fn encode_agrees(symmetric: bool, c: &[u8]) -> bool {
     let answer = write(symmetric, c, &made, &mut srl_out, &mut raw_out);
     same_written(c, answer, &srl_out, &raw_out)
         && match answer {
-            Ok(written) => read_back_agrees(c, written, &srl_out, &raw_out, made),
+            Ok(written) => read_back_agrees(c, written, &srl_out, &raw_out, &mut made),
             Err(_) => same_read(c, NONE_MISSING, &made),
         }
 }
 
 // Kind 38: whether the port agrees with a case, which lends some elements.
+#[inline(never)]
 pub fn dequantize_agrees(c: &[u8]) -> bool {
     if c.len() != 48 {
         return false;
     }
-    let mut targets = Component::of_case(c).targets;
+    let mut made = Component::ZEROS;
+    made.fill(c);
     let n = lent(c, 33, 4352);
     let quant = number::row_at(c, 23);
     let extrapolate = number::flag_at(c, 12);
-    let answer = dequantizer::dequantize_component_ccq(&mut targets[..n], quant, extrapolate);
+    let answer = dequantizer::dequantize_component_ccq(&mut made.targets[..n], quant, extrapolate);
     number::u8_at(c, 39) == outputs::refusal(answer)
-        && digests::with(0, &targets) == number::u64_at(c, 40)
+        && digests::with(0, &made.targets) == number::u64_at(c, 40)
 }

@@ -44,6 +44,7 @@ fn digest(buffer: &[i16], temp: &[i16]) -> u64 {
 }
 
 // Kind 41: whether the port agrees with a case.
+#[inline(never)]
 pub fn decode_agrees(c: &[u8]) -> bool {
     let seed = number::u64_at(c, 0);
     let mut buffer = [0i16; 4352];
@@ -57,6 +58,7 @@ pub fn decode_agrees(c: &[u8]) -> bool {
 }
 
 // Kind 42: whether the port agrees with a case.
+#[inline(never)]
 pub fn impulse_agrees(c: &[u8]) -> bool {
     let mut buffer = [0i16; 4352];
     let mut temp = [0i16; 4352];
