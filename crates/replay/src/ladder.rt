@@ -4,11 +4,12 @@ use answer::Refusal;
 use components::Streams;
 use progressive_decoder::MissingBits;
 use replay_input::number;
-use replay_passes::steps::{Start, Upgrade};
+use replay_passes::steps::{self, Start, Upgrade};
 use replay_passes::upgrade;
 use tile::TileState;
 
 // Makes an upgrade of a tile.
+#[inline(never)]
 fn upgraded(made: Upgrade<'_>, tile: &mut TileState) -> Result<MissingBits, Refusal> {
     let start = Start {
         extrapolate: tile.use_reduce_extrapolate,
@@ -17,7 +18,10 @@ fn upgraded(made: Upgrade<'_>, tile: &mut TileState) -> Result<MissingBits, Refu
         signs: &tile.sign,
     };
     let rows = made.rows(start);
-    let [y, cb, cr] = made.streams(start, rows);
+    let mut y = steps::Streams::EMPTY;
+    let mut cb = steps::Streams::EMPTY;
+    let mut cr = steps::Streams::EMPTY;
+    made.fill_streams(start, rows, &mut y, &mut cb, &mut cr);
     tile.decode_upgrade(
         Streams {
             srl: y.srl(),

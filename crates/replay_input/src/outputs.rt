@@ -31,7 +31,8 @@ impl Element for i16 {
     }
 }
 
-// Fills an output before a call.
+// Fills an output before a call. Where it is inlined early, the loop over an array becomes one of vector instructions.
+#[inline(always)]
 pub fn fill<T: Element>(out: &mut [T]) {
     for place in 0..out.len() {
         out[place] = T::before(place);

@@ -14,7 +14,7 @@ pub struct Streams {
 }
 
 impl Streams {
-    const EMPTY: Streams = Streams {
+    pub const EMPTY: Streams = Streams {
         srl: [0; 16384],
         raw: [0; 16384],
         lengths: Written { srl: 0, raw: 0 },
@@ -28,21 +28,18 @@ impl Streams {
         &self.raw[..self.lengths.raw.min(16384)]
     }
 
-    // Any bytes: those that follow from a word.
-    fn any(word: u64, lengths: Written) -> Streams {
-        let mut made = Streams::EMPTY;
+    // Makes any bytes: those that follow from a word.
+    fn fill_any(&mut self, word: u64, lengths: Written) {
         let mut words = Words(word);
-        fill(&mut words, &mut made.srl[..lengths.srl.min(16384)]);
-        fill(&mut words, &mut made.raw[..lengths.raw.min(16384)]);
-        made.lengths = lengths;
-        made
+        fill(&mut words, &mut self.srl[..lengths.srl.min(16384)]);
+        fill(&mut words, &mut self.raw[..lengths.raw.min(16384)]);
+        self.lengths = lengths;
     }
 
-    // No longer than so.
-    fn cut(mut self, most: Written) -> Streams {
+    // Makes them no longer than so.
+    fn cut(&mut self, most: Written) {
         self.lengths.srl = self.lengths.srl.min(most.srl);
         self.lengths.raw = self.lengths.raw.min(most.raw);
-        self
     }
 }
 
@@ -126,8 +123,8 @@ impl Upgrade<'_> {
         (self.word(3) % 256) as u8
     }
 
-    // The streams that the port writes from a component of the tile to its target; none if it refuses.
-    fn written(self, k: u8, start: Start<'_>, curr: [u8; 10]) -> Streams
+    // Makes the streams that the port writes from a component of the tile to its target; they stay empty if it refuses.
+    fn write(self, k: u8, start: Start<'_>, curr: [u8; 10], made: &mut Streams)
         requires { k ≤ 2 }
     {
         let prev = start.row(k);
@@ -138,7 +135,6 @@ impl Upgrade<'_> {
         let to = from + 4096;
         let coefficients = start.coefficients;
         let signs = start.signs;
-        let mut made = Streams::EMPTY;
         let answer = pass_by_rule::write(
             false,
             &component.targets,
@@ -151,11 +147,10 @@ impl Upgrade<'_> {
             &mut made.raw,
         );
         made.lengths = answer.unwrap_or(made.lengths);
-        made
     }
 
-    // The streams of the component with a number, by their sort.
-    fn streams_of(self, k: u8, start: Start<'_>, curr: [u8; 10]) -> Streams
+    // Makes the streams of the component with a number, by their sort, of empty ones.
+    fn fill(self, k: u8, start: Start<'_>, curr: [u8; 10], made: &mut Streams)
         requires { k ≤ 2 }
     {
         let [_, _, sorts, shift] = self.fields;
@@ -165,19 +160,27 @@ impl Upgrade<'_> {
             raw: usize::from(component::shifted((word / 65536 % 65536) as u16, shift)),
         };
         match (sorts >> (2 * k)) % 4 {
-            0 => Streams::EMPTY,
-            1 => self.written(k, start, curr),
-            2 => self.written(k, start, curr).cut(most),
-            _ => Streams::any(word, most),
+            0 => {}
+            1 => self.write(k, start, curr, made),
+            2 => {
+                self.write(k, start, curr, made);
+                made.cut(most);
+            }
+            _ => made.fill_any(word, most),
         }
     }
 
-    // Its streams, of each component.
-    pub fn streams(self, start: Start<'_>, rows: [[u8; 10]; 3]) -> [Streams; 3] {
-        [
-            self.streams_of(0, start, rows[0]),
-            self.streams_of(1, start, rows[1]),
-            self.streams_of(2, start, rows[2]),
-        ]
+    // Makes its streams, of each component, of empty ones.
+    pub fn fill_streams(
+        self,
+        start: Start<'_>,
+        rows: [[u8; 10]; 3],
+        y: &mut Streams,
+        cb: &mut Streams,
+        cr: &mut Streams,
+    ) {
+        self.fill(0, start, rows[0], y);
+        self.fill(1, start, rows[1], cb);
+        self.fill(2, start, rows[2], cr);
     }
 }
