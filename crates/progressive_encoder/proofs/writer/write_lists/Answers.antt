@@ -31,15 +31,15 @@ returns-then-raw_out-lengths c = λ l f.
     let a = c.args in
     let m = c.measure_lists-lengths.ensures l f in
     elim c.then-raw_out-lengths.branch [
-      then-raw_out-lengths-via-then-raw_out-lengths w ↦
-        let full = lt-ltb (length a.raw_out.now) (length (raw_stream l.number_widths l.numbers)) (omega (arith, w.if-raw_out-lengths, m.raw)) in
-        refused l a.srl_out.now a.raw_out.now
-        (refusal_is l a.srl_out.now a.raw_out.now (sym c.if-lengths.false ∙ m.large) refl (sym full)
-        ∙ either_full (ltb (length a.srl_out.now) (length (srl_stream l.widths l.values))))
-    | then-raw_out-lengths-via-else-raw_out-lengths+then-srl_out-lengths w ↦
-        let full = lt-ltb (length a.srl_out.now) (length (srl_stream l.widths l.values)) (omega (arith, w.if-srl_out-lengths, m.srl)) in
-        refused l a.srl_out.now a.raw_out.now
-        (refusal_is l a.srl_out.now a.raw_out.now (sym c.if-lengths.false ∙ m.large) (sym full) refl)
+      | then-raw_out-lengths-via-then-raw_out-lengths w ↦
+          let full = lt-ltb (length a.raw_out.now) (length (raw_stream l.number_widths l.numbers)) (omega (arith, w.if-raw_out-lengths, m.raw)) in
+          refused l a.srl_out.now a.raw_out.now
+          (refusal_is l a.srl_out.now a.raw_out.now (sym c.if-lengths.false ∙ m.large) refl (sym full)
+          ∙ either_full (ltb (length a.srl_out.now) (length (srl_stream l.widths l.values))))
+      | then-raw_out-lengths-via-else-raw_out-lengths+then-srl_out-lengths w ↦
+          let full = lt-ltb (length a.srl_out.now) (length (srl_stream l.widths l.values)) (omega (arith, w.if-srl_out-lengths, m.srl)) in
+          refused l a.srl_out.now a.raw_out.now
+          (refusal_is l a.srl_out.now a.raw_out.now (sym c.if-lengths.false ∙ m.large) (sym full) refl)
     ]
 
 pub returns : goal.returns
