@@ -10,6 +10,7 @@ use mir.Val.{SFits, of_z}
 use Rattle.fixed.specs.Fixed.{is_zero, is_one, sign_of, with_sign}
 use Rattle.std.proofs.lemmas.Bool.{ne_eqb}
 use Rattle.std.specs.Int.{int_signum}
+use Rattle.fixed.proofs.Bounds.{Under}
 use Rattle.fixed.proofs.Machine.{same_bits}
 
 -- ---- tests, at every width: `v == 0` and `v == 1`, which compare bits
@@ -43,6 +44,13 @@ unfolding sign_of
 signum_is (pos zero) = refl
 signum_is (pos (suc n)) = ap pos (omega arith)
 signum_is (negsuc n) = refl
+
+-- it fits eight bits
+pub sign_under : (v : ℤ) → Under 128 (sign_of v)
+unfolding sign_of
+sign_under (pos zero) = record { under = omega arith }
+sign_under (pos (suc n)) = record { under = omega arith }
+sign_under (negsuc n) = record { under = omega arith }
 
 -- the negative of m has the magnitude m
 pub abs_minus : (m : ℕ) → nat_abs (neg_ℤ (pos m)) ≡ m
