@@ -3,7 +3,7 @@ use mathlib.Core.Path.{◌≡◌, ap, ◌∙◌}
 use Prim.Native.Nat.{◌+◌}
 use native.Mathlib.Omega.{arith}
 use lib.ListN.{length, length-append, drop_of_length-le}
-use Rattle.std.specs.Slice.Iter.{chunks_rest}
+use Rattle.std.specs.Slice.Iter.{chunks_rest, chunks_size}
 use Rattle.zero_signs.specs.ZeroSigns.{zeros_in}
 use Rattle.zero_signs.proofs.Counted.{zeros_append}
 use Rattle.zero_signs.proofs.zeros.Goals as goal
@@ -13,6 +13,16 @@ few_zeros-requires c = omega (arith, c.in-Some.ensures.steps.1.1, c.loop-part.in
 
 pub overflow_add-n : goal.overflow_add-n
 overflow_add-n c = record { fits = omega (arith, c.from-n.ensures, c.few_zeros.ensures.1, c.in-Some.ensures.steps.1.1, c.loop-part.invariant.size, c.loop-part.invariant.most) }
+
+pub loop-part-init : goal.loop-part-init
+loop-part-init c =
+    let it = c.into_iter-part-iterator in
+    let whole : chunks_rest it.result ≡ c.args.signs.now = ap chunks_rest it.ensures.into_iter_gives ∙ c.chunks-part-items.ensures.rest in
+    record {
+      size = ap chunks_size it.ensures.into_iter_gives ∙ c.chunks-part-items.ensures.size;
+      most = omega (arith, ap length whole);
+      all = omega (arith, ap zeros_in whole);
+    }
 
 pub loop-part-preserved : goal.loop-part-preserved
 loop-part-preserved c =
