@@ -69,10 +69,10 @@ fn calls_agree(calls: u8, first: &[u8], src: &[u8], mut state: SrlState, out: &m
 // Whether the port agrees with a case.
 #[inline(never)]
 pub fn agrees(c: &[u8]) -> bool {
+    let mut out = [0i16; 8192];
     let calls = number::u8_at(c, 0);
     let state = state_of(number::tail(c, 1));
     let len = usize::from(number::u16_at(c, 20));
-    let mut out = [0i16; 8192];
     match c.get(22..).and_then(|rest| rest.split_at_checked(len)) {
         Some((src, first)) => calls_agree(calls, first, src, state, &mut out),
         None => false,
