@@ -11,4 +11,4 @@ returns-then-not-in_domain c =
     let a = c.args in
     let high : (rows_in_domain a.rows && (row_in_domain a.positions && row_in_domain a.quants)) ≡ false = sym c.in_domain.ensures ∙ c.if-not-in_domain.true in
     let right : are_right c.args.use_reduce_extrapolate c.args.sign.now c.args.numbers.now ≡ true = grind arith in
-    simp (right, high)
+    simp (right, high) refl
