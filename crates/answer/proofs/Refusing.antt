@@ -1,12 +1,12 @@
 -- Laws of refusals and of answers. Assumes nothing.
 use mathlib.Core.Path.{◌≡◌, refl, sym, ap, ◌∙◌}
 use mathlib.Core.Bool.{Bool, true, false, cond}
-use mathlib.Core.List.{List, [], ◌∷◌}
+use mathlib.Core.List.{List}
 use Prim.Native.Nat.{ℕ, zero, suc, ◌≤◌, ◌<◌}
 use native.Mathlib.Omega.{arith}
 use lib.Dec.{ltb}
 use borrow.Author.Tests.{le-ltb, ltb-true, ltb-false}
-use Rattle.std.specs.Prelude.{get_or, Option, None, Some, Ok, Err}
+use Rattle.std.specs.Prelude.{Option, None, Some, Ok, Err}
 use Rattle.std.proofs.lemmas.Option.{none-some}
 use Rattle.answer.specs.declared.Refusal.{Refusal}
 use Rattle.answer.specs.declared.Refusal.TheVariants.{SliceTooShort, OutOfDomain, StandardLayout, InvalidBitCount, MagnitudeOutOfRange, ZeroRunTooLong, OutputTooShort, ImpossibleState}
@@ -72,11 +72,8 @@ kept new old e = ap (λ (n : Option Refusal). unless_refused n new old) e
 pub stored_some : {A : Type 0} (xs out : List A) {o : Option Refusal} {r : Refusal} → o ≡ Some r → stored o xs out ≡ out
 stored_some xs out e = ap (λ (n : Option Refusal). stored n xs out) e
 
--- the refusal that a number stands for
-abbrev by_number : ℕ → Refusal
-by_number n = get_or (ImpossibleState ∷ SliceTooShort ∷ OutOfDomain ∷ StandardLayout ∷ InvalidBitCount ∷ MagnitudeOutOfRange ∷ ZeroRunTooLong ∷ OutputTooShort ∷ []) n ImpossibleState
-
-found : (a : Refusal) → by_number (number_of a) ≡ a
+-- back from its number a refusal is itself
+found : (a : Refusal) → refusal_of (number_of a) ≡ Some a
 found SliceTooShort = refl
 found OutOfDomain = refl
 found StandardLayout = refl
@@ -88,7 +85,7 @@ found ImpossibleState = refl
 
 -- two refusals with the same number are the same
 pub same_number : (a b : Refusal) → number_of a ≡ number_of b → a ≡ b
-same_number a b e = sym (found a) ∙ ap by_number e ∙ found b
+same_number a b e = let same : Some a ≡ Some b = sym (found a) ∙ ap refusal_of e ∙ found b in cc
 
 -- what is answered says whether there is a refusal, and which
 pub none_given : {A : Type 0} (o : Option Refusal) (given : A) {x : A} → Ok x ≡ answered o given → o ≡ None

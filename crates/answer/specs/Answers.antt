@@ -17,9 +17,11 @@ number_of ZeroRunTooLong = 6
 number_of OutputTooShort = 7
 number_of ImpossibleState = 8
 
--- which refusal a number of the table means, 0 to 8: none for 0
+-- back, by the same table: "number | word", and no refusal for 0
 abbrev pub refusal_of : ℕ → Option Refusal
-refusal_of n = get_or (None ∷ Some SliceTooShort ∷ Some OutOfDomain ∷ Some StandardLayout ∷ Some InvalidBitCount ∷ Some MagnitudeOutOfRange ∷ Some ZeroRunTooLong ∷ Some OutputTooShort ∷ Some ImpossibleState ∷ []) n None
+refusal_of n = get_or (None
+    ∷ Some SliceTooShort ∷ Some OutOfDomain ∷ Some StandardLayout ∷ Some InvalidBitCount
+    ∷ Some MagnitudeOutOfRange ∷ Some ZeroRunTooLong ∷ Some OutputTooShort ∷ Some ImpossibleState ∷ []) n None
 
 -- the refusal that has a number, or that no refusal has it
 abbrev pub Numbered : ℕ → Result Refusal UnknownNumber → Type 0
